@@ -26,12 +26,14 @@ pub struct Login {
     pub database: u32,
 }
 
+type StoreWorker = Worker<Turn, Result<Vec<Vec<u8>>, String>>;
+
 /// The stores of an agent, each with a thread that waits for it.
 pub struct Stores {
     login: Login,
     timeout: Duration,
     wake: Arc<dyn Fn() + Send + Sync>,
-    workers: Vec<(Address, Worker)>,
+    workers: Vec<(Address, StoreWorker)>,
 }
 
 impl Stores {
@@ -64,15 +66,15 @@ impl Stores {
         }
     }
 
-    fn worker(&mut self, address: &Address, name: &str) -> Result<&Worker, String> {
+    fn worker(&mut self, address: &Address, name: &str) -> Result<&StoreWorker, String> {
         let at = self.workers.iter().position(|(it, _)| it == address);
         let at = match (at, address) {
             (Some(at), _) => at,
             (None, Address::Redis { server, prefix }) => {
-                let store = Redis::new(server, prefix, name, self.login.clone(), self.timeout);
-                let wake = self.wake.clone();
-                let worker = Worker::start(store, move || wake()).map_err(|e| e.to_string())?;
-                self.workers.push((address.clone(), worker));
+                let mut store = Redis::new(server, prefix, name, self.login.clone(), self.timeout);
+                let (wake, work) = (self.wake.clone(), move |turn| store.turn(&turn));
+                let worker = Worker::start("store", work, move || wake());
+                self.workers.push((address.clone(), worker.map_err(|e| e.to_string())?));
                 self.workers.len() - 1
             }
             _ => return Err("it is no store".into()),

@@ -1,20 +1,18 @@
 //! The disk that has the root's settings. A thread does what may have to wait for it.
 use crate::config::{is_key, too_deep, TOO_DEEP};
 use inotify::{Inotify, WatchMask};
-use rignolda::net::BODY_BYTES;
+use rignolda::net::{Worker, BODY_BYTES};
 use rignolda::settings::{
     no_key, read_folder, read_plain, too_many, write_folder, Faults, Found, Kept, SETTINGS,
     VALUE_BYTES,
 };
-use std::cell::Cell;
 use std::collections::BTreeSet;
 use std::fs;
 use std::io::{self, ErrorKind};
 use std::os::unix::fs::MetadataExt;
 use std::os::unix::io::{AsRawFd, RawFd};
 use std::path::{Path, PathBuf};
-use std::sync::{mpsc, Arc};
-use std::thread::{self, JoinHandle};
+use std::sync::Arc;
 
 const EMPTY: &str = "it is empty: is a mount missing, or else `.empty`?";
 
@@ -45,54 +43,20 @@ pub struct Empty {
     pub faults: Faults,
 }
 
-/// The thread.
-pub struct Disk {
-    pub descriptor: Option<RawFd>,
-    jobs: mpsc::Sender<Job>,
-    done: mpsc::Receiver<Done>,
-    thread: JoinHandle<()>,
-    /// How many jobs have no answer yet.
-    waits: Cell<u32>,
-}
-
 struct Place {
     settings: PathBuf,
     notify: Option<Inotify>,
 }
 
-impl Disk {
-    /// Starts it. It calls `wake` whenever something was done.
-    pub fn new(settings: PathBuf, wake: Arc<dyn Fn() + Send + Sync>) -> io::Result<Disk> {
-        let (jobs, asked) = mpsc::channel();
-        let (to, done) = mpsc::channel();
-        let mut place = Place { settings, notify: Inotify::init().ok() };
-        let descriptor = place.notify.as_ref().map(AsRawFd::as_raw_fd);
-        let thread = thread::Builder::new().name("disk".into()).spawn(move || {
-            for job in asked {
-                if to.send(place.work(job)).is_err() {
-                    break;
-                }
-                wake();
-            }
-        })?;
-        Ok(Disk { descriptor, jobs, done, thread, waits: Cell::new(0) })
-    }
-
-    pub fn begin(&self, job: Job) {
-        self.waits.set(self.waits.get() + 1);
-        let _ = self.jobs.send(job);
-    }
-
-    pub fn done(&self) -> Option<Done> {
-        let done = self.done.try_recv().ok();
-        self.waits.set(self.waits.get() - u32::from(done.is_some()));
-        done
-    }
-
-    /// Whether it has so many jobs to do, and can do them.
-    pub fn is_asked(&self, count: u32) -> bool {
-        self.waits.get() == count && !self.thread.is_finished()
-    }
+/// The thread, and what can be read when something changed. It calls `wake` after each job.
+pub fn start(
+    settings: PathBuf,
+    wake: Arc<dyn Fn() + Send + Sync>,
+) -> io::Result<(Worker<Job, Done>, Option<RawFd>)> {
+    let mut place = Place { settings, notify: Inotify::init().ok() };
+    let descriptor = place.notify.as_ref().map(AsRawFd::as_raw_fd);
+    let worker = Worker::start("disk", move |job| place.work(job), move || wake())?;
+    Ok((worker, descriptor))
 }
 
 impl Place {

@@ -1,12 +1,12 @@
 //! The root's settings: a folder is the truth, and what differs from it is published.
 //!
-//! Nothing here waits for the disk: [`Disk`] does, and says what it found. A round, and each table,
+//! Nothing here waits for the disk: a thread does, and says what it found. A round, and each table,
 //! is of what the folder had when it was asked for; where the disk does not answer in time, it is
 //! of what was known before.
 use crate::config::{is_key, Root as Config};
-use crate::disk::{Disk, Done, Empty, Job};
+use crate::disk::{self, Done, Empty, Job};
 use crate::fact;
-use rignolda::net::BODY_BYTES;
+use rignolda::net::{Worker, BODY_BYTES};
 use rignolda::settings::{
     entry_bytes, no_key, Faults, Found, Kept, Published, Publisher, SETTINGS,
 };
@@ -28,7 +28,9 @@ const DRAINS: Duration = Duration::from_secs(600);
 /// The root. `W`: who asks it for something, and is answered later.
 pub struct Root<W> {
     config: Config,
-    disk: Disk,
+    disk: Worker<Job, Done>,
+    /// What can be read when the folder has changed.
+    changes: Option<RawFd>,
     publisher: Publisher,
     /// Whether it publishes nothing, and until when.
     draining: bool,
@@ -78,9 +80,11 @@ impl<W> Root<W> {
     ) -> io::Result<Root<W>> {
         // (a root that restarts goes on above the numbers of its earlier lives)
         let clock = SystemTime::now().duration_since(UNIX_EPOCH).unwrap_or_default();
+        let (disk, changes) = disk::start(config.settings.clone(), wake)?;
         let mut root = Root {
             config: config.clone(),
-            disk: Disk::new(config.settings.clone(), wake)?,
+            disk,
+            changes,
             publisher: Publisher::new(clock.as_micros() as u64),
             draining: false,
             drains_until: None,
@@ -116,7 +120,7 @@ impl<W> Root<W> {
 
     /// What can be read when the folder has changed, while that is not known already.
     pub fn descriptor(&self) -> Option<RawFd> {
-        self.disk.descriptor.filter(|_| self.next_scan.is_none() && self.reads == 0)
+        self.changes.filter(|_| self.next_scan.is_none() && self.reads == 0)
     }
 
     pub fn settings(&self) -> u64 {

@@ -2,6 +2,7 @@
 //!
 //! How they lie there, and which law such a link has, the module says that handles them: each agent
 //! sets its own keys and gets those of its parent and its children.
+use std::cell::Cell;
 use std::sync::mpsc;
 use std::{io, thread};
 
@@ -27,42 +28,60 @@ pub trait Store {
     fn turn(&mut self, turn: &Turn) -> Result<Vec<Vec<u8>>, String>;
 }
 
-/// A thread that waits for a store, so that its caller need not.
-pub struct Worker {
-    turns: mpsc::Sender<Turn>,
-    done: mpsc::Receiver<Result<Vec<Vec<u8>>, String>>,
+/// A thread that does what may have to wait, for a store or a disk, so that its caller need not. It
+/// does a job of type `J` after the other, and answers each by a `D`.
+pub struct Worker<J, D> {
+    jobs: mpsc::Sender<J>,
+    done: mpsc::Receiver<D>,
+    thread: thread::JoinHandle<()>,
+    /// How many jobs have no answer yet.
+    waits: Cell<u32>,
 }
 
-impl Worker {
-    /// Starts it. It calls `wake` whenever a turn was done or failed.
+impl<J: Send + 'static, D: Send + 'static> Worker<J, D> {
+    /// Starts it. It calls `wake` whenever a job was done.
     ///
     /// # Errors
     ///
     /// That of the system, where it has no thread.
     pub fn start(
-        mut store: impl Store + Send + 'static,
+        name: &str,
+        mut work: impl FnMut(J) -> D + Send + 'static,
         wake: impl Fn() + Send + 'static,
-    ) -> io::Result<Worker> {
-        let (turns, asked) = mpsc::channel::<Turn>();
+    ) -> io::Result<Worker<J, D>> {
+        let (jobs, asked) = mpsc::channel();
         let (to, done) = mpsc::channel();
-        thread::Builder::new().spawn(move || {
-            for turn in asked {
-                if to.send(store.turn(&turn)).is_err() {
+        let thread = thread::Builder::new().name(name.into()).spawn(move || {
+            for job in asked {
+                if to.send(work(job)).is_err() {
                     break;
                 }
                 wake();
             }
         })?;
-        Ok(Worker { turns, done })
+        Ok(Worker {
+            jobs,
+            done,
+            thread,
+            waits: Cell::new(0),
+        })
     }
 
-    /// Begins a turn. One is under way at a time.
-    pub fn begin(&self, turn: Turn) {
-        let _ = self.turns.send(turn);
+    /// Has a job done after those that it was given before.
+    pub fn begin(&self, job: J) {
+        self.waits.set(self.waits.get() + 1);
+        let _ = self.jobs.send(job);
     }
 
-    /// What came of the turn, if it is over. [`Peers::turned`](super::Peers::turned) is to be told.
-    pub fn done(&self) -> Option<Result<Vec<Vec<u8>>, String>> {
-        self.done.try_recv().ok()
+    /// What came of the next job, if it is over.
+    pub fn done(&self) -> Option<D> {
+        let done = self.done.try_recv().ok()?;
+        self.waits.set(self.waits.get().saturating_sub(1));
+        Some(done)
+    }
+
+    /// Whether so many jobs have no answer yet, and it can do them.
+    pub fn is_asked(&self, count: u32) -> bool {
+        self.waits.get() == count && !self.thread.is_finished()
     }
 }
