@@ -15,5 +15,7 @@ pub mod MixedTrees
 pub mod StartTrees
 pub mod Places
 pub mod WholeLists
-pub mod Progress
+pub mod Exchanges
+pub mod Connecting
+pub mod PolledLinks
 pub mod Passes

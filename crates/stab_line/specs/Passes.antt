@@ -1,8 +1,8 @@
 -- A path of a tree over connections, and a pass over it: from its upper end down, each child is
 -- polled, and then comes an exchange on the connection that its two ends have.
 -- Source: this project's own.
-use Rattle.std.specs.Prelude.{◌≡◌, ℕ, zero, suc, ◌+◌, ◌-◌, ◌==◌, Bool, false, List, [], ◌∷◌}
-use Rattle.std.specs.Prelude.{◌++◌, length, map, Option, Some, ⊤}
+use Rattle.std.specs.Prelude.{◌≡◌, ℕ, zero, suc, ◌+◌, ◌-◌, Bool, List, [], ◌∷◌, ◌++◌, length, map}
+use Rattle.std.specs.Prelude.{Option, Some, ⊤}
 use Rattle.stab_tree.specs.Nodes.{parent_at}
 use Rattle.stab_treecore.specs.Network.{Network}
 use Rattle.stab_line.specs.Line.{held}
@@ -15,17 +15,11 @@ use Rattle.stab_line.specs.SessionTree.{SessionTree, TreeAct, polls, at_link, no
 abbrev pub PathLink : Type 0
 PathLink = ℕ × ℕ
 
--- the node is none of those below the links of this path
-abbrev pub IsBeside : ℕ → List PathLink → Type 0
-IsBeside node [] = ⊤
-IsBeside node ((child, n) ∷ path) = ((node == child) ≡ false) × IsBeside node path
-
--- a path from this node down, on which no node comes twice
+-- a path from this node down, each node of which is the parent of the next
 abbrev pub IsPath : List (Option ℕ) → ℕ → List PathLink → Type 0
 IsPath parents above [] = ⊤
 IsPath parents above ((child, n) ∷ path) =
-    (parent_at parents child ≡ Some above) × IsBeside above ((child, n) ∷ path)
-    × IsPath parents child path
+    (parent_at parents child ≡ Some above) × IsPath parents child path
 
 -- the ends of each of its links are open, and the connection was never used
 abbrev pub AllMayConnect : SessionTree → List PathLink → Type 0

@@ -12,7 +12,7 @@ ghost use Rattle.stab_line.specs.Progress.{AreOpen, IsNew, IsSendersTurn, connec
 ghost use Rattle.stab_line.specs.Progress.{exchanges};
 ghost use Rattle.stab_line.specs.SessionLink.{SessionLink, link_run};
 ghost use Rattle.stab_line.specs.SessionTree.{SessionTree, tree_run};
-ghost use Rattle.stab_treecore.specs.Network.{Network};
+ghost use Rattle.stab_treecore.specs.Network.{IsNetwork, Network};
 
 /// One exchange acknowledges the item that waits, whatever labels the two ends have: the receiver
 /// takes it, or had its label already. Then the sender is idle, and has the turn again.
@@ -60,7 +60,7 @@ pub fn each_exchange_hands_on_an_item()
 /// left.
 pub fn each_pass_shortens_the_backlogs()
     ensures { (net : Network) (t : SessionTree) (above : ℕ) (path : List PathLink)
-        → IsPath net.tree.parents above path → AllMaySend t path
+        → IsNetwork net → IsPath net.tree.parents above path → AllMaySend t path
         → let after = tree_run net t (pass path) in
         (backlogs net after path ≤ backlogs net t path - 1) × AllMaySend after path }
 {}
@@ -72,7 +72,7 @@ pub fn each_pass_shortens_the_backlogs()
 pub fn a_path_hands_on_everything_from_any_state()
     ensures { (net : Network) (t : SessionTree) (above : ℕ) (path : List PathLink)
         (by_parent : ℕ → Bool)
-        → IsPath net.tree.parents above path → AllMayConnect t path
+        → IsNetwork net → IsPath net.tree.parents above path → AllMayConnect t path
         → let after = tree_run net t (all_connect by_parent path
         ++ passes (backlogs net t path) path) in
         (backlogs net after path ≡ 0) × AllMaySend after path }

@@ -1,4 +1,4 @@
-use Rattle.stab_line.proofs.Progress.{exchanges_hand_on}
+use Rattle.stab_line.proofs.Exchanges.{exchanges_hand_on}
 use Rattle.stab_line.proofs.progress_laws.each_exchange_hands_on_an_item.Goals as goal
 
 pub returns : goal.returns
