@@ -32,7 +32,8 @@ from relay import Relay
 from runner import sure, test
 
 # (each of them tells its tests)
-for name in "blocked", "floods", "hostile", "memory_faults", "parents", "store", "watching":
+for name in ("blocked", "floods", "hostile", "memory_faults", "older", "parents", "store",
+             "watching"):
     importlib.import_module(name)
 
 PACKAGING = pathlib.Path(__file__).resolve().parents[2] / "rust/rignoldad/packaging"
@@ -328,19 +329,23 @@ def what_a_false_parent_sends_is_bounded_and_checked():
         send(body(b"T", 104, entries((b"d", b"5"))))
         leaf.ask("wait", 104)
         sure(leaf.files() == {"d": b"5"}, leaf.files())
-        # where its own number is wrong, a whole round mends it
-        send(body(b"C", 2**63, entries((b"wrong", b"1"))))
+        # a whole round that is older is not applied either, and after the last number comes 1
+        send(body(b"T", 2**63, entries((b"far", b"1"))))
         for sequence in range(105, 115):
             send(body(b"H", sequence))
         send(body(b"T", 115, entries(one)))
-        sure(until(lambda: leaf.files() == {"a": b"1"}), leaf.files())
-        send(body(b"C", 116, entries((b"a", b"2"))))
-        sure(until(lambda: leaf.files() == {"a": b"2"}), leaf.files())
+        send(body(b"C", 2**63 + 1, entries((b"far", b"2"))))
+        leaf.ask("wait", 2**63 + 1)
+        sure(leaf.files() == {"far": b"2"}, leaf.files())
+        send(body(b"T", 2**64 - 1, entries(one)))
+        send(body(b"C", 1, entries((b"a", b"2"))))
+        leaf.ask("wait", 1)
+        sure(leaf.files() == {"a": b"2"} and leaf.status()["gaps"] == 1, leaf.files())
         # a frame that comes again is acknowledged again, and not taken again
         received = leaf.status()["received"]
         label = None
         for _ in range(3):
-            label = send(body(b"C", 117, entries((b"a", b"3"))), label=label)
+            label = send(body(b"C", 2, entries((b"a", b"3"))), label=label)
         sure(leaf.status()["received"] == received + 1, leaf.status())
         sure(not leaf.said("panicked"))
         parent.gives_way()

@@ -9,7 +9,7 @@
 //! and a whole one. A round needs [enough harmless items](Publisher::begin_round), and gets to all
 //! before the next one begins. Before [each table](Publisher::is_table_next) the root takes [its
 //! settings](Publisher::replace) anew from where they are kept, since what it remembers may be
-//! spoiled too; and each agent looks at all of its files when [that of a round](Table::looks) comes.
+//! spoiled too; and each agent looks at all of its files when [that of a round](Heard::looks) comes.
 //!
 //! ```
 //! use rignolda::settings::{Meaning, Publisher, Table};
@@ -20,7 +20,7 @@
 //! let published = publisher.next(100).expect("the whole table comes first");
 //! let (sequence, meaning) = published.body.meaning().expect("it fits its item");
 //! assert_eq!(meaning, Meaning::Table(vec![("colour", Some(b"blue"))]));
-//! assert!(table.takes(sequence, &meaning) && table.whole);
+//! assert!(table.takes(sequence, &meaning) && table.heard.applies);
 //! assert!(publisher.next(100).is_none());
 //! ```
 use crate::net::{is_plain, Body, BODY_BYTES};
@@ -30,6 +30,8 @@ use std::sync::Arc;
 mod batch;
 mod depth;
 #[cfg(unix)]
+mod floor;
+#[cfg(unix)]
 mod folder;
 #[cfg(unix)]
 mod source;
@@ -37,6 +39,8 @@ mod waiting;
 
 pub use batch::Batch;
 pub use depth::{too_deep, TOO_DEEP};
+#[cfg(unix)]
+pub use floor::{read_floor, write_floor};
 #[cfg(unix)]
 pub use folder::{remove, Folder};
 #[cfg(unix)]
@@ -75,6 +79,17 @@ pub enum Meaning<'a> {
     Table(Vec<Entry<'a>>),
     /// Nothing: it may be lost, or come at any time.
     Harmless,
+}
+
+impl Meaning<'_> {
+    /// Its kind.
+    pub fn kind(&self) -> Kind {
+        match self {
+            Meaning::Changes(_) => Kind::Changes,
+            Meaning::Table(_) => Kind::Table,
+            Meaning::Harmless => Kind::Harmless,
+        }
+    }
 }
 
 /// A key, and its value, unless it is unset.
@@ -191,72 +206,151 @@ impl<'a> Rest<'a> {
     }
 }
 
-/// Which bodies an agent applies: each one that is newer than the last, by its sequence number,
-/// unless there would be more settings, or more bytes of them, than a root may have.
-///
-/// Nothing of it has to be right: a spoiled one is right after a whole round.
-#[derive(Debug, Default)]
-pub struct Table {
-    /// The sequence number of the last body that was applied, or meant nothing; 0 before the first.
-    pub sequence: u64,
-    /// That of the last whole table.
-    pub round: u64,
+/// Whether a body with this number is newer than one with that. Numbers go round, past 0, which is
+/// none and older than all: the newer one is less than half of them ahead.
+pub fn is_newer(number: u64, than: u64) -> bool {
+    than == 0 || number.wrapping_sub(than) as i64 > 0
+}
+
+/// The older one of two numbers; 0 is older than all.
+pub fn older(one: u64, other: u64) -> u64 {
+    if one == 0 || other != 0 && is_newer(other, one) {
+        one
+    } else {
+        other
+    }
+}
+
+/// The number that follows this one.
+pub fn after(number: u64) -> u64 {
+    number.wrapping_add(1).max(1)
+}
+
+/// Of these numbers the one that is furthest ahead of this one; itself where none is.
+pub fn furthest(number: u64, others: impl IntoIterator<Item = u64>) -> u64 {
+    let others = others.into_iter().filter(|other| *other != 0);
+    let all = others.chain(std::iter::once(number));
+    let furthest = all.max_by_key(|other| other.wrapping_sub(number) as i64);
+    furthest.unwrap_or(number)
+}
+
+/// What an agent remembers of the numbers of bodies. It takes each body that is newer than the last,
+/// and applies it unless its files are from a later one: an agent that begins anew waits until it
+/// has caught up with its files. So nothing older ever follows what is newer.
+#[derive(Clone, Copy, Debug, Default, PartialEq, Eq)]
+pub struct Taker {
+    /// The number of the last body that was taken; 0 before the first.
+    pub number: u64,
+    /// The number up to which the files are, or may be. The disk keeps it.
+    pub floor: u64,
     /// Whether a whole table came, and no gap since.
     pub whole: bool,
+    /// Whether harmless items came since the last whole table.
+    pub in_a_round: bool,
+}
+
+/// What an agent does with a body.
+#[derive(Clone, Copy, Debug, Default, PartialEq, Eq)]
+pub struct Heard {
+    /// Whether it takes it.
+    pub takes: bool,
+    /// Whether it applies it, with all that waited. Else what was taken waits.
+    pub applies: bool,
+    /// Whether a number was left out before it, and it does not make up for that.
+    pub gap: bool,
+    /// Whether it is a whole table that makes up for something: the first one, or a number was left
+    /// out before it. It may bring changes that are older than itself.
+    pub fills: bool,
+    /// Whether it is the whole table of a round, or the first one since something was missing: then
+    /// all files are to be looked at. Others come between rounds.
+    pub looks: bool,
+}
+
+/// What kind of body it is.
+#[derive(Clone, Copy, Debug, PartialEq, Eq)]
+pub enum Kind {
+    /// Of changes.
+    Changes,
+    /// A whole table.
+    Table,
+    /// A harmless one.
+    Harmless,
+}
+
+impl Taker {
+    /// Whether what is taken waits: the files are from a later body.
+    pub fn is_behind(&self) -> bool {
+        self.floor != self.number && !is_newer(self.number, self.floor)
+    }
+
+    /// What to do with a body that came now. One that is not newer changes nothing: it came by a
+    /// link that began anew, or lay somewhere.
+    pub fn hears(&mut self, kind: Kind, number: u64) -> Heard {
+        if !is_newer(number, self.number) {
+            return Heard::default();
+        }
+        let is_table = kind == Kind::Table;
+        let follows = self.number == 0 || number == after(self.number);
+        self.number = number;
+        self.in_a_round |= kind == Kind::Harmless;
+        let applies = !self.is_behind();
+        if applies {
+            self.floor = number;
+        }
+        let heard = Heard {
+            takes: true,
+            applies,
+            gap: !follows && !is_table,
+            fills: is_table && !(follows && self.whole),
+            looks: is_table && (self.in_a_round || !self.whole),
+        };
+        self.whole = is_table || self.whole && follows;
+        self.in_a_round &= !is_table;
+        heard
+    }
+}
+
+/// What an agent does with bodies: [which of them it takes](Taker), and which settings there are.
+/// What would make more of them, or more bytes of them, than a root may have is left out.
+///
+/// Nothing of it has to be right: a spoiled one is right after a whole round, or, where its numbers
+/// are ahead, once the root has [gone above them](Publisher::go_above).
+#[derive(Debug, Default)]
+pub struct Table {
+    /// The numbers.
+    pub taker: Taker,
+    /// What was done with the last body that was taken.
+    pub heard: Heard,
+    /// The number of the last whole table.
+    pub round: u64,
     /// The keys of all settings, and how many bytes of a whole table each takes.
     pub keys: BTreeMap<String, usize>,
-    /// The sequence number of the last body that changed something, as far as can be seen here.
+    /// The number of the last body that changed something, as far as can be seen here.
     pub changed: u64,
     /// Whether what a body said was left out, since there was no room. A whole table ends it.
     pub full: bool,
-    /// Whether the last whole table made up for something: the first one, or a number was left out
-    /// before it. It may bring changes that are older than itself.
-    pub fills: bool,
-    /// Bodies that were older than the last, and not applied.
+    /// Bodies that were older than the last, and not taken.
     pub strays: u64,
     /// How often a number was left out before a body that is no whole table.
     pub gaps: u64,
-    /// Whether the last whole table was that of a round, or the first one since something was
-    /// missing: then all files are to be looked at. Others come between rounds.
-    pub looks: bool,
-    /// Whether the harmless items of a round that is older came last.
-    old_round: bool,
-    /// Whether harmless items came since the last whole table.
-    in_a_round: bool,
     /// How many bytes all settings take.
     bytes: usize,
 }
 
 impl Table {
-    /// Whether to apply a body that came now.
-    ///
-    /// An older one is a stray: it came by a link that began anew, or lay somewhere. But where a
-    /// whole round is older, its harmless items and then its table, it is this agent's own number
-    /// that is wrong, or the root's clock was set back: then that table is taken.
+    /// Whether to take a body that came now. Whether to apply it, `heard` says.
     pub fn takes(&mut self, sequence: u64, meaning: &Meaning<'_>) -> bool {
-        let is_table = matches!(meaning, Meaning::Table(_));
-        self.in_a_round |= *meaning == Meaning::Harmless;
-        let fresh = sequence > self.sequence;
-        if !(fresh || is_table && self.old_round) {
+        let heard = self.taker.hears(meaning.kind(), sequence);
+        if !heard.takes {
             self.strays += 1;
-            self.old_round |= *meaning == Meaning::Harmless;
             return false;
         }
-        // (a whole table makes up for whatever was left out before it)
-        let follows = self.sequence == 0 || sequence == self.sequence.wrapping_add(1);
-        if !follows && !is_table {
-            self.gaps += 1;
-            self.whole = false;
-        }
-        self.sequence = sequence;
-        self.old_round = false;
+        self.heard = heard;
+        self.gaps += u64::from(heard.gap);
         match meaning {
             Meaning::Table(entries) => {
                 self.round = sequence;
-                self.looks = std::mem::take(&mut self.in_a_round) || !self.whole;
-                self.fills = !follows || !self.whole;
-                self.changed = if self.fills { sequence } else { self.changed };
-                self.whole = true;
+                self.changed = if heard.fills { sequence } else { self.changed };
                 self.full = false;
                 let keys = entries.iter().map(|it| (it.0.to_owned(), entry_bytes(it)));
                 self.keys = keys.collect();
@@ -282,7 +376,7 @@ impl Table {
 
     /// What a body says is left out, for want of room: a whole table is waited for.
     pub fn misses(&mut self) {
-        self.whole = false;
+        self.taker.whole = false;
         self.full = true;
     }
 
@@ -418,6 +512,17 @@ impl Publisher {
         self.changed.extend(gone);
     }
 
+    /// Goes on above this number, where it is ahead: an agent has it, so it would take nothing else.
+    /// The whole table comes next. Whether it was ahead.
+    pub fn go_above(&mut self, number: u64) -> bool {
+        let is_ahead = is_newer(number, self.sequence);
+        if is_ahead {
+            self.sequence = number;
+            self.table_first = true;
+        }
+        is_ahead
+    }
+
     /// A round with `harmless` harmless items begins, unless one is under way. Where the deepest
     /// agent is `d` links below the root, `2 * d + 3` are enough: more than can be missing after a
     /// fault, so that an agent whose own number is wrong gets some of them.
@@ -468,7 +573,7 @@ impl Publisher {
         }
         let (items, bytes) = self.since;
         let is_table = self.is_table_next(limit);
-        self.sequence += 1;
+        self.sequence = after(self.sequence);
         if is_table {
             // (the table of a round comes behind its harmless items)
             self.round -= u64::from(self.round == 1);

@@ -1,7 +1,7 @@
 //! Trees of nodes without sockets: connections that break, processes that begin anew, children that
 //! are away, and what every agent has at the end.
 use rignolda::net::{Body, Relay};
-use rignolda::settings::{Meaning, Table};
+use rignolda::settings::{furthest, Meaning, Table};
 use rignolda::Connection;
 use std::collections::{BTreeMap, VecDeque};
 use std::sync::Arc;
@@ -247,7 +247,10 @@ impl Tree {
         panic!("it does not come to rest");
     }
 
+    /// A round, above whatever number an agent has.
     fn round(&mut self, harmless: usize) {
+        let numbers = self.agents.iter().map(|agent| agent.table.taker.number);
+        self.sequence = furthest(self.sequence, numbers);
         for _ in 0..harmless {
             self.publish(&Meaning::Harmless);
             self.settle();
@@ -353,7 +356,7 @@ fn two_rounds_mend_whatever_an_agent_remembers() {
         let mut random = Random(seed);
         let mut tree = drawn(seed, true, 1_000);
         let at = random.below(7);
-        tree.agents[at].table.sequence = [0, 1, u64::MAX / 2, u64::MAX][random.below(4)];
+        tree.agents[at].table.taker.number = [0, 1, u64::MAX / 2, u64::MAX][random.below(4)];
         tree.agents[at].settings.insert("spoiled".into(), vec![1]);
         tree.settle();
         tree.round(7);

@@ -28,11 +28,11 @@ fn newer_ones_are_taken_and_older_ones_are_strays() {
         taken(&mut table, &bodies),
         [true, true, false, false, true, true]
     );
-    assert_eq!((table.sequence, table.round), (11, 7));
-    assert_eq!((table.strays, table.gaps, table.whole), (2, 1, false));
-    assert!(table.takes(12, &TABLE) && table.whole && table.round == 12);
+    assert_eq!((table.taker.number, table.round), (11, 7));
+    assert_eq!((table.strays, table.gaps, table.taker.whole), (2, 1, false));
+    assert!(table.takes(12, &TABLE) && table.taker.whole && table.round == 12);
     // (what is left out before a table is made up for)
-    assert!(table.takes(20, &TABLE) && table.whole && table.gaps == 1);
+    assert!(table.takes(20, &TABLE) && table.taker.whole && table.gaps == 1);
 }
 
 #[test]
@@ -40,7 +40,7 @@ fn all_files_are_looked_at_when_a_round_comes_and_after_a_gap() {
     let mut table = Table::default();
     let mut looks = |sequence, meaning: &Meaning<'_>| {
         assert!(table.takes(sequence, meaning));
-        table.looks
+        table.heard.looks
     };
     // (nothing is known of what is there at first)
     assert!(looks(7, &TABLE));
@@ -55,42 +55,25 @@ fn all_files_are_looked_at_when_a_round_comes_and_after_a_gap() {
 }
 
 #[test]
-fn an_older_round_is_one_too() {
-    let mut table = Table::default();
-    assert!(table.takes(7, &TABLE) && table.takes(100, &TABLE) && !table.looks);
-    assert!(!table.takes(20, &Meaning::Harmless));
-    assert!(table.takes(21, &TABLE) && table.looks);
-}
-
-#[test]
 fn it_is_whole_from_its_first_table_on() {
     let mut table = Table::default();
-    assert!(table.takes(3, &CHANGE) && !table.whole);
-    assert!(table.takes(4, &TABLE) && table.whole && table.gaps == 0);
+    assert!(table.takes(3, &CHANGE) && !table.taker.whole);
+    assert!(table.takes(4, &TABLE) && table.taker.whole && table.gaps == 0);
 }
 
 #[test]
-fn a_whole_round_that_is_older_is_taken() {
-    for spoiled in [100, u64::MAX] {
-        let mut table = Table::default();
-        table.sequence = spoiled;
-        let bodies = [
-            (7, Meaning::Harmless),
-            (8, CHANGE),
-            (9, TABLE),
-            (10, CHANGE),
-        ];
-        assert_eq!(taken(&mut table, &bodies), [false, false, true, true]);
-        assert_eq!((table.sequence, table.round, table.whole), (10, 9, true));
-    }
-}
-
-#[test]
-fn a_newer_body_ends_an_older_round() {
+fn what_is_older_changes_nothing_whatever_it_is() {
     let mut table = Table::default();
-    table.sequence = 20;
-    let bodies = [(7, Meaning::Harmless), (21, CHANGE), (9, TABLE)];
-    assert_eq!(taken(&mut table, &bodies), [false, true, false]);
+    assert!(table.takes(100, &TABLE) && table.takes(101, &CHANGE));
+    let before = table.taker;
+    let bodies = [
+        (7, Meaning::Harmless),
+        (8, CHANGE),
+        (9, TABLE),
+        (101, TABLE),
+    ];
+    assert_eq!(taken(&mut table, &bodies), [false; 4]);
+    assert_eq!((table.taker, table.round, table.strays), (before, 100, 4));
 }
 
 /// Settings with these keys, each with so many bytes.
@@ -122,13 +105,16 @@ fn more_settings_than_there_may_be_are_left_out() {
     one.remove(0);
     one[0].0 = "another";
     assert!(!table.takes(5, &Meaning::Changes(one.clone())));
-    assert_eq!((table.keys.len(), table.sequence), (SETTINGS, 5));
-    assert_eq!((table.whole, table.full, table.strays), (false, true, 0));
+    assert_eq!((table.keys.len(), table.taker.number), (SETTINGS, 5));
+    assert_eq!(
+        (table.taker.whole, table.full, table.strays),
+        (false, true, 0)
+    );
     // (what there is room for goes on, and a whole table makes it good)
     assert!(table.takes(6, &Meaning::Changes(vec![("000002", None)])));
-    assert!(!table.whole && table.keys.len() == SETTINGS - 1);
+    assert!(!table.taker.whole && table.keys.len() == SETTINGS - 1);
     assert!(table.takes(7, &Meaning::Table(settings(&all[..1], 0))));
-    assert!(table.whole && !table.full && table.fills && table.keys.len() == 1);
+    assert!(table.taker.whole && !table.full && table.heard.fills && table.keys.len() == 1);
 }
 
 #[test]
@@ -148,7 +134,7 @@ fn more_bytes_of_settings_than_a_table_has_room_for_are_left_out() {
         20,
         &Meaning::Changes(settings(&all[16..], VALUE_BYTES - 12))
     ));
-    assert!(!table.whole && table.keys.contains_key(&all[16]));
+    assert!(!table.taker.whole && table.keys.contains_key(&all[16]));
 }
 
 #[test]
@@ -171,7 +157,7 @@ fn a_table_that_makes_up_for_something_is_known() {
     let mut table = Table::default();
     let mut fills = |sequence, meaning: &Meaning<'_>| {
         table.takes(sequence, meaning);
-        table.fills
+        table.heard.fills
     };
     assert!(fills(7, &TABLE));
     fills(8, &CHANGE);

@@ -99,7 +99,7 @@ fn an_empty_table_waits_too() {
     assert_eq!(waiting.first(), Some(5));
     waiting.unset_others(["a".to_owned()]);
     are_left(waiting, &[("a", None, 5, 8)]);
-    // (the root's clock may have been set back)
+    // (whatever comes after the other)
     let mut waiting = Waiting::default();
     table(&mut waiting, 8, &[]);
     table(&mut waiting, 2, &[("a", Some(b"1"))]);
@@ -109,6 +109,28 @@ fn an_empty_table_waits_too() {
     changes(&mut waiting, 1, &[("a", None)]);
     waiting.unset_others(["b".to_owned()]);
     are_left(waiting, &[("a", None, 1, 1)]);
+}
+
+#[test]
+fn numbers_that_go_round_are_in_their_order() {
+    let mut waiting = Waiting::default();
+    changes(&mut waiting, u64::MAX, &[("c", None), ("d", None)]);
+    changes(&mut waiting, 1, &[("b", None), ("d", Some(b"1"))]);
+    changes(&mut waiting, 2, &[("a", None)]);
+    assert_eq!(waiting.first(), Some(u64::MAX));
+    let (key, change) = waiting.pop().unwrap();
+    assert_eq!(
+        (&*key, change.first, change.last),
+        ("c", u64::MAX, u64::MAX)
+    );
+    are_left(
+        waiting,
+        &[
+            ("b", None, 1, 1),
+            ("d", Some(b"1"), u64::MAX, 1),
+            ("a", None, 2, 2),
+        ],
+    );
 }
 
 #[test]
@@ -133,12 +155,12 @@ fn a_table_from_before_keeps_all_back_until_it_is_applied() {
     waiting.is_from_before();
     waiting.unset_others(["c".into()]);
     waiting.take(8, &Meaning::Changes(vec![("b", None), ("d", Some(b"4"))]));
-    assert_eq!((waiting.first(), waiting.count()), (Some(1), 4));
+    assert_eq!((waiting.first(), waiting.count()), (Some(0), 4));
     let firsts: Vec<_> = std::iter::from_fn(|| waiting.pop())
         .map(|(key, change)| (key, change.first, change.last))
         .collect();
     let of = |key: &str, first, last| (key.to_string(), first, last);
-    let expected = [of("a", 1, 7), of("b", 1, 8), of("c", 1, 7), of("d", 8, 8)];
+    let expected = [of("a", 0, 7), of("b", 0, 8), of("c", 0, 7), of("d", 8, 8)];
     assert_eq!(firsts, expected);
 }
 

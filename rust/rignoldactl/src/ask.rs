@@ -1,5 +1,6 @@
 //! The other end of the control socket: asks an agent, and makes text of what it says.
 use crate::{ChildStatus, Request, Response, Seen, Status};
+use rignolda::settings::is_newer;
 use serde::Serialize;
 use std::collections::BTreeMap;
 use std::fmt::{Display, Write as _};
@@ -50,7 +51,7 @@ pub fn lacks(agent: &Seen, sequence: u64) -> Option<&'static str> {
         () if !agent.connected => Some("is not connected"),
         () if agent.failing > 0 => Some("has a file or a hook that failed"),
         () if !agent.whole => Some("waits for a whole table"),
-        () if agent.applied < sequence => Some("has not applied it"),
+        () if is_newer(sequence, agent.applied) => Some("has not applied it"),
         () if agent.cut => Some("has more agents below it than it can report"),
         () => None,
     }
@@ -177,7 +178,8 @@ pub fn tree_text(list: &[Seen]) -> String {
         let name = format!("{}{}", "  ".repeat(depth), seen.name);
         let lag = match seen.applied {
             0 => "-".into(),
-            applied => newest.saturating_sub(applied).to_string(),
+            applied if is_newer(newest, applied) => newest.wrapping_sub(applied).to_string(),
+            _ => "0".into(),
         };
         let backlog = format!("{}/{}", seen.backlog, seen.limit);
         rows.push(row([&name, &lag, &backlog, &seen.strays, &seen.garbage, &seen.gaps, &state]));

@@ -70,6 +70,8 @@ pub struct Status {
     /// That of the last body which was applied, its hooks included.
     /// While a table that may bring older changes is lacking, or is not applied, it is 0.
     pub applied: u64,
+    /// The number that is furthest ahead, of its own, that of its files, and those below.
+    pub ahead: u64,
     /// That of the last body which changed something.
     pub changed: u64,
     /// That of the last whole table which was applied.
@@ -147,6 +149,7 @@ impl Status {
             connected: true,
             sequence: self.sequence,
             applied: self.applied,
+            ahead: self.ahead,
             changed: self.changed,
             round: self.round,
             whole: self.whole,
@@ -176,6 +179,9 @@ pub struct Seen {
     pub sequence: u64,
     /// The last number up to which all is applied; 0 where it is not known that anything is.
     pub applied: u64,
+    /// The number that is furthest ahead, of its own, that of its files, and those below: the root
+    /// goes on above it.
+    pub ahead: u64,
     /// The number of the last body that changed something.
     pub changed: u64,
     pub round: u64,

@@ -1,6 +1,7 @@
 //! Asks a running agent, over its control socket.
 #![forbid(unsafe_code)]
 use clap::{Parser, Subcommand};
+use rignolda::settings::is_newer;
 use rignoldactl::ask::{self, Agent};
 use rignoldactl::{milliseconds, Request, Response, Seen, Status};
 use serde::Serialize;
@@ -280,7 +281,8 @@ fn drained(agent: &mut Agent, timeout: Duration) -> Result<(), Failed> {
     until(agent, timeout, |list| {
         let newest = list.first().map_or(0, |root| root.sequence);
         let full = |seen: &&Seen| {
-            !seen.connected || seen.backlog > 0 || seen.sequence < newest || seen.cut
+            let lags = seen.sequence != newest && is_newer(newest, seen.sequence);
+            !seen.connected || seen.backlog > 0 || lags || seen.cut
         };
         let full: Vec<&str> = list.iter().filter(full).map(|seen| seen.name.as_str()).collect();
         let twice = std::mem::replace(&mut before, full.is_empty()) && full.is_empty();

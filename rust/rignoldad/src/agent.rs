@@ -12,7 +12,7 @@ use crate::tree::{Below, EACH};
 use mio::unix::SourceFd;
 use mio::{Events, Interest, Poll, Registry, Token, Waker};
 use rignolda::net::{Body, Handler, Peers};
-use rignolda::settings::{Meaning, Table};
+use rignolda::settings::{furthest, Meaning, Table};
 use rignolda_redis::Stores;
 use rignolda_tls::{Caller, Line, Listener, Maker};
 use rignoldactl::{ChildStatus, Request, Response, Status};
@@ -88,6 +88,8 @@ struct State {
     table: Table,
     applier: Option<Applier>,
     below: Below,
+    /// The number that was furthest ahead of its own when an agent below said that it has it.
+    ahead: u64,
     received: u64,
     garbage: u64,
     round_at: Option<Instant>,
@@ -199,6 +201,11 @@ fn random() -> io::Result<u64> {
 }
 
 impl State {
+    /// The number that is furthest ahead, of its own, that of its files, and those below.
+    fn ahead(&self) -> u64 {
+        furthest(self.table.taker.number, [self.table.taker.floor, self.ahead])
+    }
+
     /// Whether to say now what a peer can make happen at any rate: once in a second, but in trials.
     fn says(&mut self, now: Instant) -> bool {
         let may = self.traces || self.said.is_none_or(|at| now >= at + Duration::from_secs(1));
@@ -244,9 +251,8 @@ impl Handler for State {
         let is_table = matches!(meaning, Meaning::Table(_));
         // (before a line is written, so that the files wait for nothing)
         if let (true, Some(applier)) = (takes, &mut self.applier) {
-            let (looks, fills) = (is_table && self.table.looks, is_table && self.table.fills);
             self.applying = true;
-            if !applier.take(&meaning, sequence, looks, fills) {
+            if !applier.take(&meaning, &self.table.taker, self.table.heard) {
                 self.table.misses();
             }
         }
@@ -270,7 +276,9 @@ impl Handler for State {
 
     fn on_report(&mut self, child: &str, report: &[u8], now: Instant) -> bool {
         self.changed = true;
-        self.below.heard(child, report, now)
+        let is_one = self.below.heard(child, report, now);
+        self.ahead = furthest(self.ahead(), [self.below.ahead(child)]);
+        is_one
     }
 
     fn on_gone(&mut self, child: &str) {
@@ -310,6 +318,9 @@ impl Agent {
             let root = Root::new(root, now, wake.clone());
             root.map_err(of("root: its thread cannot be started"))
         });
+        let applier = applier.transpose()?;
+        let mut table = Table::default();
+        table.taker.floor = applier.as_ref().map_or(0, Applier::floor);
         let mut peers = Peers::new(config.peers.clone(), life, config.backlog, now);
         // (the others are for children that came, files and control)
         peers.bound_waiting((descriptors() / 4).max(1));
@@ -331,7 +342,8 @@ impl Agent {
             root: root.transpose()?,
             state: State {
                 is_root: config.root.is_some(),
-                applier: applier.transpose()?,
+                table,
+                applier,
                 round_at: Some(now),
                 changed: true,
                 traces: std::env::var_os("RIGNOLDA_TRACE").is_some(),
@@ -517,12 +529,15 @@ impl Agent {
 
     /// At the root: publishes what waits, as fast as the quickest child takes it.
     fn publish(&mut self, now: Instant) {
+        if let Some(root) = &mut self.root {
+            root.hears(self.state.ahead());
+        }
         while self.may_publish() {
             let Some(root) = &mut self.root else { return };
             let Some(published) = root.next(self.config.backlog / 2, now) else { break };
             self.peers.publish(&published.body, now, &mut self.state);
             if !published.keys.is_empty() {
-                self.state.table.changed = self.state.table.sequence;
+                self.state.table.changed = self.state.table.taker.number;
             }
             self.answer();
         }
@@ -531,7 +546,7 @@ impl Agent {
 
     /// Answers those who asked the root for something that is done now, or cannot be.
     fn answer(&mut self) {
-        let sequence = self.state.table.sequence;
+        let sequence = self.state.table.taker.number;
         for (ticket, done) in self.root.iter_mut().flat_map(Root::answers) {
             let response = done.map_or_else(Response::Refused, |()| Response::Published(sequence));
             say(&mut self.servers, ticket, &control::answer(&response), false);
@@ -559,6 +574,7 @@ impl Agent {
     pub fn status(&self, now: Instant) -> Status {
         let millis = |since: Instant| now.saturating_duration_since(since).as_millis() as u64;
         let State { table, applier, .. } = &self.state;
+        let number = table.taker.number;
         let (relay, parent) = (self.peers.relay(), self.peers.parent());
         let faults = self.root.as_ref().map(Root::faults);
         let children = relay.children().map(|(name, link)| ChildStatus {
@@ -582,14 +598,15 @@ impl Agent {
             cost: self.peers.way().cost,
             way: self.peers.way().names.clone(),
             connected_since: parent.map_or(0, |(_, since)| millis(since) / 1_000),
-            sequence: table.sequence,
+            sequence: number,
             // (the table that is lacking may bring changes of any number)
-            applied: applier.as_ref().map_or(table.sequence, |it| it.applied(table.sequence))
-                * u64::from(table.whole),
+            applied: applier.as_ref().map_or(number, |it| it.applied(number))
+                * u64::from(table.taker.whole),
+            ahead: self.state.ahead(),
             changed: table.changed,
             round: table.round,
             round_age: self.state.round_at.map_or(0, millis),
-            whole: table.whole,
+            whole: table.taker.whole,
             settings: table.keys.len() as u64,
             draining: self.root.as_ref().is_some_and(Root::is_draining),
             harmless: self.config.root.as_ref().map_or(0, |root| root.harmless.into()),

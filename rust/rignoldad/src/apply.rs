@@ -5,9 +5,13 @@
 //! applied. A hook is due from before its file changes until it ended well, which an empty file in
 //! `.pending` says; so it is run again after a failure, at the next round, and after a crash.
 //! Nothing in the folder has to be right: what is wrong or lacking is made anew by the next round.
+//!
+//! The marker of the folder has the number up to which its files are, or are about to be: an agent
+//! that starts applies nothing older.
 use crate::config::{is_key, Apply};
 use crate::fact;
-use rignolda::settings::{remove, Change, Folder, Meaning, Waiting, SETTINGS};
+use rignolda::settings::{older, read_floor, remove, write_floor, Change, Folder};
+use rignolda::settings::{Heard, Meaning, Taker, Waiting, SETTINGS};
 use std::collections::{BTreeMap, BTreeSet};
 use std::fmt;
 use std::fs::{self, File, OpenOptions};
@@ -20,7 +24,7 @@ use std::thread::{self, JoinHandle};
 
 /// The folder of the hooks that are due, in the folder of the settings.
 const PENDING: &str = ".pending";
-/// The file that says that a folder is an agent's.
+/// The file that says that a folder is an agent's, and up to which number its files are.
 const MARKER: &str = ".rignolda";
 /// How the name of a hook's input begins, while it has one.
 const INPUT: &str = ".input";
@@ -95,6 +99,10 @@ struct State {
     /// What waits for its file, and whether all files are to be looked at.
     files: Waiting,
     looks: bool,
+    /// Whether that waits, since the files are from a later body; and the number of the last one
+    /// that was to be applied.
+    holds: bool,
+    floor: u64,
     /// The first sequence number of what the thread for files has in hand.
     writing: Option<u64>,
     /// The key whose file is being written.
@@ -135,21 +143,41 @@ impl Applier {
         self.shared.lock().config = config.clone();
     }
 
-    /// Makes the files what this body says; where it `looks`, whatever was done to them. One that
-    /// `fills` a gap may bring older changes, so nothing counts as applied until it is. Whether
-    /// there is room: what waits has not many more keys than there may be.
-    pub fn take(&mut self, meaning: &Meaning<'_>, sequence: u64, looks: bool, fills: bool) -> bool {
+    /// The number up to which the files are, as an earlier life left them.
+    pub fn floor(&self) -> u64 {
+        read_floor(&self.shared.folder.join(MARKER))
+    }
+
+    /// Makes the files what this body says, where it `applies`; where it `looks`, whatever was done
+    /// to them. One that `fills` a gap may bring older changes, so nothing counts as applied until
+    /// it is. Whether there is room: what waits has not many more keys than there may be.
+    pub fn take(&mut self, meaning: &Meaning<'_>, taker: &Taker, heard: Heard) -> bool {
         let mut state = self.shared.lock();
-        if state.files.count().max(state.hooks.count()) > 2 * SETTINGS {
-            return false;
+        let (files, hooks) = (state.files.count(), state.hooks.count());
+        let waits = match meaning {
+            Meaning::Changes(_) => files.max(hooks),
+            // (it takes the place of whatever waits)
+            Meaning::Table(_) => hooks,
+            Meaning::Harmless => 0,
+        };
+        let has_room = waits <= 2 * SETTINGS;
+        if state.holds && heard.applies && !(taker.whole && has_room) {
+            // (it is older than the files, and what would make up for that is missing)
+            state.files = Waiting::default();
         }
-        state.files.take(sequence, meaning);
-        if fills {
-            state.files.is_from_before();
+        state.holds = !heard.applies;
+        if heard.applies {
+            state.floor = taker.number;
         }
-        state.looks |= looks;
+        if has_room {
+            state.files.take(taker.number, meaning);
+            if heard.fills {
+                state.files.is_from_before();
+            }
+            state.looks |= heard.looks;
+        }
         self.shared.files.notify_one();
-        true
+        has_room
     }
 
     /// What was done since it was asked last: changes, and what failed.
@@ -160,17 +188,22 @@ impl Applier {
     /// Whether files wait or are written, or something was done: then ask again soon.
     pub fn is_busy(&self) -> bool {
         let state = self.shared.lock();
-        state.writing.is_some() || state.files.first().is_some() || !state.done.is_empty()
+        let waits = !state.holds && state.files.first().is_some();
+        waits || state.writing.is_some() || !state.done.is_empty()
     }
 
     /// The sequence number up to which everything is applied, hooks included, where bodies up to
-    /// `sequence` were handed over. What failed counts as applied, and is in `failing`.
+    /// `sequence` were handed over; 0 while these wait. What failed counts as applied, and is in
+    /// `failing`.
     pub fn applied(&self, sequence: u64) -> u64 {
         let state = self.shared.lock();
+        if state.holds {
+            return 0;
+        }
         let waiting = state.files.first().into_iter().chain(state.hooks.first());
         let running = state.running.values().copied();
-        let oldest = waiting.chain(state.writing).chain(running).min();
-        oldest.map_or(sequence, |oldest| sequence.min(oldest.saturating_sub(1)))
+        let oldest = waiting.chain(state.writing).chain(running).reduce(older);
+        oldest.map_or(sequence, |oldest| older(sequence, oldest.saturating_sub(1)))
     }
 
     /// What of its state cannot be, where something cannot.
@@ -237,15 +270,15 @@ impl Shared {
 /// The thread that keeps the files.
 fn keep_files(shared: &Shared) {
     let take = |state: &mut State| {
-        state.writing = state.files.first();
+        state.writing = state.files.first().filter(|_| !state.holds);
         state.writing?;
         let (files, due) = (std::mem::take(&mut state.files), std::mem::take(&mut state.due));
         let looks = std::mem::take(&mut state.looks) || !files.is_whole();
-        Some((files, due, looks, state.config.clone()))
+        Some((files, due, looks, state.floor, state.config.clone()))
     };
     let (mut folder, mut others) = (Folder::new(shared.folder.clone()), Vec::new());
     let mut is_taken = false;
-    while let Some((mut files, mut due, looks, config)) = shared.next(&shared.files, take) {
+    while let Some((mut files, mut due, looks, floor, config)) = shared.next(&shared.files, take) {
         if folder.path() != config.folder {
             // (the memory is spoiled)
             folder = Folder::new(config.folder.clone());
@@ -257,7 +290,9 @@ fn keep_files(shared: &Shared) {
         let refused = refusal(&config).filter(|_| !is_known);
         // (what came while it was refused was dropped, so a change alone is not enough)
         let lacks = shared.lock().failing.get(MARKER).cloned().filter(|_| !files.is_whole());
-        let outcome = refused.map(Outcome::File).or(lacks).unwrap_or(Outcome::Done);
+        let refused = refused.map(Outcome::File).or(lacks);
+        // (else older ones could follow what is written now, by a process that is ended meanwhile)
+        let outcome = refused.unwrap_or_else(|| mark(&folder, &shared.folder, floor));
         is_taken = outcome == Outcome::Done;
         if !is_taken || shared.lock().failing.contains_key(MARKER) {
             let (mut state, sequence) = (shared.lock(), files.first().unwrap_or(0));
@@ -267,9 +302,6 @@ fn keep_files(shared: &Shared) {
                 (state.looks, state.writing) = (true, None);
                 continue;
             }
-        }
-        if looks {
-            let _ = folder.mend().and_then(|()| mark(&shared.folder));
         }
         if files.is_whole() {
             // (a folder in it is no setting, and may be somebody's)
@@ -293,14 +325,11 @@ fn keep_files(shared: &Shared) {
     }
 }
 
-/// Says in the folder that it is an agent's.
-fn mark(folder: &Path) -> io::Result<()> {
-    let marker = folder.join(MARKER);
-    if marker.exists() {
-        Ok(())
-    } else {
-        File::create(marker).map(drop)
-    }
+/// Says in the folder that it is an agent's, and up to which number its files will be.
+fn mark(folder: &Folder, path: &Path, floor: u64) -> Outcome {
+    let _ = folder.mend();
+    let marked = write_floor(&path.join(MARKER), floor);
+    marked.map_or_else(|error| Outcome::File(error.to_string()), |()| Outcome::Done)
 }
 
 /// Names once what is in the folder and is nothing of the agent's, and not removed either.

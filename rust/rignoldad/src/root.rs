@@ -65,6 +65,8 @@ pub struct Root<W> {
     waiting: (usize, usize),
     /// Whether it was time for a round while one was under way.
     overdue: bool,
+    /// Whether its numbers went on above others since the last round began.
+    went_above: bool,
     faults: Faults,
 }
 
@@ -106,6 +108,7 @@ impl<W> Root<W> {
             answers: Vec::new(),
             waiting: (0, 0),
             overdue: false,
+            went_above: false,
             faults: Faults::default(),
         };
         root.look(now);
@@ -258,6 +261,16 @@ impl<W> Root<W> {
         self.fresh = std::mem::take(&mut self.for_table).then_some(now);
         if std::mem::take(&mut self.begins) && self.known && !self.draining {
             self.publisher.begin_round(self.config.harmless);
+            self.went_above = false;
+        }
+    }
+
+    /// Goes on above the number that is furthest ahead of those that agents have. Once in a round,
+    /// since whoever lies about it makes a whole table come.
+    pub fn hears(&mut self, number: u64) {
+        if !self.went_above && self.publisher.go_above(number) {
+            self.went_above = true;
+            fact!("numbers", "go on above {number}, which an agent has");
         }
     }
 

@@ -1,8 +1,10 @@
-//! What is known of the agents below: for watching alone. No step of a link depends on it.
+//! What is known of the agents below: for watching, and which numbers they have. No step of a link
+//! depends on it.
 //!
 //! Each agent sends its list up now and then, itself first and each agent after its parent, and its
 //! parent puts it behind its own.
 pub use rignolda::net::wire::REPORT_BYTES;
+use rignolda::settings::furthest;
 use rignoldactl::{ChildStatus, Seen, Status};
 use std::cmp::Reverse;
 use std::collections::BTreeMap;
@@ -40,6 +42,9 @@ fn read(child: &str, bytes: &[u8]) -> Option<Vec<Seen>> {
         is_new && depth <= DEPTH && depths.insert(seen.name.clone(), depth).is_none()
     });
     list[0].cut |= is_deeper;
+    // (an agent of before says none, nor what those below it say)
+    let all = list.iter().flat_map(|seen| [seen.sequence, seen.ahead]);
+    list[0].ahead = furthest(list[0].sequence, all);
     Some(list)
 }
 
@@ -54,6 +59,11 @@ impl Below {
         }
         let list = read(child, bytes);
         list.map(|list| self.0.insert(child.into(), (now, list))).is_some()
+    }
+
+    /// The number that is furthest ahead, of a child and those below it.
+    pub fn ahead(&self, child: &str) -> u64 {
+        self.0.get(child).map_or(0, |(_, list)| list[0].ahead)
     }
 
     /// How many agents they have.

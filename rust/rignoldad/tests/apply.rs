@@ -1,5 +1,5 @@
 //! The files of settings and their hooks.
-use rignolda::settings::Meaning;
+use rignolda::settings::{Heard, Meaning, Table, Taker};
 use rignoldad::apply::{refusal, Applied, Applier, Outcome};
 use rignoldad::config::Apply;
 use std::collections::BTreeMap;
@@ -70,23 +70,30 @@ const LOG: &str = "echo \"$1 $2 $(cat) $RIGNOLDA_SEQUENCE\" >>calls";
 
 /// What bodies say.
 trait Bodies {
+    fn says(&mut self, meaning: Meaning<'_>, number: u64, looks: bool, fills: bool);
     fn set(&mut self, key: &str, value: &[u8], sequence: u64);
     fn unset(&mut self, key: &str, sequence: u64);
     fn table<const N: usize>(&mut self, entries: [(&str, &[u8]); N], sequence: u64);
 }
 
 impl Bodies for Applier {
+    fn says(&mut self, meaning: Meaning<'_>, number: u64, looks: bool, fills: bool) {
+        let taker = Taker { number, whole: true, ..Taker::default() };
+        let heard = Heard { takes: true, applies: true, looks, fills, ..Heard::default() };
+        assert!(self.take(&meaning, &taker, heard));
+    }
+
     fn set(&mut self, key: &str, value: &[u8], sequence: u64) {
-        self.take(&Meaning::Changes(vec![(key, Some(value))]), sequence, false, false);
+        self.says(Meaning::Changes(vec![(key, Some(value))]), sequence, false, false);
     }
 
     fn unset(&mut self, key: &str, sequence: u64) {
-        self.take(&Meaning::Changes(vec![(key, None)]), sequence, false, false);
+        self.says(Meaning::Changes(vec![(key, None)]), sequence, false, false);
     }
 
     fn table<const N: usize>(&mut self, entries: [(&str, &[u8]); N], sequence: u64) {
         let entries = entries.map(|(key, value)| (key, Some(value)));
-        self.take(&Meaning::Table(entries.into()), sequence, true, false);
+        self.says(Meaning::Table(entries.into()), sequence, true, false);
     }
 }
 
@@ -234,7 +241,7 @@ fn a_table_between_rounds_looks_at_no_file_that_is_as_it_was_put() {
     fs::write(folder.join("unknown"), "1").unwrap();
     let between = |it: &mut Applier, sequence| {
         let entries = [("a", &b"1"[..]), ("b", b"4")].map(|(key, value)| (key, Some(value)));
-        it.take(&Meaning::Table(entries.into()), sequence, false, false);
+        it.says(Meaning::Table(entries.into()), sequence, false, false);
     };
     // (what changed, or is not named, is applied)
     between(&mut applier, 2);
@@ -524,7 +531,7 @@ fn a_table_that_fills_a_gap_is_applied_as_a_whole() {
     let config = place.with_hook("while ! [ -e go ]; do sleep 0.01; done; echo \"$2\" >>calls");
     let mut applier = start(&config);
     let entries = [("a", Some(&b"1"[..])), ("b", Some(b"2"))];
-    applier.take(&Meaning::Table(entries.into()), 9, true, true);
+    applier.says(Meaning::Table(entries.into()), 9, true, true);
     until(|| place.folder().join("b").exists() && !applier.is_busy());
     assert_eq!(applier.applied(9), 0);
     applier.set("c", b"3", 10);
@@ -557,4 +564,125 @@ fn nothing_counts_as_applied_until_a_table_follows_what_a_refused_folder_dropped
     applier.table([("a", b"1"), ("b", b"2"), ("c", b"3")], 3);
     applied(&mut applier, 3);
     assert_eq!((applier.failing(), place.files().len()), (0, 3));
+}
+
+/// An agent's memory of bodies, and its files.
+struct Life(Table, Applier);
+
+impl Life {
+    fn begins(config: &Apply) -> Life {
+        let (mut table, applier) = (Table::default(), start(config));
+        table.taker.floor = applier.floor();
+        Life(table, applier)
+    }
+
+    /// A body comes. Where it is applied, that is waited for.
+    fn hears(&mut self, number: u64, meaning: Meaning<'_>) {
+        assert!(self.0.takes(number, &meaning));
+        assert!(self.1.take(&meaning, &self.0.taker, self.0.heard));
+        if self.0.heard.applies {
+            until(|| self.1.applied(number) == number);
+            self.1.done();
+        }
+        assert_eq!(self.1.applied(number) == number, self.0.heard.applies);
+    }
+
+    fn changes(&mut self, number: u64, key: &str, value: &str) {
+        self.hears(number, Meaning::Changes(vec![(key, Some(value.as_bytes()))]));
+    }
+
+    fn table(&mut self, number: u64, key: &str, value: &str) {
+        self.hears(number, Meaning::Table(vec![(key, Some(value.as_bytes()))]));
+    }
+}
+
+#[test]
+fn an_agent_that_begins_anew_applies_nothing_older_than_its_files() {
+    let place = Place::new();
+    let config = place.with_hook(LOG);
+    let mut life = Life::begins(&config);
+    life.table(100, "colour", "red");
+    life.changes(101, "colour", "blue");
+    drop(life);
+    let marker = fs::read_to_string(place.folder().join(".rignolda")).unwrap();
+    assert_eq!(marker.trim_end().parse(), Ok(101));
+    // (its parent begins with the last whole table)
+    let mut life = Life::begins(&config);
+    assert_eq!(life.0.taker.floor, 101);
+    life.table(100, "colour", "red");
+    assert!(!life.1.is_busy());
+    life.changes(101, "colour", "blue");
+    assert_eq!(place.files(), map([("colour", "blue")]));
+    life.changes(102, "colour", "green");
+    assert_eq!(
+        place.calls(),
+        ["set colour red 100", "set colour blue 101", "set colour green 102"]
+    );
+}
+
+#[test]
+fn what_waits_is_applied_together() {
+    let place = Place::new();
+    let config = place.with_hook(LOG);
+    fs::create_dir(place.folder()).unwrap();
+    fs::write(place.folder().join(".rignolda"), "9").unwrap();
+    fs::write(place.folder().join("a"), "spoiled").unwrap();
+    let mut life = Life::begins(&config);
+    life.table(6, "a", "1");
+    life.changes(7, "b", "1");
+    life.changes(8, "b", "2");
+    assert_eq!(place.files(), map([("a", "spoiled")]));
+    // (whatever kind of body comes up to the number)
+    life.hears(9, Meaning::Harmless);
+    assert_eq!(place.files(), map([("a", "1"), ("b", "2")]));
+    until(|| place.calls().len() == 2);
+    let mut calls = place.calls();
+    calls.sort();
+    assert_eq!(calls, ["set a 1 6", "set b 2 8"]);
+}
+
+#[test]
+fn what_waits_goes_where_something_after_it_is_missing() {
+    let place = Place::new();
+    let mut life = Life::begins(&place.config());
+    life.changes(9, "a", "new");
+    drop(life);
+    let mut life = Life::begins(&place.config());
+    // (8 is missing, and may have set `a` anew)
+    life.changes(7, "a", "old");
+    life.changes(10, "b", "2");
+    assert_eq!(place.files(), map([("a", "new"), ("b", "2")]));
+}
+
+#[test]
+fn a_marker_that_cannot_be_read_holds_nothing_back() {
+    let spoiled: [&[u8]; 6] = [b"", b"\n", b"7 8", b"-7", b"18446744073709551616", &[b'7'; 99]];
+    for bytes in spoiled {
+        let place = Place::new();
+        fs::create_dir(place.folder()).unwrap();
+        let marker = place.folder().join(".rignolda");
+        fs::write(&marker, bytes).unwrap();
+        let mut life = Life::begins(&place.config());
+        assert_eq!(life.0.taker.floor, 0, "{bytes:?}");
+        life.table(3, "a", "1");
+        assert_eq!(fs::read_to_string(&marker).unwrap().trim_end().parse(), Ok(3));
+    }
+}
+
+#[test]
+fn whatever_is_in_the_place_of_the_marker_is_replaced() {
+    let place = Place::new();
+    let (marker, elsewhere) = (place.folder().join(".rignolda"), place.0.join("elsewhere"));
+    let mut life = Life::begins(&place.config());
+    for number in 1..5 {
+        life.table(number, "a", "1");
+        assert_eq!(life.1.floor(), number);
+        fs::remove_file(&marker).unwrap();
+        match number {
+            1 => fs::create_dir_all(marker.join("folder")).unwrap(),
+            2 => symlink(&elsewhere, &marker).unwrap(),
+            _ => fs::write(&marker, [b'9'; 99]).unwrap(),
+        }
+    }
+    assert!(!elsewhere.exists());
 }

@@ -9,7 +9,7 @@ use std::path::Path;
 
 /// O_NONBLOCK and O_NOFOLLOW of Linux: a pipe would never end, and what a link points to may be a
 /// secret of whoever reads here.
-const AS_IT_IS: i32 = 0o4_000
+pub(super) const AS_IT_IS: i32 = 0o4_000
     | if cfg!(any(target_arch = "aarch64", target_arch = "arm")) {
         0o100_000
     } else {

@@ -1,5 +1,5 @@
 //! Changes that wait to be applied.
-use super::{is_key, Meaning};
+use super::{is_key, older, Meaning};
 use std::collections::BTreeMap;
 use std::ops::{Deref, Range};
 use std::sync::Arc;
@@ -75,7 +75,9 @@ impl Waiting {
                 let values: Vec<&[u8]> = entries.iter().filter_map(|(_, value)| *value).collect();
                 let (all, mut end) = (Arc::new(values.concat()), 0);
                 // (whatever waited waits for this table now)
-                let first = self.first().map_or(sequence, |first| first.min(sequence));
+                let first = self
+                    .first()
+                    .map_or(sequence, |first| older(first, sequence));
                 self.changes.clear();
                 self.whole = Some((first, sequence));
                 for (key, value) in entries {
@@ -93,10 +95,10 @@ impl Waiting {
     /// What waits may be older than all numbers: a whole table that makes up for what was left out
     /// brings changes of before.
     pub fn is_from_before(&mut self) {
-        self.whole = self.whole.map(|(_, last)| (1, last));
+        self.whole = self.whole.map(|(_, last)| (0, last));
         self.changes
             .values_mut()
-            .for_each(|change| change.first = 1);
+            .for_each(|change| change.first = 0);
     }
 
     /// How many changes wait.
@@ -107,7 +109,7 @@ impl Waiting {
     /// Puts a change in the place of the one of its key that waits.
     pub fn put(&mut self, key: &str, mut change: Change) {
         if let Some(before) = self.changes.get(key) {
-            change.first = change.first.min(before.first);
+            change.first = older(change.first, before.first);
         }
         if is_key(key) {
             self.changes.insert(key.into(), change);
@@ -137,7 +139,7 @@ impl Waiting {
             .values()
             .map(|change| change.first)
             .chain(whole)
-            .min()
+            .reduce(older)
     }
 
     /// Whether a change of this key waits.
@@ -153,7 +155,10 @@ impl Waiting {
     /// Takes out the one that has waited longest of those whose keys may go.
     pub fn pop_of(&mut self, may_go: impl Fn(&str) -> bool) -> Option<(String, Change)> {
         let changes = self.changes.iter().filter(|(key, _)| may_go(key));
-        let oldest = changes.min_by_key(|(_, change)| change.first);
+        let oldest = changes.reduce(|one, other| {
+            let is_older = older(one.1.first, other.1.first) == one.1.first;
+            [other, one][usize::from(is_older)]
+        });
         let key = oldest?.0.clone();
         self.changes.remove_entry(&key)
     }
@@ -161,7 +166,9 @@ impl Waiting {
     /// All changes, in the order in which they were published.
     pub fn in_order(self) -> Vec<(String, Change)> {
         let mut all: Vec<_> = self.changes.into_iter().collect();
-        all.sort_by_key(|(_, change)| change.last);
+        // (counted from one of them, since numbers go round)
+        let from = all.first().map_or(0, |(_, change)| change.last);
+        all.sort_by_key(|(_, change)| change.last.wrapping_sub(from) as i64);
         all
     }
 }
