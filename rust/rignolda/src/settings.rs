@@ -525,7 +525,7 @@ impl Publisher {
 
     /// A round with `harmless` harmless items begins, unless one is under way. Where the deepest
     /// agent is `d` links below the root, `2 * d + 3` are enough: more than can be missing after a
-    /// fault, so that an agent whose own number is wrong gets some of them.
+    /// fault, so that each agent gets some of them.
     pub fn begin_round(&mut self, harmless: u32) {
         let items = u64::from(harmless) + 1;
         if !self.is_in_a_round() || self.round > items {

@@ -106,8 +106,8 @@ pub fn bounds(list: &[Seen]) -> Vec<Bounds> {
         .collect()
 }
 
-/// How many harmless items a round needs for these agents: the sharper bound of the deepest, and
-/// two for one whose own memory of the numbers is wrong.
+/// How many harmless items a round needs for these agents: the sharper bound of the deepest, one by
+/// which it is known to be a round, and one to spare.
 pub fn harmless_needed(list: &[Seen]) -> u64 {
     bounds(list).iter().map(|bounds| bounds.n).max().map_or(0, |most| most + 2)
 }

@@ -292,7 +292,7 @@ fn keep_files(shared: &Shared) {
         let lacks = shared.lock().failing.get(MARKER).cloned().filter(|_| !files.is_whole());
         let refused = refused.map(Outcome::File).or(lacks);
         // (else older ones could follow what is written now, by a process that is ended meanwhile)
-        let outcome = refused.unwrap_or_else(|| mark(&folder, &shared.folder, floor));
+        let outcome = refused.unwrap_or_else(|| mark(&folder, floor));
         is_taken = outcome == Outcome::Done;
         if !is_taken || shared.lock().failing.contains_key(MARKER) {
             let (mut state, sequence) = (shared.lock(), files.first().unwrap_or(0));
@@ -326,9 +326,9 @@ fn keep_files(shared: &Shared) {
 }
 
 /// Says in the folder that it is an agent's, and up to which number its files will be.
-fn mark(folder: &Folder, path: &Path, floor: u64) -> Outcome {
+fn mark(folder: &Folder, floor: u64) -> Outcome {
     let _ = folder.mend();
-    let marked = write_floor(&path.join(MARKER), floor);
+    let marked = write_floor(&folder.path().join(MARKER), floor);
     marked.map_or_else(|error| Outcome::File(error.to_string()), |()| Outcome::Done)
 }
 

@@ -94,6 +94,40 @@ fn an_agent_lacks_what_it_has_not_applied() {
 }
 
 #[test]
+fn numbers_go_round_there_too() {
+    let mut list = tree(Instant::now());
+    for (applied, sequence, lacking) in
+        [(u64::MAX, u64::MAX, false), (u64::MAX, 1, true), (1, u64::MAX, false), (0, 1, true)]
+    {
+        list[4].applied = applied;
+        assert_eq!(lacks(&list[4], sequence).is_some(), lacking, "{applied} {sequence}");
+    }
+    (list[0].changed, list[4].applied, list[3].applied) = (3, u64::MAX, 4);
+    let text = tree_text(&list);
+    let lag = |at: usize| text.lines().nth(at).unwrap().split_whitespace().nth(1).unwrap();
+    assert_eq!((lag(5), lag(4)), ("4", "0"), "{text}");
+}
+
+#[test]
+fn of_a_list_the_number_that_is_furthest_ahead_counts() {
+    let heard = |list: &str| {
+        let mut below = Below::default();
+        assert!(below.heard("a", list.as_bytes(), Instant::now()));
+        below.ahead("a")
+    };
+    assert_eq!(heard(r#"[{"name":"a","sequence":7,"ahead":70}]"#), 70);
+    // (agents of before say none)
+    assert_eq!(heard(r#"[{"name":"a","sequence":7}]"#), 7);
+    let below = r#"{"name":"b","parent":"a","sequence":12}"#;
+    assert_eq!(heard(&format!(r#"[{{"name":"a","sequence":7}},{below}]"#)), 12);
+    assert_eq!(heard(&format!(r#"[{{"name":"a","sequence":7,"ahead":9}},{below}]"#)), 12);
+    assert_eq!(heard(&format!(r#"[{{"name":"a","sequence":50}},{below}]"#)), 50);
+    let last = u64::MAX;
+    assert_eq!(heard(&format!(r#"[{{"name":"a","sequence":{last}}},{below}]"#)), 12);
+    assert_eq!(Below::default().ahead("a"), 0);
+}
+
+#[test]
 fn refuses_a_list_that_is_none() {
     let mut now = Instant::now();
     let seen = |name: &str, parent: &str| Seen {
