@@ -35,7 +35,7 @@ IN_C = "-std=gnu11", "-O2", *WARNED
 LISTS = [(16, it) for it in (0, 4294917296, 9999950000, 9223372036854725808, 2**64 - 1)]
 LISTS += [(places, 0) for places in (1, 2, 3, 7, 4096)]
 # The rows of the header's table of what to call when nothing comes: each of them is needed.
-ROWS = "connection", "number", "child", "receiver", "list"
+ROWS = "connection", "number", "child", "sender", "receiver", "list"
 # What is said to somebody who gives other words to agents/run_tree than it takes.
 REFUSED = (
     ("a capacity of 3", "has room for a power of two of messages: 1, 2, 4, 8, 16, 32, 64",

@@ -7,9 +7,10 @@
  * of each to its limits, and then all bits of all structs in ROUNDS drawn patterns. The agents go
  * on, and call what the table of rignolda.h says where nothing comes. After a number of steps that
  * is the same for all patterns, every item that is published has to come to the last agent, in its
- * order and once. With a rule of the table left out that has to fail for some pattern, and the
- * program says for how many, and returns 1. Where no bits are changed, and connections break as
- * they like, the table may lead no end to a new count.
+ * order and once. Then the same is tried of one link alone, between a sender and a receiver without
+ * nodes. With a rule of the table left out it has to fail for some pattern, and the program says
+ * for how many, and returns 1. Where no bits are changed, and connections break as they like, the
+ * table may lead no end to a new count.
  */
 #include "rignolda.h"
 
@@ -45,13 +46,15 @@ struct world {
 };
 
 /* The rules of the table, each of which may be left out. */
-static const char *const RULES[] = {"connection", "number", "child", "receiver", "list"};
-enum { CONNECTION, NUMBER, CHILD, RECEIVER, LIST, COUNT };
+static const char *const RULES[] = {"connection", "number", "child", "sender", "receiver", "list"};
+enum { CONNECTION, NUMBER, CHILD, SENDER, RECEIVER, LIST, COUNT };
 static int left_out = COUNT;
 
 static const rignolda_params params = {1, 4};
 static uint64_t state;
 static unsigned long begun_anew; /* how often an end began a new count */
+static bool is_alone;            /* a sender and a receiver without nodes */
+static uint32_t next, end;       /* the item that is published next, and where that ends */
 
 static uint64_t draw(void) {
     state ^= state << 13, state ^= state >> 7, state ^= state << 17;
@@ -113,6 +116,17 @@ static void look_down(struct agent *it, uint32_t *list, struct line *line) {
         begin_child_anew(it);
 }
 
+/* The receiver answers where it may. */
+static void answer(struct agent *it, struct line *line) {
+    bool may_send = it->above.there && it->above.turn;
+    if (rignolda_session_ack(&it->node.above, &it->above, &line->label))
+        line->has_label = true;
+    else if (left_out != RECEIVER && may_send) {
+        rignolda_receiver_init(&it->node.above, it->node.above.label);
+        begun_anew++;
+    }
+}
+
 /* What the child does on the link to its parent. An item that is new is passed to `came`. */
 static void look_up(struct agent *it, uint32_t *list, struct line *line, bool is_last,
                     void (*came)(uint32_t)) {
@@ -125,13 +139,37 @@ static void look_up(struct agent *it, uint32_t *list, struct line *line, bool is
         else
             begin_list_anew(it);
     }
-    bool may_send = it->above.there && it->above.turn;
-    if (rignolda_session_ack(&it->node.above, &it->above, &line->label))
-        line->has_label = true;
-    else if (left_out != RECEIVER && may_send) {
-        rignolda_receiver_init(&it->node.above, it->node.above.label);
+    answer(it, line);
+}
+
+/* The same of a sender alone, which is offered the items that are published. */
+static void look_down_alone(struct agent *it, struct line *line) {
+    rignolda_sender *sender = &it->child.sender;
+    if (line->has_label) {
+        line->has_label = false, line->quiet = 0;
+        rignolda_session_on_ack(sender, &it->below, &params, line->above, line->label);
+    }
+    bool may_send = it->below.there && it->below.turn;
+    if (rignolda_session_send(sender, &it->below, &line->frame))
+        line->has_frame = true;
+    else if (may_send && next != end && rignolda_sender_offer(sender, next))
+        next++;
+    else if (left_out != SENDER && may_send && next != end) {
+        rignolda_sender_init(sender, (uint16_t)(draw() >> 48));
         begun_anew++;
     }
+}
+
+/* And of a receiver alone. */
+static void look_up_alone(struct agent *it, struct line *line, void (*came)(uint32_t)) {
+    uint32_t item;
+    if (line->has_frame) {
+        line->has_frame = false, line->quiet = 0;
+        if (rignolda_session_on_frame(&it->node.above, &it->above, line->below, &line->frame,
+                                      &item))
+            came(item);
+    }
+    answer(it, line);
 }
 
 static bool publish(struct agent *it, uint32_t *list, uint32_t item) {
@@ -144,7 +182,7 @@ static bool publish(struct agent *it, uint32_t *list, uint32_t item) {
 
 /* ---- Runs */
 
-static uint32_t next, first, expected;
+static uint32_t first, expected;
 static bool in_order;
 
 static void nowhere(uint32_t item) { (void)item; }
@@ -156,28 +194,37 @@ static void at_last(uint32_t item) {
     in_order &= item == expected++;
 }
 
+/* An end that has a backlog waits for an answer. */
+static bool waits(const struct agent *it) {
+    return is_alone ? it->child.sender.holding || next != end
+                    : rignolda_node_backlog(&it->node, &it->child, PLACES) > 0;
+}
+
 static void step(struct world *it) {
-    for (int i = 0; i < LINKS; i++) {
+    if (!is_alone && next != end)
+        next += publish(&it->agents[0], it->lists[0], next);
+    for (int i = 0; i < (is_alone ? 1 : LINKS); i++) {
         struct agent *above = &it->agents[i], *below = &it->agents[i + 1];
+        struct line *line = &it->lines[i];
         bool is_last = i + 1 == AGENTS - 1;
-        look_down(above, it->lists[i], &it->lines[i]);
-        look_up(below, it->lists[i + 1], &it->lines[i], is_last, is_last ? at_last : nowhere);
-        /* (an end that has a backlog waits for an answer) */
-        bool waits = rignolda_node_backlog(&above->node, &above->child, PLACES) > 0;
-        it->lines[i].quiet = waits ? it->lines[i].quiet + 1 : 0;
-        if (left_out != CONNECTION && it->lines[i].quiet > SILENCE)
-            connect_ends(above, &it->lines[i], below);
+        if (is_alone) {
+            look_down_alone(above, line);
+            look_up_alone(below, line, at_last);
+        } else {
+            look_down(above, it->lists[i], line);
+            look_up(below, it->lists[i + 1], line, is_last, is_last ? at_last : nowhere);
+        }
+        line->quiet = waits(above) ? line->quiet + 1 : 0;
+        if (left_out != CONNECTION && line->quiet > SILENCE)
+            connect_ends(above, line, below);
     }
 }
 
 /* Publishes so many items, one as soon as there is room, in a bounded number of steps. */
 static void go_on(struct world *it, uint32_t items) {
-    uint32_t end = next + items;
-    for (int k = 0; k < CALM; k++) {
-        if (next != end)
-            next += publish(&it->agents[0], it->lists[0], next);
+    end = next + items;
+    for (int k = 0; k < CALM; k++)
         step(it);
-    }
 }
 
 /* Whether items arrive in the end in such a world. */
@@ -192,14 +239,12 @@ static bool arrives(struct world *it) {
 
 /* Connections break at drawn moments, and lose what is under way. */
 static bool is_sound(struct world *it) {
-    uint32_t end = next + 1000;
+    end = next + 1000;
     first = expected = next, in_order = true, begun_anew = 0;
     for (int k = 0; k < 20000; k++) {
-        if (next != end)
-            next += publish(&it->agents[0], it->lists[0], next);
         step(it);
         uint64_t which = draw() >> 60;
-        if (which < LINKS)
+        if (which < (is_alone ? 1 : LINKS))
             connect_ends(&it->agents[which], &it->lines[which], &it->agents[which + 1]);
     }
     return begun_anew == 0 && in_order && expected == end;
@@ -302,23 +347,13 @@ static void try_drawn(const struct world *it) {
     try(&spoiled);
 }
 
-int main(int count, char **words) {
-    if (count != 3 && count != 5)
-        return 2;
-    unsigned long rounds = strtoul(words[1], 0, 10);
-    state = strtoul(words[2], 0, 10) * 2 + 1;
-    if (count == 5)
-        for (left_out = 0; left_out < COUNT && strcmp(RULES[left_out], words[4]) != 0;)
-            left_out++;
-    if (count == 5 && left_out == COUNT)
-        return 2;
-    next = 1 << 20;
-    int leave_out = left_out;
+/* Tries all patterns. */
+static void try_all(unsigned long rounds, int leave_out) {
     left_out = COUNT;
     struct world it = sound();
     if (!is_sound(&it)) {
         printf("something is lost or begun anew where no bits are changed\n");
-        return 2;
+        exit(2);
     }
     left_out = leave_out;
     for (int agent = 0; agent < AGENTS; agent++)
@@ -331,6 +366,23 @@ int main(int count, char **words) {
         try_drawn(&it);
     if (stuck > before)
         printf("drawn: %lu of %lu patterns\n", stuck - before, rounds);
+}
+
+int main(int count, char **words) {
+    if (count != 3 && count != 5)
+        return 2;
+    unsigned long rounds = strtoul(words[1], 0, 10);
+    state = strtoul(words[2], 0, 10) * 2 + 1;
+    if (count == 5)
+        for (left_out = 0; left_out < COUNT && strcmp(RULES[left_out], words[4]) != 0;)
+            left_out++;
+    if (count == 5 && left_out == COUNT)
+        return 2;
+    next = 1 << 20;
+    int leave_out = left_out;
+    try_all(rounds, leave_out);
+    is_alone = true;
+    try_all(rounds, leave_out);
     printf("%lu patterns, and after %lu of them items do not arrive\n", tried, stuck);
     return stuck > 0;
 }
