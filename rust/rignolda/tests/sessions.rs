@@ -237,6 +237,34 @@ fn a_child_that_comes_back_leaves_its_connection() {
     assert_eq!(link.poll(&root).map(|frame| frame.item), Some(9));
 }
 
+/// An end that may send, and does not, says that it is closed: made anew it takes items again.
+#[test]
+fn a_closed_end_is_seen_in_its_turn() {
+    let params = Params::new(1, 4).unwrap();
+    let mut root = Node::new(0, 2);
+    let mut link = Session::new(root.child(params, 0, 0));
+    let mut leaf = Session::new(Node::new(3, 2));
+    link.close();
+    leaf.close();
+    assert!(root.publish(7));
+
+    // (the leaf accepts, and has the first turn)
+    let (at_root, at_leaf) = (link.made().unwrap(), leaf.accepted().unwrap());
+    assert!(leaf.is_in_turn() && leaf.ack().is_none());
+    leaf.open();
+    let label = leaf.ack().unwrap();
+    assert!(!leaf.is_in_turn() && !link.is_in_turn());
+    assert!(!link.on_ack(at_root, label) && link.is_in_turn());
+    assert!(link.poll(&root).is_none() && root.backlog(link.end()) == 1);
+
+    link.renew(root.child(params, 0, 1));
+    assert!(leaf.ended(at_leaf));
+    let (at_root, at_leaf) = (link.accepted().unwrap(), leaf.made().unwrap());
+    assert!(leaf.on_frame(at_leaf, link.poll(&root).unwrap()));
+    assert!(link.on_ack(at_root, leaf.ack().unwrap()));
+    assert!(leaf.items().eq([7]) && root.backlog(link.end()) == 0);
+}
+
 /// The types can be moved to and shared with other threads.
 #[test]
 fn nodes_ends_and_sessions_are_send_and_sync() {
