@@ -500,9 +500,9 @@ RIGNOLDA_CALL bool rignolda_session_node_on_frame(rignolda_node *node, rignolda_
  *     have, one new connection and one exchange on it acknowledge the item that waits.
  *   - each_exchange_hands_on_an_item: from there on each exchange acknowledges one item more, and
  *     all are delivered in their order, but for the first if the receiver had its label already.
- *   - a_path_hands_on_everything_from_any_state: on a path that gets new connections, an exchange on
- *     each link, from the upper end down, leaves one item less in its backlogs, all taken together.
- *     So as many of these as there are items leave none, where nobody publishes meanwhile.
+ *   - a_path_hands_on_everything_from_any_state: on a path that gets new connections, an exchange
+ *     on each link, from the upper end down, leaves one item less in its backlogs, all taken
+ *     together. So as many of these as there are items leave none, where nobody publishes meanwhile.
  */
 
 /* ---- Words: a link in two places of a store ---- */
@@ -516,7 +516,10 @@ RIGNOLDA_CALL bool rignolda_session_node_on_frame(rignolda_node *node, rignolda_
  * and each set takes effect at one moment (the store is linearizable), such a link is a line of
  * capacity 1, whatever the two places held when the count began. So the laws above are about it.
  * registers_obey_the_law_of_their_start: where both were empty, no stray is delivered, and of the
- * acknowledged items only the first one can be missing.
+ * acknowledged items only the first one can be missing. And of progress_laws, from any state of two
+ * open ends and any words: an_exchange_of_registers_acknowledges_the_item, the one that waits,
+ * where each end sets its place and then the other one gets it. Of an end that is closed, or left
+ * behind, the table above says what to call: here an end may always send.
  *
  * The word of a frame is 2^48 + label * 2^32 + item, and of an acknowledgement 2^16 + label. Any
  * other number shows nothing, such as 0, which an empty place can hold.

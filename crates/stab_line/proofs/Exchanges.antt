@@ -12,7 +12,7 @@ use Rattle.stab_line.specs.Session.{Session, session_on}
 use Rattle.stab_line.specs.SessionActs.{IsFrameHandled, IsAckHandled}
 use Rattle.stab_line.specs.SessionLink.{SessionLink, connection_step, link_run, receives_frame, receives_ack, ack_sent, frame_comes, ack_comes}
 
-itself : (n : ℕ) → (n == n) ≡ true
+pub itself : (n : ℕ) → (n == n) ≡ true
 itself n = eq-eqb n n refl
 
 pub put_here : {A : Type 0} (entries : ℕ → A) (n : ℕ) (entry : A) → put entries n entry n ≡ entry
@@ -64,11 +64,11 @@ ack_handled p before n turn label t rest is_front =
 
 -- ---- one exchange
 
-abbrev holding : ℕ → ℕ → SenderEnd
+abbrev pub holding : ℕ → ℕ → SenderEnd
 holding label item = record { state = record { label = label; item = Some item }; closed = false }
 
 -- after a frame an open receiver remembers its label, whether it took it or had it
-remembers : (label remembered item : ℕ) → after_frame (new_receiver remembered) (record { label = label; item = item }) ≡ new_receiver label
+pub remembers : (label remembered item : ℕ) → after_frame (new_receiver remembered) (record { label = label; item = item }) ≡ new_receiver label
 remembers label remembered item = by_same (label == remembered) refl
   where
     by_same : (same : Bool) → (label == remembered) ≡ same

@@ -17,5 +17,6 @@ pub mod Places
 pub mod WholeLists
 pub mod Exchanges
 pub mod Connecting
+pub mod RegisterExchanges
 pub mod PolledLinks
 pub mod Passes

@@ -1,7 +1,9 @@
 -- One exchange on a connection, in which nothing is lost: the sender's end is asked what to send,
--- its frame comes, the receiver's end answers, and the answer comes.
+-- its frame comes, the receiver's end answers, and the answer comes. Then the same of registers.
 -- Source: this project's own.
 use Rattle.std.specs.Prelude.{◌≡◌, ℕ, Bool, true, false, List, [], ◌∷◌, ◌++◌, map}
+use Rattle.stab_line.specs.Registers.{RegisterAct, sets_frame, gets_frame, is_given_frame}
+use Rattle.stab_line.specs.Registers.{sets_ack, gets_ack, is_given_ack}
 use Rattle.stab_line.specs.Session.{session_on}
 use Rattle.stab_line.specs.SessionLink.{SessionLink, LinkAct, ConnectionAct, item_offered}
 use Rattle.stab_line.specs.SessionLink.{happens, unused}
@@ -43,3 +45,8 @@ exchange n = map happens (exchange_acts n)
 abbrev pub exchanges : ℕ → List ℕ → List LinkAct
 exchanges n [] = []
 exchanges n (item ∷ items) = item_offered item ∷ exchange n ++ exchanges n items
+
+-- the same of a link in two registers: each end sets its own, and then the other end gets it
+abbrev pub register_exchange : List RegisterAct
+register_exchange =
+    sets_frame ∷ gets_frame ∷ is_given_frame ∷ sets_ack ∷ gets_ack ∷ is_given_ack ∷ []

@@ -2,14 +2,15 @@
 //! its two ends. Each is a function with an empty body; its contract is the law.
 
 ghost use Rattle.std.specs.Prelude.{◌≡◌, ℕ, ◌+◌, ◌-◌, ◌≤◌, ◌==◌, Bool, not, if◌then◌else◌, List};
-ghost use Rattle.std.specs.Prelude.{◌++◌, None, Some, drop, length};
+ghost use Rattle.std.specs.Prelude.{◌++◌, None, Some, drop, false, length};
 ghost use Rattle.stab_frames.specs.Parameters.{AreLawful, Parameters, next};
 ghost use Rattle.stab_line.specs.Ends.{new_receiver, new_sender};
 ghost use Rattle.stab_line.specs.Line.{with_taken};
 ghost use Rattle.stab_line.specs.Passes.{AllMayConnect, AllMaySend, IsPath, PathLink, all_connect};
 ghost use Rattle.stab_line.specs.Passes.{backlogs, pass, passes};
 ghost use Rattle.stab_line.specs.Progress.{AreOpen, IsNew, IsSendersTurn, connects, exchange};
-ghost use Rattle.stab_line.specs.Progress.{exchanges};
+ghost use Rattle.stab_line.specs.Progress.{exchanges, register_exchange};
+ghost use Rattle.stab_line.specs.Registers.{Registers, register_run};
 ghost use Rattle.stab_line.specs.SessionLink.{SessionLink, link_run};
 ghost use Rattle.stab_line.specs.SessionTree.{SessionTree, tree_run};
 ghost use Rattle.stab_treecore.specs.Network.{IsNetwork, Network};
@@ -54,6 +55,19 @@ pub fn each_exchange_hands_on_an_item()
         × (after.delivered ≡ t.delivered ++ (if t.sender.state.label == t.receiver.label
         then drop 1 items else items))
         × (after.sender.state.item ≡ None) × IsSendersTurn after n }
+{}
+
+/// So does one exchange of a link in two registers, whatever they show before it, where both ends
+/// have been given what they got.
+pub fn an_exchange_of_registers_acknowledges_the_item()
+    ensures { (p : Parameters) (r : Registers) (item : ℕ)
+        → r.sender.closed ≡ false → r.receiver.closed ≡ false → r.ack_got ≡ None
+        → r.frame_got ≡ None → r.sender.state.item ≡ Some item
+        → let after = register_run p r register_exchange in
+        let label : ℕ = r.sender.state.label in
+        (after.acked ≡ r.acked + 1) × (after.sender ≡ new_sender (next p label))
+        × (after.receiver ≡ new_receiver label)
+        × (after.delivered ≡ with_taken (not (label == r.receiver.label)) r.delivered item) }
 {}
 
 /// Each pass over a path leaves one item less in its backlogs, all taken together, until none is
