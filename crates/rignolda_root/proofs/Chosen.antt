@@ -1,17 +1,18 @@
 -- Which body comes next, by cases.
-use Rattle.std.proofs.Common.{◌≡◌, ℕ, suc, ◌+◌, ◌<◌, Bool, true, false, Option, Some, None, refl, sym, ap, subst, arith, max, min, nat_lt, lt-ltb, le-ltb}
+use Rattle.std.proofs.Common.{◌≡◌, ◌≤◌, ◌∙◌, ℕ, suc, ◌<◌, Bool, true, false, Option, Some, None, refl, sym, ap, subst, arith, max, min, nat_lt, lt-ltb, le-ltb}
 use Rattle.std.proofs.lemmas.Bool.{lt-leb}
 use Rattle.std.specs.Prelude.{if◌then◌else◌, ◌&&◌, ◌||◌, ◌==◌, nat_le, not}
 use Rattle.rignolda_root.specs.declared.publisher.Next.{Next}
 use Rattle.rignolda_root.specs.declared.publisher.Next.TheVariants.{Nothing, Harmless, Changes, Whole}
-use Rattle.rignolda_root.specs.Publishers.{Publisher, is_in_a_round, waits, is_table_due, round_goes_on, is_table_next, next, most_harmless}
-use Rattle.rignolda_root.specs.Runs.{asked_for}
+use Rattle.rignolda_root.specs.Publishers.{Publisher, is_in_a_round, waits, is_table_due, round_goes_on, is_table_next, next, most_harmless, round_of}
+use Rattle.rignolda_root.specs.Runs.{IsNoShorter, asked_for}
 
--- in a round, another one that is asked for changes nothing
-pub asked_in : (p : Publisher) (asked : Option ℕ) (n : ℕ) → p.left ≡ suc n → asked_for p asked ≡ p
-asked_in p None n left = refl
-asked_in p (Some harmless) n left =
-    ap (λ b. if b then p else record p { left = min harmless most_harmless + 1; rounds_turn = false }) (lt-ltb 0 p.left (omega arith))
+-- in a round, another one that is asked for changes nothing, if it is no shorter
+pub asked_in : (p : Publisher) (asked : Option ℕ) (n h : ℕ) → p.left ≡ suc n → n ≤ h → h ≤ most_harmless → IsNoShorter h asked → asked_for p asked ≡ p
+asked_in p None n h left within few longer = refl
+asked_in p (Some harmless) n h left within few longer =
+    ap (λ b. if b then record p { left = min p.left (round_of harmless) } else record p { left = round_of harmless; rounds_turn = false }) (lt-ltb 0 p.left (omega arith))
+    ∙ ap (λ l. record p { left = l }) (let same : min p.left (round_of harmless) ≡ p.left = omega arith in same)
 
 begun_turn : (b : Bool) (p q : Publisher) → p.rounds_turn ≡ false → q.rounds_turn ≡ false → (if b then p else q).rounds_turn ≡ false
 begun_turn true p q here there = here
@@ -20,7 +21,7 @@ begun_turn false p q here there = there
 -- a round that is asked for lets changes go first
 pub asked_turn : (p : Publisher) (asked : Option ℕ) → p.rounds_turn ≡ false → (asked_for p asked).rounds_turn ≡ false
 asked_turn p None turn = turn
-asked_turn p (Some harmless) turn = begun_turn (is_in_a_round p) p _ turn refl
+asked_turn p (Some harmless) turn = begun_turn (is_in_a_round p) _ _ turn refl
 
 -- ---- tests
 

@@ -1,20 +1,21 @@
 -- The numbers of a run.
 use Rattle.std.proofs.Common.{◌≡◌, ℕ, suc, ◌+◌, ◌^◌, ◌<◌, ◌≤◌, Bool, true, false, List, [], ◌∷◌, length, Option, Some, None, refl, ◌∙◌, ap, subst, arith}
-use Rattle.std.specs.Prelude.{if◌then◌else◌}
+use Rattle.std.specs.Prelude.{if◌then◌else◌, ◌==◌}
 use Rattle.std.specs.List.{AllByRecursion}
 use Rattle.rignolda_root.specs.declared.publisher.Next.{Next}
 use Rattle.rignolda_root.specs.declared.publisher.Next.TheVariants.{Nothing, Harmless, Changes, Whole}
-use Rattle.rignolda_root.specs.Publishers.{Publisher, after_body, after_number, is_in_a_round}
+use Rattle.rignolda_agent.specs.Numbers.{next as after_number}
+use Rattle.rignolda_root.specs.Publishers.{Publisher, after_body, is_in_a_round}
 use Rattle.rignolda_root.specs.Runs.{Root, Call, asked_for, before, body, after_call, with_number, numbers, FollowEachOther}
 
 -- a round that is asked for has no number
-begun_if : (b : Bool) (p q : Publisher) → q.number ≡ p.number → (if b then p else q).number ≡ p.number
-begun_if true p q is = refl
-begun_if false p q is = is
+begun_if : (b : Bool) (n : ℕ) (p q : Publisher) → p.number ≡ n → q.number ≡ n → (if b then p else q).number ≡ n
+begun_if true n p q here there = here
+begun_if false n p q here there = there
 
 asked_number : (p : Publisher) (asked : Option ℕ) → (asked_for p asked).number ≡ p.number
 asked_number p None = refl
-asked_number p (Some harmless) = begun_if (is_in_a_round p) p _ refl
+asked_number p (Some harmless) = begun_if (is_in_a_round p) p.number _ _ refl refl
 
 abbrev number_by : Next → ℕ → ℕ
 number_by Nothing n = n
@@ -51,17 +52,24 @@ few : (r : Root) (calls : List Call) → length (numbers r calls) ≤ length cal
 few r [] = omega arith
 few r (c ∷ cs) = few_if (body r c) _ _ (length cs) (few (after_call r c) cs)
 
+-- a number below the highest
+one_above : (n : ℕ) → n + 1 < 2 ^ 64 → after_number n ≡ n + 1
+one_above n below = ap (λ b. if b then 1 else n + 1) (not_round n below)
+  where
+    not_round : (n : ℕ) → n + 1 < 2 ^ 64 → (n + 1 == 18446744073709551616) ≡ false
+    not_round n below = grind (arith, below)
+
 -- numbers that follow each other, and do not begin anew
 all_up_to : (n most : ℕ) (ns : List ℕ) → FollowEachOther n ns → n + length ns ≤ most → most < 2 ^ 64 → AllByRecursion (λ number. number ≤ most) ns
 all_up_to n most [] follows le lt = tt
 all_up_to n most (m ∷ ns) follows le lt =
-    let is : m ≡ n + 1 = omega (arith, follows.0) in
+    let is : m ≡ n + 1 = follows.0 ∙ one_above n (omega arith) in
     (omega arith, all_up_to m most ns follows.1 (omega arith) lt)
 
 all_above : (base n : ℕ) (ns : List ℕ) → FollowEachOther n ns → base ≤ n → n + length ns < 2 ^ 64 → AllByRecursion (λ number. base < number) ns
 all_above base n [] follows le lt = tt
 all_above base n (m ∷ ns) follows le lt =
-    let is : m ≡ n + 1 = omega (arith, follows.0) in
+    let is : m ≡ n + 1 = follows.0 ∙ one_above n (omega arith) in
     (omega arith, all_above base m ns follows.1 (omega arith) (omega arith))
 
 pub over_restarts : (r later : Root) (calls more : List Call)

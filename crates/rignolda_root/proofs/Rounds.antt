@@ -3,8 +3,8 @@ use Rattle.std.proofs.Common.{◌≡◌, ℕ, zero, suc, ◌+◌, ◌-◌, ◌*�
 use Rattle.std.specs.Prelude.{if◌then◌else◌, ◌==◌}
 use Rattle.rignolda_root.specs.declared.publisher.Next.{Next}
 use Rattle.rignolda_root.specs.declared.publisher.Next.TheVariants.{Nothing, Harmless, Changes, Whole}
-use Rattle.rignolda_root.specs.Publishers.{Publisher, after_body, next, taken}
-use Rattle.rignolda_root.specs.Runs.{Root, Call, before, body, after_call, until_over, count_harmless, IsRound, NoneHeld}
+use Rattle.rignolda_root.specs.Publishers.{Publisher, after_body, next, taken, most_harmless}
+use Rattle.rignolda_root.specs.Runs.{Root, Call, before, body, after_call, until_over, count_harmless, IsRound, LetGoOn}
 use Rattle.rignolda_root.proofs.Chosen.{asked_in, in_a_round, after_a_table, not_one}
 
 -- exactly so many harmless bodies and then the table, and no more bodies than this
@@ -65,9 +65,6 @@ goes_on : (n most : ℕ) (r : Root) (c : Call) (cs : List Call) → r.publisher.
     → Ends n most (until_over r (c ∷ cs))
 goes_on n most r c cs left ends = subst (λ bodies. Ends n most bodies) (sym (until_is r c cs n left)) ends
 
-abbrev Rest : ℕ → Type 0
-Rest n = (r : Root) (cs : List Call) → r.publisher.left ≡ suc n → NoneHeld cs → 4 * n + 2 ≤ length cs → Ends n (4 * n + 2) (until_over r cs)
-
 one_less : (x m : ℕ) → x ≡ suc (suc m) → x - 1 ≡ suc m
 one_less x m is = omega arith
 
@@ -77,103 +74,108 @@ table_ends left is = ap (λ x. if x == 1 then 0 else x) is
 table_leaves : (left m : ℕ) → left ≡ suc (suc m) → (if left == 1 then 0 else left) ≡ suc (suc m)
 table_leaves left m is = ap (λ b. if b then 0 else left) (not_one left m is) ∙ is
 
--- what is left after a harmless body
-behind_harmless : (n : ℕ) (rest : (m : ℕ) → n ≡ suc m → Rest m) (b : Root) (bytes : ℕ) (cs : List Call)
-    → b.publisher.left ≡ suc n → 0 < n → NoneHeld cs → 4 * n ≤ length cs + 2
-    → Ends n (4 * n - 1) (Harmless ∷ until_over (root_after Harmless b bytes) cs)
-behind_harmless zero rest b bytes cs left some held le = absurd (omega arith)
-behind_harmless (suc m) rest b bytes cs left some held le =
-    no_more _ (suc (4 * m + 2)) _ _
-    (one_harmless m (4 * m + 2) _
-    (rest m refl (root_after Harmless b bytes) cs (one_less b.publisher.left m left) held (omega arith)))
-    (omega arith)
+-- no round is asked for that has fewer harmless bodies than this
+module _ (h : ℕ) (few : h ≤ most_harmless) where
+  abbrev Rest : ℕ → Type 0
+  Rest n = (r : Root) (cs : List Call) → r.publisher.left ≡ suc n → n ≤ h → LetGoOn h cs → 4 * n + 2 ≤ length cs → Ends n (4 * n + 2) (until_over r cs)
 
--- right after an early table, where changes may have the turn, and then this holds
-behind_table : (m most : ℕ) (rest : (k : ℕ) → suc m ≡ suc k → Rest k) (r : Root) (cs : List Call) → r.publisher.left ≡ suc (suc m)
-    → r.publisher.table_first ≡ false → r.publisher.items ≡ 0 → r.publisher.bytes ≡ 0
-    → NoneHeld cs → 4 * suc m ≤ suc (suc most) → suc most ≤ length cs
-    → (r.publisher.rounds_turn ≡ false → (b : Root) (later : List Call) → b.publisher.left ≡ suc (suc m) → b.publisher.rounds_turn ≡ true
-    → NoneHeld later → most ≤ length later → Ends (suc m) most (until_over b later))
-    → Ends (suc m) (suc most) (until_over r cs)
-behind_table m most rest r [] left first items bytes held few le onward = absurd (omega arith)
-behind_table m most rest r (c ∷ cs) left first items bytes held few le onward =
-    let same = asked_in r.publisher c.asked (suc m) left in
-    let b : Root = before r c in
-    let its = ap (λ (p : Publisher). p.left) same ∙ left in
-    goes_on (suc m) (suc most) r c cs left
-    (after_a_table (λ k. Ends (suc m) (suc most) (k ∷ until_over (root_after k b c.bytes) cs)) b.publisher b.changes c.limit m
-    its held.0
-    (ap (λ (p : Publisher). p.table_first) same ∙ first)
-    (ap (λ (p : Publisher). p.items) same ∙ items) (ap (λ (p : Publisher). p.bytes) same ∙ bytes)
-    (no_more _ (4 * suc m - 1) _ _ (behind_harmless (suc m) rest b c.bytes cs its (omega arith) held.1 (omega arith)) (omega arith))
-    (λ lacks. other Changes (suc m) most _ refl
-    (onward (sym (ap (λ (p : Publisher). p.rounds_turn) same) ∙ lacks) (root_after Changes b c.bytes) cs its refl held.1 (omega arith))))
+  -- what is left after a harmless body
+  behind_harmless : (n : ℕ) (rest : (m : ℕ) → n ≡ suc m → Rest m) (b : Root) (bytes : ℕ) (cs : List Call)
+      → b.publisher.left ≡ suc n → 0 < n → n ≤ h → LetGoOn h cs → 4 * n ≤ length cs + 2
+      → Ends n (4 * n - 1) (Harmless ∷ until_over (root_after Harmless b bytes) cs)
+  behind_harmless zero rest b bytes cs left some within go le = absurd (omega arith)
+  behind_harmless (suc m) rest b bytes cs left some within go le =
+      no_more _ (suc (4 * m + 2)) _ _
+      (one_harmless m (4 * m + 2) _
+      (rest m refl (root_after Harmless b bytes) cs (one_less b.publisher.left m left) (omega arith) go (omega arith)))
+      (omega arith)
 
--- where it is the round's turn
-its_turn : (n : ℕ) (rest : (m : ℕ) → n ≡ suc m → Rest m) (r : Root) (cs : List Call) → r.publisher.left ≡ suc n
-    → r.publisher.rounds_turn ≡ true → NoneHeld cs → max 1 (4 * n) ≤ length cs → Ends n (max 1 (4 * n)) (until_over r cs)
-its_turn n rest r [] left turn held le = absurd (omega arith)
-its_turn zero rest r (c ∷ cs) left turn held le =
-    let same = asked_in r.publisher c.asked zero left in
-    let b : Root = before r c in
-    let its = ap (λ (p : Publisher). p.left) same ∙ left in
-    let turn_here = ap (λ (p : Publisher). p.rounds_turn) same ∙ turn in
-    goes_on zero 1 r c cs left
-    (in_a_round (λ k. Ends zero 1 (k ∷ until_over (root_after k b c.bytes) cs)) b.publisher b.changes c.limit zero
-    its held.0
-    (with_table 1 _ (is_over (root_after Whole b c.bytes) cs (table_ends b.publisher.left its)) (omega arith))
-    (λ some. absurd (omega arith))
-    (λ lacks. absurd (cc)))
-its_turn (suc m) rest r (c ∷ cs) left turn held le =
-    let same = asked_in r.publisher c.asked (suc m) left in
-    let b : Root = before r c in
-    let its = ap (λ (p : Publisher). p.left) same ∙ left in
-    let turn_here = ap (λ (p : Publisher). p.rounds_turn) same ∙ turn in
-    let most : ℕ = 4 * m + 2 in
-    goes_on (suc m) (max 1 (4 * suc m)) r c cs left
-    (in_a_round (λ k. Ends (suc m) (max 1 (4 * suc m)) (k ∷ until_over (root_after k b c.bytes) cs)) b.publisher b.changes c.limit (suc m)
-    its held.0
-    (no_more _ (suc (suc most)) _ _
-    (other Whole (suc m) (suc most) _ refl
-    (behind_table m most rest (root_after Whole b c.bytes) cs (table_leaves b.publisher.left m its) refl refl refl held.1 (omega arith) (omega arith)
-    (λ lacks. absurd (cc))))
-    (omega arith))
-    (λ some. no_more _ (4 * suc m - 1) _ _ (behind_harmless (suc m) rest b c.bytes cs its some held.1 (omega arith)) (omega arith))
-    (λ lacks. absurd (cc)))
+  -- right after an early table, where changes may have the turn, and then this holds
+  behind_table : (m most : ℕ) (rest : (k : ℕ) → suc m ≡ suc k → Rest k) (r : Root) (cs : List Call) → r.publisher.left ≡ suc (suc m)
+      → r.publisher.table_first ≡ false → r.publisher.items ≡ 0 → r.publisher.bytes ≡ 0
+      → suc m ≤ h → LetGoOn h cs → 4 * suc m ≤ suc (suc most) → suc most ≤ length cs
+      → (r.publisher.rounds_turn ≡ false → (b : Root) (later : List Call) → b.publisher.left ≡ suc (suc m) → b.publisher.rounds_turn ≡ true
+      → LetGoOn h later → most ≤ length later → Ends (suc m) most (until_over b later))
+      → Ends (suc m) (suc most) (until_over r cs)
+  behind_table m most rest r [] left first items bytes within go short le onward = absurd (omega arith)
+  behind_table m most rest r (c ∷ cs) left first items bytes within go short le onward =
+      let same = asked_in r.publisher c.asked (suc m) h left within few go.1 in
+      let b : Root = before r c in
+      let its = ap (λ (p : Publisher). p.left) same ∙ left in
+      goes_on (suc m) (suc most) r c cs left
+      (after_a_table (λ k. Ends (suc m) (suc most) (k ∷ until_over (root_after k b c.bytes) cs)) b.publisher b.changes c.limit m
+      its go.0
+      (ap (λ (p : Publisher). p.table_first) same ∙ first)
+      (ap (λ (p : Publisher). p.items) same ∙ items) (ap (λ (p : Publisher). p.bytes) same ∙ bytes)
+      (no_more _ (4 * suc m - 1) _ _ (behind_harmless (suc m) rest b c.bytes cs its (omega arith) within go.2 (omega arith)) (omega arith))
+      (λ lacks. other Changes (suc m) most _ refl
+      (onward (sym (ap (λ (p : Publisher). p.rounds_turn) same) ∙ lacks) (root_after Changes b c.bytes) cs its refl go.2 (omega arith))))
 
--- what is left after a table
-behind_any_table : (n : ℕ) (rest : (m : ℕ) → n ≡ suc m → Rest m) (b : Root) (bytes : ℕ) (cs : List Call)
-    → b.publisher.left ≡ suc n → NoneHeld cs → 4 * n + 1 ≤ length cs
-    → Ends n (4 * n + 2) (Whole ∷ until_over (root_after Whole b bytes) cs)
-behind_any_table zero rest b bytes cs left held le =
-    with_table 2 _ (is_over (root_after Whole b bytes) cs (table_ends b.publisher.left left)) (omega arith)
-behind_any_table (suc m) rest b bytes cs left held le =
-    no_more _ (suc (suc (4 * suc m))) _ _
-    (other Whole (suc m) (suc (4 * suc m)) _ refl
-    (behind_table m (4 * suc m) rest (root_after Whole b bytes) cs (table_leaves b.publisher.left m left) refl refl refl held (omega arith) (omega arith)
-    (λ _ r later its turn none many. no_more _ (max 1 (4 * suc m)) _ _ (its_turn (suc m) rest r later its turn none (omega arith)) (omega arith))))
-    (omega arith)
+  -- where it is the round's turn
+  its_turn : (n : ℕ) (rest : (m : ℕ) → n ≡ suc m → Rest m) (r : Root) (cs : List Call) → r.publisher.left ≡ suc n
+      → r.publisher.rounds_turn ≡ true → n ≤ h → LetGoOn h cs → max 1 (4 * n) ≤ length cs → Ends n (max 1 (4 * n)) (until_over r cs)
+  its_turn n rest r [] left turn within go le = absurd (omega arith)
+  its_turn zero rest r (c ∷ cs) left turn within go le =
+      let same = asked_in r.publisher c.asked zero h left within few go.1 in
+      let b : Root = before r c in
+      let its = ap (λ (p : Publisher). p.left) same ∙ left in
+      let turn_here = ap (λ (p : Publisher). p.rounds_turn) same ∙ turn in
+      goes_on zero 1 r c cs left
+      (in_a_round (λ k. Ends zero 1 (k ∷ until_over (root_after k b c.bytes) cs)) b.publisher b.changes c.limit zero
+      its go.0
+      (with_table 1 _ (is_over (root_after Whole b c.bytes) cs (table_ends b.publisher.left its)) (omega arith))
+      (λ some. absurd (omega arith))
+      (λ lacks. absurd (cc)))
+  its_turn (suc m) rest r (c ∷ cs) left turn within go le =
+      let same = asked_in r.publisher c.asked (suc m) h left within few go.1 in
+      let b : Root = before r c in
+      let its = ap (λ (p : Publisher). p.left) same ∙ left in
+      let turn_here = ap (λ (p : Publisher). p.rounds_turn) same ∙ turn in
+      let most : ℕ = 4 * m + 2 in
+      goes_on (suc m) (max 1 (4 * suc m)) r c cs left
+      (in_a_round (λ k. Ends (suc m) (max 1 (4 * suc m)) (k ∷ until_over (root_after k b c.bytes) cs)) b.publisher b.changes c.limit (suc m)
+      its go.0
+      (no_more _ (suc (suc most)) _ _
+      (other Whole (suc m) (suc most) _ refl
+      (behind_table m most rest (root_after Whole b c.bytes) cs (table_leaves b.publisher.left m its) refl refl refl within go.2 (omega arith) (omega arith)
+      (λ lacks. absurd (cc))))
+      (omega arith))
+      (λ some. no_more _ (4 * suc m - 1) _ _ (behind_harmless (suc m) rest b c.bytes cs its some within go.2 (omega arith)) (omega arith))
+      (λ lacks. absurd (cc)))
 
--- from any state of a round
-from_any : (n : ℕ) (rest : (m : ℕ) → n ≡ suc m → Rest m) → Rest n
-from_any n rest r [] left held le = absurd (omega arith)
-from_any n rest r (c ∷ cs) left held le =
-    let same = asked_in r.publisher c.asked n left in
-    let b : Root = before r c in
-    let its = ap (λ (p : Publisher). p.left) same ∙ left in
-    goes_on n (4 * n + 2) r c cs left
-    (in_a_round (λ k. Ends n (4 * n + 2) (k ∷ until_over (root_after k b c.bytes) cs)) b.publisher b.changes c.limit n
-    its held.0
-    (behind_any_table n rest b c.bytes cs its held.1 (omega arith))
-    (λ some. no_more n (4 * n - 1) _ _ (behind_harmless n rest b c.bytes cs its some held.1 (omega arith)) (omega arith))
-    (λ lacks. no_more n (suc (max 1 (4 * n))) _ _
-    (other Changes n (max 1 (4 * n)) _ refl (its_turn n rest (root_after Changes b c.bytes) cs its refl held.1 (omega arith)))
-    (omega arith)))
+  -- what is left after a table
+  behind_any_table : (n : ℕ) (rest : (m : ℕ) → n ≡ suc m → Rest m) (b : Root) (bytes : ℕ) (cs : List Call)
+      → b.publisher.left ≡ suc n → n ≤ h → LetGoOn h cs → 4 * n + 1 ≤ length cs
+      → Ends n (4 * n + 2) (Whole ∷ until_over (root_after Whole b bytes) cs)
+  behind_any_table zero rest b bytes cs left within go le =
+      with_table 2 _ (is_over (root_after Whole b bytes) cs (table_ends b.publisher.left left)) (omega arith)
+  behind_any_table (suc m) rest b bytes cs left within go le =
+      no_more _ (suc (suc (4 * suc m))) _ _
+      (other Whole (suc m) (suc (4 * suc m)) _ refl
+      (behind_table m (4 * suc m) rest (root_after Whole b bytes) cs (table_leaves b.publisher.left m left) refl refl refl within go (omega arith) (omega arith)
+      (λ _ r later its turn on many. no_more _ (max 1 (4 * suc m)) _ _ (its_turn (suc m) rest r later its turn within on (omega arith)) (omega arith))))
+      (omega arith)
 
-ends : (n : ℕ) → Rest n
-ends zero = from_any zero (λ m is. absurd (omega arith))
-ends (suc n) = from_any (suc n) (λ m is. subst Rest (let same : n ≡ m = omega arith in same) (ends n))
+  -- from any state of a round
+  from_any : (n : ℕ) (rest : (m : ℕ) → n ≡ suc m → Rest m) → Rest n
+  from_any n rest r [] left within go le = absurd (omega arith)
+  from_any n rest r (c ∷ cs) left within go le =
+      let same = asked_in r.publisher c.asked n h left within few go.1 in
+      let b : Root = before r c in
+      let its = ap (λ (p : Publisher). p.left) same ∙ left in
+      goes_on n (4 * n + 2) r c cs left
+      (in_a_round (λ k. Ends n (4 * n + 2) (k ∷ until_over (root_after k b c.bytes) cs)) b.publisher b.changes c.limit n
+      its go.0
+      (behind_any_table n rest b c.bytes cs its within go.2 (omega arith))
+      (λ some. no_more n (4 * n - 1) _ _ (behind_harmless n rest b c.bytes cs its some within go.2 (omega arith)) (omega arith))
+      (λ lacks. no_more n (suc (max 1 (4 * n))) _ _
+      (other Changes n (max 1 (4 * n)) _ refl (its_turn n rest (root_after Changes b c.bytes) cs its refl within go.2 (omega arith)))
+      (omega arith)))
 
-pub round_ends : (r : Root) (n : ℕ) (cs : List Call) → r.publisher.left ≡ suc n → NoneHeld cs → 4 * n + 2 ≤ length cs
+  ends : (n : ℕ) → Rest n
+  ends zero = from_any zero (λ m is. absurd (omega arith))
+  ends (suc n) = from_any (suc n) (λ m is. subst Rest (let same : n ≡ m = omega arith in same) (ends n))
+
+pub round_ends : (r : Root) (n : ℕ) (cs : List Call) → r.publisher.left ≡ suc n → n ≤ most_harmless → LetGoOn n cs → 4 * n + 2 ≤ length cs
     → IsRound n (until_over r cs) × (length (until_over r cs) ≤ 4 * n + 2)
-round_ends r n cs left held le = let through = ends n r cs left held le in (through.round, through.short)
+round_ends r n cs left few go le = let through = ends n few n r cs left (omega arith) go le in (through.round, through.short)

@@ -6,8 +6,9 @@
 -- harmless 11, changes 12, harmless 13, changes 14 and the whole table 15, with which the round is
 -- over.
 -- Source: this project's own.
-use Rattle.std.specs.Prelude.{ℕ, ◌+◌, ◌-◌, ◌%◌, ◌^◌, ◌==◌, ◌&&◌, ◌||◌, not, nat_lt, nat_le, min}
+use Rattle.std.specs.Prelude.{ℕ, ◌+◌, ◌-◌, ◌==◌, ◌&&◌, ◌||◌, not, nat_lt, nat_le, min}
 use Rattle.std.specs.Prelude.{max, Bool, true, false, if◌then◌else◌}
+use Rattle.rignolda_agent.specs.Numbers.{is_newer, next as after_number}
 use Rattle.rignolda_root.specs.declared.publisher.Next.{Next}
 use Rattle.rignolda_root.specs.declared.publisher.Next.TheVariants.{Nothing, Harmless, Changes}
 use Rattle.rignolda_root.specs.declared.publisher.Next.TheVariants.{Whole}
@@ -74,11 +75,16 @@ new number = record {
 abbrev pub is_in_a_round : Publisher → Bool
 is_in_a_round p = nat_lt 0 p.left
 
--- A round of so many harmless bodies begins, unless one is under way.
+-- the bodies of a round with so many harmless ones
+abbrev pub round_of : ℕ → ℕ
+round_of harmless = min harmless most_harmless + 1
+
+-- A round of so many harmless bodies begins. One that is under way goes on instead, with no more
+-- bodies than that.
 abbrev pub begun : Publisher → ℕ → Publisher
 begun p harmless =
-    if is_in_a_round p then p
-    else record p { left = min harmless most_harmless + 1; rounds_turn = false }
+    if is_in_a_round p then record p { left = min p.left (round_of harmless) }
+    else record p { left = round_of harmless; rounds_turn = false }
 
 -- a body is due where this number of changes waits
 abbrev pub waits : Publisher → ℕ → Bool
@@ -111,9 +117,11 @@ due_next p changes limit =
 abbrev pub next : Publisher → ℕ → ℕ → Next
 next p changes limit = if waits p changes then due_next p changes limit else Nothing
 
--- a number goes up by one; after the highest it begins anew, as after a clock that was set back
-abbrev pub after_number : ℕ → ℕ
-after_number number = (number + 1) % 2 ^ 64
+-- Where an agent has this number, and it is newer, the publisher goes on above it, with a whole
+-- table first.
+abbrev pub gone_above : Publisher → ℕ → Publisher
+gone_above p number =
+    if is_newer p.number number then record p { number = number; table_first = true } else p
 
 -- a count goes on, up to the highest
 abbrev pub counted : ℕ → ℕ → ℕ

@@ -2,12 +2,13 @@
 -- Changes wait in the order in which they came, a change of a key that waits already at the place
 -- of that one; bodies take them from the front.
 -- Source: this project's own.
-use Rattle.std.specs.Prelude.{◌≡◌, ℕ, suc, ◌+◌, ◌-◌, nat_lt, Bool, true, false, if◌then◌else◌, List}
+use Rattle.std.specs.Prelude.{◌≡◌, ℕ, suc, ◌+◌, ◌-◌, ◌≤◌, nat_lt, Bool, true, false, if◌then◌else◌, List}
 use Rattle.std.specs.Prelude.{[], ◌∷◌, ◌++◌, Option, Some, None}
 use Rattle.rignolda_root.specs.declared.publisher.Next.{Next}
 use Rattle.rignolda_root.specs.declared.publisher.Next.TheVariants.{Nothing, Harmless, Changes}
 use Rattle.rignolda_root.specs.declared.publisher.Next.TheVariants.{Whole}
-use Rattle.rignolda_root.specs.Publishers.{Publisher, after_body, after_number, begun}
+use Rattle.rignolda_agent.specs.Numbers.{next as after_number}
+use Rattle.rignolda_root.specs.Publishers.{Publisher, after_body, begun}
 use Rattle.rignolda_root.specs.Publishers.{is_in_a_round, next, taken}
 
 -- a root with its publisher, and how many changes wait
@@ -91,10 +92,17 @@ pub record IsRound (harmless : ℕ) (bodies : List Next) : Type 0 where
   pub table_last : bodies ≡ front ++ Whole ∷ []
   pub all_harmless : count_harmless front ≡ harmless
 
--- no call is one while tables are held
-abbrev pub NoneHeld : List Call → Type 0
-NoneHeld [] = Unit {0}
-NoneHeld (c ∷ cs) = (c.held ≡ false) × NoneHeld cs
+-- a round that is asked for has no fewer harmless bodies than this
+abbrev pub IsNoShorter : ℕ → Option ℕ → Type 0
+IsNoShorter harmless None = Unit {0}
+IsNoShorter harmless (Some asked) = harmless ≤ asked
+
+-- these calls let a round with so many harmless bodies go on: tables are not held, and no shorter
+-- round is asked for
+abbrev pub LetGoOn : ℕ → List Call → Type 0
+LetGoOn harmless [] = Unit {0}
+LetGoOn harmless (c ∷ cs) =
+    (c.held ≡ false) × IsNoShorter harmless c.asked × LetGoOn harmless cs
 
 -- ---- changes
 

@@ -4,8 +4,9 @@
 -- Example: Changes with number 7 set key 1 to 5 and key 2 to 6, and those with number 8 set key 1
 -- to 9. Then 9 waits beside key 1 with the numbers 7 and 8, and 6 beside key 2 with 7 and 7.
 -- Source: this project's own.
-use Rattle.std.specs.Prelude.{ℕ, ◌==◌, min, Bool, true, if◌then◌else◌, List, Option, Some, None}
+use Rattle.std.specs.Prelude.{ℕ, ◌==◌, ◌||◌, Bool, true, if◌then◌else◌, List, Option, Some, None}
 use Rattle.std.specs.List.{fold}
+use Rattle.rignolda_agent.specs.Numbers.{is_newer}
 use Rattle.rignolda_root.specs.declared.waits.Waits.{Waits as Struct}
 use Rattle.stab_settings.specs.Tables.{Setting, Table, set_key, empty_table}
 use Rattle.rignolda_root.specs.declared.publisher.Next.{Next}
@@ -19,12 +20,16 @@ pub record Change : Type 0 where
   pub first : ℕ
   pub last : ℕ
 
+-- the older one of two numbers; no number is older than all
+abbrev pub older : ℕ → ℕ → ℕ
+older one other = if one == 0 || is_newer one other then one else other
+
 -- ---- one key
 
 -- what waits beside a key once another change of it came
 abbrev pub merged : Option Change → Change → Change
 merged None came = came
-merged (Some waits) came = record came { first = min waits.first came.first }
+merged (Some waits) came = record came { first = older came.first waits.first }
 
 -- what waits beside a key that a whole table leaves out, whose numbers these are
 abbrev pub left_out : Option Change → ℕ → ℕ → Change

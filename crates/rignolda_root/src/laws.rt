@@ -3,8 +3,10 @@
 ghost use Rattle.std.specs.Prelude.{◌≡◌, ◌≢◌, ℕ, suc, ◌+◌, ◌*◌, ◌^◌, ◌<◌, ◌≤◌, ◌⊎◌, max, true};
 ghost use Rattle.std.specs.Prelude.{false, List, [], length, Option, Some};
 ghost use Rattle.std.specs.List.{AllByRecursion};
-ghost use Rattle.rignolda_root.specs.Publishers.{most_changes, most_harmless, publisher_of};
-ghost use Rattle.rignolda_root.specs.Runs.{Call, FollowEachOther, IsRound, NoneHeld, Root};
+ghost use Rattle.rignolda_agent.specs.Numbers.{is_newer};
+ghost use Rattle.rignolda_root.specs.Publishers.{Publisher, begun, most_changes, most_harmless};
+ghost use Rattle.rignolda_root.specs.Publishers.{publisher_of, round_of};
+ghost use Rattle.rignolda_root.specs.Runs.{Call, FollowEachOther, IsRound, LetGoOn, Root};
 ghost use Rattle.rignolda_root.specs.Runs.{after_call, body, numbers, still_waits, until_over};
 ghost use Rattle.rignolda_root.specs.Merging.{Act, AgreesBesideWaiting, EachWaits, Settings};
 ghost use Rattle.rignolda_root.specs.Merging.{after_acts};
@@ -16,13 +18,14 @@ ghost use Rattle.stab_settings.specs.Tables.{Table};
 ghost use Rattle.rignolda_root.specs.declared.publisher.Next.TheVariants.{Nothing, Changes, Whole};
 ghost use Rattle.rignolda_root.specs.declared.publisher.Publisher.{Publisher as Struct};
 
-/// Numbers rise by exactly one each, whatever happens, and begin anew after the highest.
+/// Numbers rise by exactly one each, whatever happens, from the last one on or from a newer one that
+/// an agent said; after the highest comes 1.
 pub fn numbers_rise_by_one()
     ensures { (root : Root) (calls : List Call)
         → FollowEachOther root.publisher.number (numbers root calls) }
 {}
 
-/// What is asked of the clock: where a root begins at a number that is not below the one of an
+/// What is asked of the clock where no agent says a number: if a root begins at a number that is not below the one of an
 /// earlier life's begin and as many more as that one published, its numbers are above all of those.
 pub fn numbers_rise_over_restarts()
     ensures { (root later : Root) (calls more : List Call)
@@ -32,20 +35,24 @@ pub fn numbers_rise_over_restarts()
         × AllByRecursion (λ number. later.publisher.number < number) (numbers later more) }
 {}
 
-/// A round with so many harmless bodies ends: whatever changes come, whatever the limit is, and
-/// whatever else is asked for, exactly these and then the whole table are published, and others
-/// between them, at most three for each. Nothing may hold it.
+/// A round with so many harmless bodies ends: whatever changes come and whatever the limit is,
+/// exactly these and then the whole table are published, and others between them, at most three for
+/// each. Nothing may hold it, and no shorter round may be asked for.
 pub fn a_round_ends()
     ensures { (root : Root) (harmless : ℕ) (calls : List Call)
-        → root.publisher.left ≡ suc harmless → NoneHeld calls
-        → 4 * harmless + 2 ≤ length calls
+        → root.publisher.left ≡ suc harmless → harmless ≤ most_harmless
+        → LetGoOn harmless calls → 4 * harmless + 2 ≤ length calls
         → IsRound harmless (until_over root calls)
         × (length (until_over root calls) ≤ 4 * harmless + 2) }
 {}
 
-/// No state has a longer round than can be asked for.
+/// Whatever a root remembers, no round is longer than the longest that can be asked for, and once
+/// one is asked for, the one under way is no longer.
 pub fn no_state_has_a_longer_round()
-    ensures { (state : Struct) → (publisher_of state).left ≤ most_harmless + 1 }
+    ensures longest { (state : Struct) → (publisher_of state).left ≤ round_of most_harmless }
+    ensures asked { (publisher : Publisher) (harmless : ℕ)
+        → (0 < (begun publisher harmless).left)
+        × ((begun publisher harmless).left ≤ harmless + 1) }
 {}
 
 /// While tables are held, none is published, and nothing of a round.
@@ -95,8 +102,10 @@ pub fn merged_changes_tell_the_same()
         ≡ waiting.told_all (applied waits table) bodies key }
 {}
 
-/// No number is forgotten: beside a key waits the number of the first change that is not applied.
+/// No number is forgotten: beside a key waits the number of the first change that is not applied,
+/// which is newer neither than what waited nor than what came.
 pub fn merged_changes_keep_the_first_number()
-    ensures { (waits came : Change) → ((merged (Some waits) came).first ≤ waits.first)
-        × ((merged (Some waits) came).first ≤ came.first) }
+    ensures { (waits came : Change) → waits.first < 2 ^ 64 → came.first < 2 ^ 64
+        → (is_newer waits.first (merged (Some waits) came).first ≡ false)
+        × (is_newer came.first (merged (Some waits) came).first ≡ false) }
 {}

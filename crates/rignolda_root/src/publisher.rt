@@ -1,9 +1,12 @@
 ghost use Rattle.std.specs.Prelude.{◌≡◌};
-ghost use Rattle.rignolda_root.specs.Publishers.{after_body, after_number, begun, entries};
+ghost use Rattle.rignolda_agent.specs.Numbers.{is_newer, next as after_number};
+ghost use Rattle.rignolda_root.specs.Publishers.{after_body, begun, entries, gone_above};
 ghost use Rattle.rignolda_root.specs.Publishers.{is_in_a_round, is_table_due, is_table_next, next};
 ghost use Rattle.rignolda_root.specs.Publishers.{publisher_of, round_goes_on, taken, waits};
 ghost use Rattle.rignolda_root.specs.Publishers as publishers;
 ghost use Rattle.rignolda_root.specs.declared.publisher.Next.TheVariants as kinds;
+
+use rignolda_agent::{is_newer, next};
 
 /// The most harmless bodies of a round.
 const MOST_HARMLESS: u64 = 65_535;
@@ -71,18 +74,36 @@ impl Publisher {
         self.left.min(MOST_HARMLESS + 1)
     }
 
+    /// Goes on above this number, which an agent has, with a whole table first, if it is newer than
+    /// the last one. Whether it is.
+    pub fn go_above(&mut self, number: u64) -> bool
+        ensures newer { result ≡ is_newer self.old.number number }
+        ensures after { publisher_of self.new ≡ gone_above (publisher_of self.old) number }
+    {
+        let is_ahead = is_newer(self.number, number);
+        if is_ahead {
+            self.number = number;
+            self.table_first = 1;
+        }
+        is_ahead
+    }
+
     pub fn is_in_a_round(&self) -> bool
         ensures { result ≡ is_in_a_round (publisher_of self.now) }
     {
         self.left > 0
     }
 
-    /// A round with so many harmless bodies begins, unless one is under way.
+    /// A round with so many harmless bodies begins. One that is under way goes on instead, with no
+    /// more bodies than that.
     pub fn begin_round(&mut self, harmless: u32)
         ensures { publisher_of self.new ≡ begun (publisher_of self.old) harmless }
     {
-        if !self.is_in_a_round() {
-            self.left = u64::from(harmless).min(MOST_HARMLESS) + 1;
+        let bodies = u64::from(harmless).min(MOST_HARMLESS) + 1;
+        if self.is_in_a_round() {
+            self.left = self.left.min(bodies);
+        } else {
+            self.left = bodies;
             self.rounds_turn = 0;
         }
     }
@@ -144,7 +165,7 @@ impl Publisher {
     pub fn next_number(&self) -> u64
         ensures { result ≡ after_number self.now.number }
     {
-        self.number.wrapping_add(1)
+        next(self.number)
     }
 
     /// Publishes what is next, a body that has so many bytes.

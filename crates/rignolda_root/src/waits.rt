@@ -1,5 +1,19 @@
 ghost use Rattle.std.specs.Prelude.{◌≡◌, ℕ, if◌then◌else◌, Option, Some, None};
 ghost use Rattle.rignolda_root.specs.Waiting.{left_out, merged, waits_with};
+ghost use Rattle.rignolda_root.specs.Waiting.{older};
+
+use rignolda_agent::is_newer;
+
+/// The older one of two numbers; 0, no number, is older than all.
+fn older(one: u64, other: u64) -> u64
+    ensures { result ≡ older one other }
+{
+    if one == 0 || is_newer(one, other) {
+        one
+    } else {
+        other
+    }
+}
 
 /// What waits beside a key to be applied. Its value is kept by the caller.
 #[repr(C)]
@@ -23,7 +37,7 @@ impl Waits {
         self.first = if self.is_there == 0 {
             first
         } else {
-            self.first.min(first)
+            older(first, self.first)
         };
         self.last = last;
         self.is_there = 1;

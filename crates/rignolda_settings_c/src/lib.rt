@@ -1,5 +1,5 @@
-//! What agents do with settings, for C and whatever calls C: bodies of settings, as bytes, and which
-//! of them an agent takes.
+//! What agents do with settings, for C and whatever calls C: bodies of settings, as bytes, which of
+//! them an agent takes, what waits there to be applied, and what a root publishes.
 //! `include/rignolda_settings.h` declares what is exported here.
 //!
 //! No call reads, writes, waits, takes memory or looks at a clock, and none has a `requires`. What a
@@ -9,11 +9,19 @@
 
 mod bodies;
 mod buffers;
+mod publisher;
 mod taker;
+mod waits;
 
 pub use bodies::{BodyEntry, BodyHead, rignolda_body_check, rignolda_body_read, rignolda_checksum};
 pub use buffers::{rignolda_body_begin, rignolda_body_set, rignolda_body_unset};
+pub use publisher::{
+    NextBody, rignolda_publisher_begin_round, rignolda_publisher_go_above, rignolda_publisher_hold,
+    rignolda_publisher_init, rignolda_publisher_is_in_a_round, rignolda_publisher_next,
+    rignolda_publisher_publish, rignolda_publisher_waits,
+};
 pub use taker::{
     TakerHeard, rignolda_number_further, rignolda_number_is_newer, rignolda_number_next,
     rignolda_taker_hears, rignolda_taker_init,
 };
+pub use waits::{rignolda_waits_on_change, rignolda_waits_on_left_out};

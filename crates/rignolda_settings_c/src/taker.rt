@@ -57,7 +57,13 @@ pub extern "C" fn rignolda_taker_hears(
     ensures after { taker_of taker.new ≡ after_read (taker_of taker.old) (kind_of kind) number }
     ensures heard { heard.new ≡ told (taker_of taker.old) (kind_of kind) number }
 {
-    *heard = TakerHeard { taken: 0, drops: 0, applied: 0, fills: 0, looks: 0 };
+    *heard = TakerHeard {
+        taken: 0,
+        drops: 0,
+        applied: 0,
+        fills: 0,
+        looks: 0,
+    };
     if let Some(kind) = kind_of(kind) {
         let it = taker.hears(kind, number);
         *heard = TakerHeard {
