@@ -28,7 +28,7 @@ pub use address::Address;
 pub use parents::{Parents, Way};
 pub use peers::{Call, Children, Handler, Line, Parent, Peers, Setup, Whom};
 pub use relay::{Came, Link, Relay};
-pub use store::{Store, Turn, Worker};
+pub use store::{Store, Turn, Worker, LOST};
 
 /// The longest body, in bytes.
 pub const BODY_BYTES: usize = 16 << 20;

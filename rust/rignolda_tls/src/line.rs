@@ -86,6 +86,11 @@ impl Maker {
         Ok(Maker { tls, timeout })
     }
 
+    /// How long sent bytes may stay without an answer.
+    pub fn timeout(&self) -> Duration {
+        self.timeout
+    }
+
     /// Begins a connection. Whether it stands is seen when it is read or written.
     pub fn connect(&self, address: &SockAddr) -> io::Result<Line> {
         let domain = address.as_socket().map_or(Domain::UNIX, Domain::for_address);

@@ -12,7 +12,7 @@ use crate::tree::{Below, EACH};
 use mio::unix::SourceFd;
 use mio::{Events, Interest, Poll, Registry, Token, Waker};
 use rignolda::net::{Body, Handler, Peers};
-use rignolda::settings::{furthest, Meaning, Table};
+use rignolda::settings::{furthest, older, Meaning, Table};
 use rignolda_redis::Stores;
 use rignolda_tls::{Caller, Line, Listener, Maker};
 use rignoldactl::{ChildStatus, Request, Response, Status};
@@ -460,12 +460,15 @@ impl Agent {
         self.checked = now;
         self.full_until = self.full_until.min(now + FULL);
         self.reported = self.reported.min(now);
+        let table = &mut self.state.table;
+        table.changed = older(table.changed, table.taker.number);
         self.peers.bound_waiting((descriptors() / 4).max(1));
         self.peers.check(self.caller.looks_up(), now, &mut self.state)?;
         let sockets = self.listeners.iter().chain(self.servers.iter().map(Server::listener));
         let mut listen = sockets.map(|it| it.socket.is_listener().unwrap_or(false));
         let is_same = self.config.peers == *self.peers.setup()
-            && self.config.backlog == self.peers.relay().room();
+            && self.config.backlog == self.peers.relay().room()
+            && silence(&self.config) == self.maker.timeout();
         let (applier, apply) = (self.state.applier.as_ref(), self.config.apply.as_ref());
         let root = self.root.as_ref().zip(self.config.root.as_ref());
         let faults = [

@@ -10,8 +10,10 @@
 //! that starts applies nothing older.
 use crate::config::{is_key, Apply};
 use crate::fact;
+use rignolda::net::LOST;
 use rignolda::settings::{older, read_floor, remove, write_floor, Change, Folder};
 use rignolda::settings::{Heard, Meaning, Taker, Waiting, SETTINGS};
+use std::cell::Cell;
 use std::collections::{BTreeMap, BTreeSet};
 use std::fmt;
 use std::fs::{self, File, OpenOptions};
@@ -80,6 +82,8 @@ pub type Wake = Arc<dyn Fn() + Send + Sync>;
 pub struct Applier {
     shared: Arc<Shared>,
     threads: Vec<JoinHandle<()>>,
+    /// At how many looks in turn something waited, and no thread had taken anything.
+    lost: Cell<u32>,
 }
 
 struct Shared {
@@ -128,7 +132,7 @@ impl Applier {
         let state = Mutex::new(State { config: config.clone(), due, ..State::default() });
         let (files, hooks) = (Condvar::new(), Condvar::new());
         let shared = Arc::new(Shared { folder, state, files, hooks, wake, marks: Mutex::new(()) });
-        let mut applier = Applier { shared, threads: Vec::new() };
+        let mut applier = Applier { shared, threads: Vec::new(), lost: Cell::new(0) };
         let hooks = [("hooks", run_hooks as fn(&Shared)); HOOKS];
         for (name, work) in hooks.into_iter().chain([("files", keep_files as fn(&Shared))]) {
             let shared = applier.shared.clone();
@@ -206,13 +210,18 @@ impl Applier {
         oldest.map_or(sequence, |oldest| older(sequence, oldest.saturating_sub(1)))
     }
 
-    /// What of its state cannot be, where something cannot.
+    /// What of its state cannot be, where something cannot: to be asked once a second.
     pub fn fault(&self, config: &Apply) -> Option<&'static str> {
+        let state = self.shared.lock();
+        let (files, hooks) = (state.files.first(), state.hooks.first());
+        let is_lost = files.is_some() && !state.holds && state.writing.is_none()
+            || hooks.is_some() && state.running.is_empty();
+        self.lost.set(if is_lost { self.lost.get() + 1 } else { 0 });
         match () {
-            () if self.threads.iter().any(JoinHandle::is_finished) => {
-                Some("a thread that applies settings has ended")
+            () if self.threads.iter().any(JoinHandle::is_finished) || self.lost.get() >= LOST => {
+                Some("nobody applies settings")
             }
-            () if self.shared.lock().config != *config || self.shared.folder != config.folder => {
+            () if state.config != *config || self.shared.folder != config.folder => {
                 Some("what is applied is configured otherwise")
             }
             () => None,

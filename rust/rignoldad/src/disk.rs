@@ -11,7 +11,7 @@ use std::fs;
 use std::io::{self, ErrorKind};
 use std::os::unix::fs::MetadataExt;
 use std::os::unix::io::{AsRawFd, RawFd};
-use std::path::{Path, PathBuf};
+use std::path::Path;
 use std::sync::Arc;
 
 const EMPTY: &str = "it is empty: is a mount missing, or else `.empty`?";
@@ -44,13 +44,13 @@ pub struct Empty {
 }
 
 struct Place {
-    settings: PathBuf,
+    settings: Arc<Path>,
     notify: Option<Inotify>,
 }
 
 /// The thread, and what can be read when something changed. It calls `wake` after each job.
 pub fn start(
-    settings: PathBuf,
+    settings: Arc<Path>,
     wake: Arc<dyn Fn() + Send + Sync>,
 ) -> io::Result<(Worker<Job, Done>, Option<RawFd>)> {
     let mut place = Place { settings, notify: Inotify::init().ok() };
@@ -120,7 +120,7 @@ impl Place {
     /// Reads all settings, and waits for changes from before that.
     fn read(&mut self) -> Result<Found, Empty> {
         let path = &self.settings;
-        let folder = if path.is_dir() { Some(path.as_path()) } else { path.parent() };
+        let folder = if path.is_dir() { Some(&**path) } else { path.parent() };
         let mask = WatchMask::CLOSE_WRITE | WatchMask::MOVE | WatchMask::DELETE;
         // (the same folder is watched once, and one that was made anew again)
         if let (Some(notify), Some(folder)) = (&mut self.notify, folder) {

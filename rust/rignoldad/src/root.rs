@@ -12,6 +12,7 @@ use rignolda::settings::{
 };
 use std::io;
 use std::os::unix::io::RawFd;
+use std::path::Path;
 use std::sync::Arc;
 use std::time::{Duration, Instant, SystemTime, UNIX_EPOCH};
 
@@ -29,6 +30,8 @@ const DRAINS: Duration = Duration::from_secs(600);
 pub struct Root<W> {
     config: Config,
     disk: Worker<Job, Done>,
+    /// Where the disk looks.
+    place: Arc<Path>,
     /// What can be read when the folder has changed.
     changes: Option<RawFd>,
     publisher: Publisher,
@@ -82,10 +85,12 @@ impl<W> Root<W> {
     ) -> io::Result<Root<W>> {
         // (a root that restarts goes on above the numbers of its earlier lives)
         let clock = SystemTime::now().duration_since(UNIX_EPOCH).unwrap_or_default();
-        let (disk, changes) = disk::start(config.settings.clone(), wake)?;
+        let place: Arc<Path> = config.settings.clone().into();
+        let (disk, changes) = disk::start(place.clone(), wake)?;
         let mut root = Root {
             config: config.clone(),
             disk,
+            place,
             changes,
             publisher: Publisher::new(clock.as_micros() as u64),
             draining: false,
@@ -155,11 +160,12 @@ impl<W> Root<W> {
 
     /// What of its state cannot be, where something cannot.
     pub fn fault(&self, config: &Config) -> Option<&'static str> {
+        let jobs = self.reads + u32::from(!self.writing.is_empty());
         match () {
-            () if self.config != *config => Some("the root's configuration is another one"),
-            () if !self.disk.is_asked(self.reads + u32::from(!self.writing.is_empty())) => {
-                Some("the disk was asked for something else, or cannot answer")
+            () if self.config != *config || *self.place != *config.settings => {
+                Some("the root's configuration is another one")
             }
+            () if !self.disk.is_asked(jobs) => Some("the disk was asked for something else"),
             () => None,
         }
     }

@@ -146,8 +146,8 @@ impl Parents {
     /// Says again what follows from what was heard.
     pub(super) fn say(&mut self) {
         let (cost, mut names) = match &self.heard {
+            _ if self.costs.is_empty() => (0, Vec::new()),
             Some(way) => (self.cost(self.at, way), way.names.clone()),
-            None if self.costs.is_empty() => (0, Vec::new()),
             None => (NONE, Vec::new()),
         };
         names.push(self.name.clone());

@@ -395,6 +395,7 @@ impl Relay {
             link.acknowledged += before.acknowledged();
             link.ignored += before.ignored();
             (link.held, link.sent, link.left) = (None, None, false);
+            (link.idle, link.seen) = (0, link.acknowledged());
             if link.lives.front() != Some(&life) {
                 link.clashes += u64::from(link.lives.contains(&life));
                 link.lives.push_front(life);

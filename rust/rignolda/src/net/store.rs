@@ -3,7 +3,8 @@
 //! How they lie there, and which law such a link has, the module says that handles them: each agent
 //! sets its own keys and gets those of its parent and its children.
 use std::cell::Cell;
-use std::sync::mpsc;
+use std::sync::atomic::{AtomicBool, Ordering};
+use std::sync::{mpsc, Arc};
 use std::{io, thread};
 
 /// What an agent asks of a store at once.
@@ -34,9 +35,16 @@ pub struct Worker<J, D> {
     jobs: mpsc::Sender<J>,
     done: mpsc::Receiver<D>,
     thread: thread::JoinHandle<()>,
-    /// How many jobs have no answer yet.
+    /// Whether it does one now.
+    works: Arc<AtomicBool>,
+    /// How many jobs have no answer yet; and at how many looks in turn it did none of them.
     waits: Cell<u32>,
+    lost: Cell<u32>,
 }
+
+/// At how many looks in turn a thread does nothing where a job or an answer is lost: one that is
+/// told of a job begins at once.
+pub const LOST: u32 = 10;
 
 impl<J: Send + 'static, D: Send + 'static> Worker<J, D> {
     /// Starts it. It calls `wake` whenever a job was done.
@@ -51,11 +59,15 @@ impl<J: Send + 'static, D: Send + 'static> Worker<J, D> {
     ) -> io::Result<Worker<J, D>> {
         let (jobs, asked) = mpsc::channel();
         let (to, done) = mpsc::channel();
+        let works = Arc::new(AtomicBool::new(false));
+        let is_working = Arc::clone(&works);
         let thread = thread::Builder::new().name(name.into()).spawn(move || {
             for job in asked {
+                is_working.store(true, Ordering::Relaxed);
                 if to.send(work(job)).is_err() {
                     break;
                 }
+                is_working.store(false, Ordering::Relaxed);
                 wake();
             }
         })?;
@@ -63,7 +75,9 @@ impl<J: Send + 'static, D: Send + 'static> Worker<J, D> {
             jobs,
             done,
             thread,
+            works,
             waits: Cell::new(0),
+            lost: Cell::new(0),
         })
     }
 
@@ -80,8 +94,11 @@ impl<J: Send + 'static, D: Send + 'static> Worker<J, D> {
         Some(done)
     }
 
-    /// Whether so many jobs have no answer yet, and it can do them.
+    /// Whether so many jobs have no answer yet, and it does them: to be asked once a second.
     pub fn is_asked(&self, count: u32) -> bool {
-        self.waits.get() == count && !self.thread.is_finished()
+        let is_idle = count > 0 && !self.works.load(Ordering::Relaxed);
+        self.lost.set(if is_idle { self.lost.get() + 1 } else { 0 });
+        let can = !self.thread.is_finished() && self.lost.get() < LOST;
+        can && self.waits.get() == count
     }
 }

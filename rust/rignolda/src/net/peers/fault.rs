@@ -6,7 +6,7 @@
 //! nothing mends but a new process.
 use super::{
     fact, travels, Children, Conn, Context, Handler, Line, Peers, Setup, State, Whom, BEAT, LATER,
-    SILENCE,
+    READ_BYTES, SILENCE,
 };
 use crate::net::{Link, Result, BODY_BYTES};
 use std::collections::BTreeSet;
@@ -18,8 +18,10 @@ const LOOK_UP: Duration = Duration::from_secs(300);
 /// After how long at most somebody other than a candidate is called again, unless it is to connect.
 const PAUSE: Duration = Duration::from_secs(3);
 /// How many times its patience a child may lack an item and take none, and how many seconds more;
-/// and the same where its link lies in a store, which may be slow to answer.
+/// the same where no item is on its way to it; and where its link lies in a store, which may be slow
+/// to answer.
 const TAKES: (u32, u64) = (2, 1);
+const SENT_NOTHING: (u32, u64) = (0, 2);
 const TAKES_IN_STORE: (u32, u64) = (10, 10);
 
 impl<L: Line, A: Clone + PartialEq + fmt::Display> Peers<L, A> {
@@ -61,6 +63,10 @@ impl<L: Line, A: Clone + PartialEq + fmt::Display> Peers<L, A> {
             let is_there = called.contains(whom) || self.words.contains_key(whom);
             dial.under_way &= is_there || (looks_up && may_look_up);
         }
+        let is_parent = |conn: &Conn<L>| matches!(conn.state, State::Link(Whom::Parent, ..));
+        self.above = self.all_that(is_parent).first().copied();
+        // (into a spoiled one nothing could be read)
+        self.space = vec![0; READ_BYTES].into_boxed_slice();
         self.beat = self.beat.min(now + BEAT);
         self.late = self.late.min(LATER);
         self.parents.say();
@@ -73,12 +79,14 @@ impl<L: Line, A: Clone + PartialEq + fmt::Display> Peers<L, A> {
         let children = &self.children;
         self.relay.count_idle(|name| children.contains_key(name));
         let is_stale = |(name, link): &(&String, &Link)| {
-            let (times, more) = match children.contains_key(*name) {
-                true => TAKES,
-                false => TAKES_IN_STORE,
+            let id = children.get(*name);
+            let (times, more) = match id.and_then(|id| self.conns.get(id)) {
+                Some(conn) if conn.until.is_none() => SENT_NOTHING,
+                Some(_) => TAKES,
+                None => TAKES_IN_STORE,
             };
-            link.idle()
-                > (self.patience(name) * times + travels(link.held_bytes())).as_secs() + more
+            let most = (self.patience(name) + travels(link.held_bytes())) * times;
+            link.idle() > most.as_secs() + more
         };
         let stale = self.relay.children().filter(is_stale);
         for name in stale.map(|(name, _)| name.clone()).collect::<Vec<_>>() {
@@ -106,12 +114,10 @@ impl<L: Line, A: Clone + PartialEq + fmt::Display> Peers<L, A> {
             is_set_up = children.keys().eq(self.relay.children().map(|it| it.0));
         }
         let is_called = |whom: &Whom| *whom == Whom::Parent || self.address(whom).is_some();
-        // (numbers begin with 1; and a spoiled option may be neither, which most take for none)
-        let above = self.above.unwrap_or(0);
         let mut connected = 0;
         let is_known = |(id, conn): (&u64, &Conn<L>)| match &conn.state {
             _ if *id > self.made => false,
-            State::Link(Whom::Parent, ..) => *id == above,
+            State::Link(Whom::Parent, ..) => self.above == Some(*id),
             State::Link(Whom::Child(name), number, Some(_)) => {
                 connected += 1;
                 let link = self.relay.child(name);
@@ -121,7 +127,7 @@ impl<L: Line, A: Clone + PartialEq + fmt::Display> Peers<L, A> {
             _ => true,
         };
         let are_known = self.conns.iter().all(is_known) && connected == self.children.len();
-        let has_above = above == 0 || self.conns.contains_key(&above);
+        let has_above = self.above.map_or(true, |id| self.conns.contains_key(&id));
         let prices = parents.iter().map(|it| it.price);
         match () {
             () if !is_set_up => Some("its children are other ones"),

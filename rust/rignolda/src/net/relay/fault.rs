@@ -49,7 +49,7 @@ impl Relay {
     pub(crate) fn begin_anew(&mut self, name: &str, now: Instant) {
         self.leave_behind(name);
         if let Some(link) = self.children.get_mut(name) {
-            (link.connection, link.words, link.idle) = (None, false, 0);
+            (link.connection, link.words) = (None, false);
             (link.since, link.late, link.took) = (now, 0, Duration::ZERO);
         }
     }
