@@ -8,3 +8,4 @@ mod Spelled
 mod Sums
 mod TableSums
 mod Texts
+mod KeyBytes

@@ -1,7 +1,7 @@
 -- The sum of bytes, some at a time: a sum is linear, and eight bits that come out leave those above.
 use Rattle.std.proofs.Common.{◌≡◌, ℕ, zero, suc, ◌+◌, ◌*◌, ◌/◌, ◌%◌, ◌^◌, ◌<◌, ◌≤◌, Bool, true, false, List, [], ◌∷◌, length, drop, take, refl, sym, ap, ◌∙◌, arith, bit_xor}
 use Rattle.std.specs.Prelude.{◌==◌, if◌then◌else◌, fold, slice_index}
-use Rattle.std.specs.Int.{w64, from_le_bytes}
+use Rattle.std.specs.Int.{w32, from_le_bytes}
 use lib.Bits.{xor_zero_r, xor_comm, xor_assoc, xor_shr, xor_mod, xor_shifted}
 use Rattle.rignolda_body.specs.Checksum.{after_bit, after_bits, with_byte}
 use Rattle.rignolda_body.specs.Seen.{AreBytes}
@@ -114,36 +114,43 @@ one_byte sum byte low =
     ∙ xor_zero_r (sum / 256)
     )
 
--- the sum of a word, byte by byte
-pub by_bytes : (word : ℕ) → word < 2 ^ 64
-    → bit_xor (bit_xor (bit_xor (bit_xor (bit_xor (bit_xor (bit_xor
-    (after_zeros 8 (word % 256))
-    (after_zeros 7 (word / 256 % 256)))
-    (after_zeros 6 (word / 65536 % 256)))
-    (after_zeros 5 (word / 16777216 % 256)))
-    (after_zeros 4 (word / 4294967296 % 256)))
-    (after_zeros 3 (word / 1099511627776 % 256)))
-    (after_zeros 2 (word / 281474976710656 % 256)))
-    (after_zeros 1 (word / 72057594037927936 % 256))
-    ≡ after_zeros 8 word
-by_bytes word low = sym (
-    one_byte_less 7 word
-    ∙ step 6 (word / 256) (word / 65536) (after_zeros 8 (word % 256)) (omega arith)
-    ∙ step 5 (word / 65536) (word / 16777216) _ (omega arith)
-    ∙ step 4 (word / 16777216) (word / 4294967296) _ (omega arith)
-    ∙ step 3 (word / 4294967296) (word / 1099511627776) _ (omega arith)
-    ∙ step 2 (word / 1099511627776) (word / 281474976710656) _ (omega arith)
-    ∙ step 1 (word / 281474976710656) (word / 72057594037927936) _ (omega arith)
-    ∙ step 0 (word / 72057594037927936) 0 _ (omega (arith, low))
-    ∙ xor_zero_r _
+-- the sum of a word of four bytes, byte by byte
+by_four : (n word : ℕ) → after_zeros n 0 ≡ 0 → word < 2 ^ 32
+    → bit_xor
+    (bit_xor (after_zeros (suc (suc (suc (suc n)))) (word % 256)) (after_zeros (suc (suc (suc n))) (word / 256 % 256)))
+    (bit_xor (after_zeros (suc (suc n)) (word / 65536 % 256)) (after_zeros (suc n) (word / 16777216 % 256)))
+    ≡ after_zeros (suc (suc (suc (suc n)))) word
+by_four n word none low =
+    let first : ℕ = after_zeros (suc (suc (suc (suc n)))) (word % 256) in
+    let second : ℕ = after_zeros (suc (suc (suc n))) (word / 256 % 256) in
+    let third : ℕ = after_zeros (suc (suc n)) (word / 65536 % 256) in
+    let last : ℕ = after_zeros (suc n) (word / 16777216 % 256) in
+    sym (
+    one_byte_less (suc (suc (suc n))) word
+    ∙ ap (bit_xor first) (one_byte_less (suc (suc n)) (word / 256))
+    ∙ ap (λ x. bit_xor first (bit_xor second (after_zeros (suc (suc n)) x))) (let same : word / 256 / 256 ≡ word / 65536 = omega arith in same)
+    ∙ ap (λ x. bit_xor first (bit_xor second x)) (one_byte_less (suc n) (word / 65536))
+    ∙ ap (λ x. bit_xor first (bit_xor second (bit_xor third (after_zeros (suc n) x)))) (let same : word / 65536 / 256 ≡ word / 16777216 = omega arith in same)
+    ∙ ap (λ x. bit_xor first (bit_xor second (bit_xor third x))) (one_byte_less n (word / 16777216))
+    ∙ ap (λ x. bit_xor first (bit_xor second (bit_xor third (bit_xor last (after_zeros n x))))) (let none_left : word / 16777216 / 256 ≡ 0 = omega (arith, low) in none_left)
+    ∙ ap (λ x. bit_xor first (bit_xor second (bit_xor third (bit_xor last x)))) none
+    ∙ ap (λ x. bit_xor first (bit_xor second (bit_xor third x))) (xor_zero_r last)
+    ∙ sym (xor_assoc first second (bit_xor third last))
     )
-  where
-    -- one byte more leaves the word
-    step : (n x higher so_far : ℕ) → x / 256 ≡ higher
-        → bit_xor so_far (after_zeros (suc n) x) ≡ bit_xor (bit_xor so_far (after_zeros (suc n) (x % 256))) (after_zeros n higher)
-    step n x higher so_far is =
-        ap (bit_xor so_far) (one_byte_less n x ∙ ap (λ h. bit_xor (after_zeros (suc n) (x % 256)) (after_zeros n h)) is)
-        ∙ sym (xor_assoc so_far (after_zeros (suc n) (x % 256)) (after_zeros n higher))
+
+pub four_more : (word : ℕ) → word < 2 ^ 32
+    → bit_xor
+    (bit_xor (after_zeros 4 (word % 256)) (after_zeros 3 (word / 256 % 256)))
+    (bit_xor (after_zeros 2 (word / 65536 % 256)) (after_zeros 1 (word / 16777216 % 256)))
+    ≡ after_zeros 4 word
+four_more word low = by_four 0 word refl low
+
+pub eight_more_zeros : (word : ℕ) → word < 2 ^ 32
+    → bit_xor
+    (bit_xor (after_zeros 8 (word % 256)) (after_zeros 7 (word / 256 % 256)))
+    (bit_xor (after_zeros 6 (word / 65536 % 256)) (after_zeros 5 (word / 16777216 % 256)))
+    ≡ after_zeros 8 word
+eight_more_zeros word low = by_four 4 word refl low
 
 -- ---- eight bytes
 
@@ -163,14 +170,37 @@ nothing_past [] (suc i) past = refl
 nothing_past (b ∷ bytes) zero past = absurd (omega (arith, past))
 nothing_past (b ∷ bytes) (suc i) past = nothing_past bytes i (omega (arith, past))
 
--- the sum of eight bytes is that of the number that they are, with eight zeros after it
+-- four bytes more are as many zeros less
+four_zeros : (high : ℕ) → after_zeros 8 (high * 2 ^ 32) ≡ after_zeros 4 high
+four_zeros high =
+    let whole : high * 2 ^ 32 ≡ high * 256 * 256 * 256 * 256 = omega arith in
+    ap (after_zeros 8) whole
+    ∙ ap (after_zeros 7) (eight_zeros (high * 256 * 256 * 256))
+    ∙ ap (after_zeros 6) (eight_zeros (high * 256 * 256))
+    ∙ ap (after_zeros 5) (eight_zeros (high * 256))
+    ∙ ap (after_zeros 4) (eight_zeros high)
+
+-- the sum of eight bytes is that of the two numbers that they are
 pub eight_bytes : (sum : ℕ) (bytes : List ℕ) → length bytes ≡ 8 → AreBytes bytes
-    → after_zeros 8 (bit_xor sum (from_le_bytes w64 bytes)) ≡ fold with_byte sum bytes
+    → bit_xor
+    (after_zeros 4 (from_le_bytes w32 (slice_index bytes 4 ∷ slice_index bytes 5 ∷ slice_index bytes 6 ∷ slice_index bytes 7 ∷ [])))
+    (after_zeros 8 (bit_xor sum (from_le_bytes w32 (slice_index bytes 0 ∷ slice_index bytes 1 ∷ slice_index bytes 2 ∷ slice_index bytes 3 ∷ []))))
+    ≡ fold with_byte sum bytes
 eight_bytes sum bytes eight are =
+    let first : ℕ = from_le_bytes w32 (slice_index bytes 0 ∷ slice_index bytes 1 ∷ slice_index bytes 2 ∷ slice_index bytes 3 ∷ []) in
+    let last : ℕ = from_le_bytes w32 (slice_index bytes 4 ∷ slice_index bytes 5 ∷ slice_index bytes 6 ∷ slice_index bytes 7 ∷ []) in
     let at : (i : ℕ) → little (drop i bytes) ≡ little (drop (suc i) bytes) * 256 + slice_index bytes i = from_place bytes in
-    let last : little (drop 8 bytes) ≡ 0 = nothing_past bytes 8 (omega (arith, eight)) in
-    let word : from_le_bytes w64 bytes ≡ little bytes = omega (arith, at 0, at 1, at 2, at 3, at 4, at 5, at 6, at 7, last) in
-    ap (λ w. after_zeros 8 (bit_xor sum w)) word
+    let none : little (drop 8 bytes) ≡ 0 = nothing_past bytes 8 (omega (arith, eight)) in
+    let word : last * 2 ^ 32 + first ≡ little bytes = omega (arith, at 0, at 1, at 2, at 3, at 4, at 5, at 6, at 7, none) in
+    let low : first < 2 ^ 32 = omega (arith, are 0, are 1, are 2, are 3) in
+    let split : bit_xor (last * 2 ^ 32) (bit_xor sum first) ≡ bit_xor sum (little bytes) =
+    ap (bit_xor (last * 2 ^ 32)) (xor_comm sum first)
+    ∙ sym (xor_assoc (last * 2 ^ 32) first sum)
+    ∙ ap (λ x. bit_xor x sum) (xor_shifted last 32 first low ∙ word)
+    ∙ xor_comm (little bytes) sum in
+    ap (λ x. bit_xor x (after_zeros 8 (bit_xor sum first))) (sym (four_zeros last))
+    ∙ sym (zeros_linear 8 (last * 2 ^ 32) (bit_xor sum first))
+    ∙ ap (after_zeros 8) split
     ∙ ap (λ n. after_zeros n (bit_xor sum (little bytes))) (sym eight)
     ∙ sym (at_once sum bytes (all_bytes bytes are))
 

@@ -70,20 +70,23 @@ fn after_8(word: u64) -> u32
     SUMS_8[low(word)]
 }
 
-/// The sum of a word with eight zeros after it: those of its bytes, each with as many zeros as come
-/// to be after it.
-#[tactic(auto, using(crate::proofs::Sums::by_bytes))]
-fn after_word(word: u64) -> u32
+/// The sum of a word of four bytes with four zeros after it: those of its bytes, each with as many
+/// zeros as come to be after it.
+fn after_four(word: u32) -> u32
+    ensures { result ≡ after_zeros 4 word }
+{
+    let word = u64::from(word);
+    (after_4(word) ^ after_3(word / 0x100))
+        ^ (after_2(word / 0x1_0000) ^ after_1(word / 0x100_0000))
+}
+
+/// The same with eight zeros after it.
+fn after_eight(word: u32) -> u32
     ensures { result ≡ after_zeros 8 word }
 {
-    after_8(word)
-        ^ after_7(word / 0x100)
-        ^ after_6(word / 0x1_0000)
-        ^ after_5(word / 0x100_0000)
-        ^ after_4(word / 0x1_0000_0000)
-        ^ after_3(word / 0x100_0000_0000)
-        ^ after_2(word / 0x1_0000_0000_0000)
-        ^ after_1(word / 0x100_0000_0000_0000)
+    let word = u64::from(word);
+    (after_8(word) ^ after_7(word / 0x100))
+        ^ (after_6(word / 0x1_0000) ^ after_5(word / 0x100_0000))
 }
 
 #[tactic(auto, using(crate::proofs::Sums::one_byte))]
@@ -93,16 +96,14 @@ fn with_byte(sum: u32, byte: u8) -> u32
     after_1(u64::from(sum ^ u32::from(byte))) ^ (sum / 256)
 }
 
-/// The sum after eight more bytes.
-#[tactic(auto, using(crate::proofs::Sums::eight_bytes))]
+/// The sum after eight more bytes. (The last four of them wait for no sum.)
 fn with_eight(sum: u32, eight: &[u8]) -> u32
     requires { length eight.now ≡ 8 }
     ensures { result ≡ fold with_byte sum eight.now }
 {
-    let word = u64::from_le_bytes([
-        eight[0], eight[1], eight[2], eight[3], eight[4], eight[5], eight[6], eight[7],
-    ]);
-    after_word(u64::from(sum) ^ word)
+    let first = u32::from_le_bytes([eight[0], eight[1], eight[2], eight[3]]);
+    let last = u32::from_le_bytes([eight[4], eight[5], eight[6], eight[7]]);
+    after_four(last) ^ after_eight(sum ^ first)
 }
 
 /// The checksum CRC-32 of some bytes, as zlib and others have it.
