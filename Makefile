@@ -15,6 +15,8 @@ PREFIX ?= /usr/local
 CC ?= cc
 INSTALL ?= install
 LIBRARY ?= $(firstword $(wildcard release/librignolda.a lib/librignolda.a))
+SETTINGS ?= $(firstword $(wildcard release/librignolda_settings.a lib/librignolda_settings.a \
+                                   rust/rignolda/lib/x86_64-linux-settings.a))
 VERSION := $(shell sed -nE '/^\#\# /{s/^\#\# ([0-9]+(\.[0-9]+){2}), .*$$/\1/p;q}' CHANGELOG.md)
 # What a program that is linked asks for. The layout of the structs is part of it: while the first
 # number is 0, it is the second one.
@@ -42,8 +44,10 @@ out/librignolda.so: $(LIBRARY)
 
 install: out/librignolda.so
 	$(INSTALL) -d '$(TO)/include' '$(TO)/lib/pkgconfig'
-	$(INSTALL) -m 644 include/rignolda.h include/rignolda_inline.h '$(TO)/include'
+	$(INSTALL) -m 644 include/rignolda.h include/rignolda_inline.h include/rignolda_settings.h \
+	    '$(TO)/include'
 	$(INSTALL) -m 644 $(LIBRARY) '$(TO)/lib/librignolda.a'
+	$(INSTALL) -m 644 $(SETTINGS) '$(TO)/lib/librignolda_settings.a'
 	$(INSTALL) -m 755 out/librignolda.so '$(TO)/lib/librignolda.so.$(VERSION)'
 	ln -sf librignolda.so.$(VERSION) '$(TO)/lib/librignolda.so.$(BINARY)'
 	ln -sf librignolda.so.$(BINARY) '$(TO)/lib/librignolda.so'
@@ -54,6 +58,7 @@ install: out/librignolda.so
 
 uninstall:
 	rm -f '$(TO)/include/rignolda.h' '$(TO)/include/rignolda_inline.h' \
+	    '$(TO)/include/rignolda_settings.h' '$(TO)/lib/librignolda_settings.a' \
 	    '$(TO)/lib/librignolda.a' '$(TO)/lib/librignolda.so' \
 	    '$(TO)/lib/librignolda.so.$(BINARY)' '$(TO)/lib/librignolda.so.$(VERSION)' \
 	    '$(TO)/lib/pkgconfig/rignolda.pc'

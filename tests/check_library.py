@@ -165,8 +165,9 @@ class Library(Cases):
         self.has_all_calls()
         self.works("the inline calls are those of the archive", "tools/inline_header.py", "--check")
         self.by_python("4", "2")
-        self.works("the crate for Rust has the archive of the release", "cmp",
-                   "rust/rignolda/lib/x86_64-linux.a", "release/librignolda.a")
+        for name, part in ("librignolda.a", ""), ("librignolda_settings.a", "-settings"):
+            self.works(f"the crate for Rust has {name} of the release", "cmp",
+                       f"rust/rignolda/lib/x86_64-linux{part}.a", f"release/{name}")
         self.works("all of the archive needs nothing else", clang()[0], "-nostdlib", "-static",
                    "-fuse-ld=lld", "-Wl,--whole-archive", self.archive,
                    "-Wl,-e,rignolda_params_check", "-o", self.room / "alone")

@@ -205,13 +205,16 @@ refused("a date alone is no version", "the first heading of CHANGELOG.md has no 
         "--archive")
 holds("another word is refused", run("--other").status == 2)
 
-# A release of several things: a library for C and a module as well.
+# A release of several things: two libraries for C and a module as well.
 LIBRARY_SOURCES, LIBRARY_BESIDE, LIBRARY = of("librignolda.a")
+SETTINGS_SOURCES, SETTINGS_BESIDE, SETTINGS = of("librignolda_settings.a")
 MODULE_SOURCES, MODULE_BESIDE, MODULE = of("rignolda.wasm")
 IN_PAGE = "rignolda.wasm: page/index.html has it"
 write("crates/stab_c/src/lib.rt", "a library\n")
+write("crates/rignolda_settings_c/src/lib.rt", "settings\n")
 write("crates/stab_page/src/lib.rt", "a module\n")
-add("crates.txt", "stab_c staticlib: low itoa\nstab_page staticlib: low\n")
+add("crates.txt", "stab_c staticlib: low itoa\nrignolda_settings_c staticlib: low\n"
+    "stab_page staticlib: low\n")
 write("page/page.html", "<script>\nlet it = '{{MODULE}}';\n</script>\n")
 for file in ("include/rignolda.h", "man/stab.1", "docs/schema/job.json", "agents/agent.c",
              "agents/out/agent", "rust/rignolda/src/lib.rs", "rust/rignolda/target/built"):
@@ -220,54 +223,55 @@ write("CHANGELOG.md", "## 1.2.0, 2026-11-24, later: of three\n")
 CARGO = '[package]\nname = "it"\nversion = "1.2.0"\n\n'
 write("rust/rignolda/Cargo.toml", CARGO)
 checked("a release that lacks what crates.txt lists fails", 4, WHOLE, MANIFEST, LIBRARY_SOURCES,
-        LIBRARY_BESIDE, LIBRARY, MODULE_SOURCES, MODULE_BESIDE, MODULE, IN_PAGE)
-released("a release of three is built from nothing, by one call", 1)
+        LIBRARY_BESIDE, LIBRARY, SETTINGS_SOURCES, SETTINGS_BESIDE, SETTINGS, MODULE_SOURCES,
+        MODULE_BESIDE, MODULE, IN_PAGE)
+released("a release of four is built from nothing, by one call", 1)
 holds("the compiler gets the libraries of the kit and of the tree", re.search(
     "--extern low=/.*/crates/low/out/rlib/low.rlib --extern itoa=/.*/a kit/rlibs/itoa.rlib ",
     house.read("compiled")))
-FILES = ["librignolda.a", "rignolda.wasm"]
-holds("and has three files and their lines",
+FILES = ["librignolda.a", "librignolda_settings.a", "rignolda.wasm"]
+holds("and has four files and their lines",
       sorted(it.name for it in release.iterdir()) == ["MANIFEST", *FILES, "stab.gz"]
       and re.findall(r"^\S+", manifest.read_text(), re.M) == ["kit", "stab", *FILES])
-for file, crate in zip(FILES, ("stab_c", "stab_page")):
+for file, crate in zip(FILES, ("stab_c", "rignolda_settings_c", "stab_page")):
     holds(f"a library or a module lies there as it is ({file})", filecmp.cmp(
         release / file, top / f"crates/{crate}/src/lib.rt", shallow=False))
 keep()
 released("a second one takes what was built", 0)
 holds("and is the same", same(work / "release", release))
 write(made, "proved 1\n")
-checked("where rt ci has run, the library and the module are made and compared", 13)
+checked("where rt ci has run, the library and the module are made and compared", 16)
 holds("with no call of rt", well(0))
 write("crates/low/out/rlib/stamp")
-checked("where checks have left the libraries, rt makes it over them", 13)
-holds("by a call for each", house.read("calls") == "lib\ncheck --jobs 1\n")
+checked("where checks have left the libraries, rt makes it over them", 16)
+holds("by a call for each", house.read("calls") == "lib\nlib\ncheck --jobs 1\n")
 remove(top / "crates/low/out")
-checked("others than those of the release fail", 11, LIBRARY, MODULE, OTHER="1")
-checked("and so do those that are not proved", 11, LIBRARY, MODULE, NOT_PROVED="1")
+checked("others than those of the release fail", 13, LIBRARY, SETTINGS, MODULE, OTHER="1")
+checked("and so do those that are not proved", 13, LIBRARY, SETTINGS, MODULE, NOT_PROVED="1")
 add("release/librignolda.a", "spoiled\n")
-checked("a library that is spoiled fails", 11, LIBRARY_BESIDE, LIBRARY)
+checked("a library that is spoiled fails", 14, LIBRARY_BESIDE, LIBRARY)
 refused("and is not packed", "the release is spoiled: its librignolda.a is not the one",
         "--archive")
 restore("librignolda.a")
 add("crates/stab_c/src/lib.rt", "more\n")
-checked("other sources of one fail for this one alone", 11, LIBRARY_SOURCES, LIBRARY)
+checked("other sources of one fail for this one alone", 14, LIBRARY_SOURCES, LIBRARY)
 write("crates/stab_c/src/lib.rt", "a library\n")
 change("crates.txt", "itoa", "itoa ryu")
-checked("and so does another line of its crate", 12, LIBRARY_SOURCES)
+checked("and so does another line of its crate", 15, LIBRARY_SOURCES)
 change("crates.txt", " ryu", "")
 add("page/index.html", "more\n")
-checked("another page fails", 12, IN_PAGE)
+checked("another page fails", 15, IN_PAGE)
 house.run(top / "tools/index_page.py")
-checked("which is written anew by itself", 13)
+checked("which is written anew by itself", 16)
 change("crates.txt", "stab_page staticlib: low\n", "")
-checked("a file more than the crates give fails", 7, WHOLE, MANIFEST)
+checked("a file more than the crates give fails", 10, WHOLE, MANIFEST)
 add("crates.txt", "stab_page staticlib: low\n")
 for crate in "stab_c", "stab_cli":
     (top / f"crates/{crate}/out/incremental").mkdir(parents=True)
 write("crates/stab_c/src/lib.rt", "another library\n")
 released("over what checks have kept, what has changed is built alone", 1)
 holds("by one call", house.read("calls") == "lib\n")
-checked("and released", 13)
+checked("and released", 16)
 change("rust/rignolda/Cargo.toml", "1.2.0", "1.1.9")
 refused("a crate for Rust of another version is not packed",
         "CHANGELOG.md has the version 1.2.0, and the crate rignolda for Rust 1.1.9", "--archive")
@@ -281,8 +285,9 @@ holds("the page of claims is written into the archive", said.stdout == b"claims\
 holds("the archive has all of it", [
     it for it in names_in(archive) if not re.search(r"/$|^$|^examples|^[A-Z]|\.md$", it)] == [
         "agents/agent.c", "docs/schema/job.json", "include/rignolda.h", "lib/librignolda.a",
-        "man/stab.1", "page/index.html", "page/rignolda.wasm", "rust/rignolda/Cargo.toml",
-        "rust/rignolda/lib/x86_64-linux.a", "rust/rignolda/src/lib.rs", "stab"])
+        "lib/librignolda_settings.a",         "man/stab.1", "page/index.html", "page/rignolda.wasm", "rust/rignolda/Cargo.toml",
+        "rust/rignolda/lib/x86_64-linux-settings.a", "rust/rignolda/lib/x86_64-linux.a",
+        "rust/rignolda/src/lib.rs", "stab"])
 
 # The daemon, whose programs another compiler makes.
 DAEMON = ["rignoldad", "rignoldactl"]
@@ -315,11 +320,11 @@ def said(name, status, text, *words, **env):
 
 
 NAMED = [case for program in DAEMON for case in of(program)[:2]]
-checked("a release without the programs of the daemon fails", 11, WHOLE, MANIFEST, *NAMED)
+checked("a release without the programs of the daemon fails", 14, WHOLE, MANIFEST, *NAMED)
 refused("and is not packed", "the release of rignoldad was made from other sources: run "
         "tools/build_daemon --keep", "--archive")
 said("they are said to be missing", 1, "run tools/build_daemon --keep", "--check")
-lines = manifest.read_text().splitlines()[:4]
+lines = manifest.read_text().splitlines()[:5]
 said("they are kept", 0, "", "--keep")
 daemon("--keep")
 sources = daemon("--sources").out.strip()
@@ -327,7 +332,7 @@ own = [f"{it} sha256 {digest(top / 'rust/target/release' / it)} sources {sources
        for it in DAEMON]
 lines += [f"{line} compared with rustc 1.0" for line in own]
 holds("with lines of their own, each once", manifest.read_text().splitlines() == lines)
-checked("then nothing is wrong", 17)
+checked("then nothing is wrong", 20)
 keep()
 run()
 holds("another release leaves them as they are", same(work / "release", release))
@@ -350,19 +355,19 @@ said("another program is found by its digest", 1, "rignoldad.gz is not what its 
      "--check")
 write(manifest, re.sub("(?<=rignoldad sha256 ).{64}", digest(b"another\n"), manifest.read_text()))
 said("and with its digest by its bytes", 1, "another rignoldad than these sources give", "--check")
-change("release/MANIFEST", lines[4][-9:], "rustc 2.0")
+change("release/MANIFEST", lines[5][-9:], "rustc 2.0")
 said("and with another compiler it is not taken for compared", 4,
      "rignoldad is NOT COMPARED: rustc 2.0 built it, not rustc 1.0", "--check")
 restore("rignoldad.gz")
 restore("MANIFEST")
 # A manifest of before, with a line of the compiler.
-write(manifest, "\n".join([*lines[:4], "rustc 1.0", *own, ""]))
-checked("one that has a line of the compiler can be read", 17)
+write(manifest, "\n".join([*lines[:5], "rustc 1.0", *own, ""]))
+checked("one that has a line of the compiler can be read", 20)
 run()
 holds("and is written anew as it is now", same(work / "release", release))
 write(manifest, re.sub("(?<=rignoldad sha256 ).{64}", "0" * 64, manifest.read_text()))
 said("another digest is found", 1, "rignoldad.gz is not what its MANIFEST says", "--check")
-checked("here too", 16, NAMED[1])
+checked("here too", 19, NAMED[1])
 (work / "unpacked").mkdir()
 said("and it is not unpacked", 1, "is not what its MANIFEST says", "--unpack", work / "unpacked")
 restore("MANIFEST")
@@ -370,7 +375,7 @@ daemon("--unpack", work / "unpacked")
 holds("the right ones are", same(top / "rust/target/release", work / "unpacked"))
 add("rust/rignoldad/src/main.rs", "more\n")
 said("other sources are found", 1, "has a rignoldad of other sources", "--check")
-checked("for both", 15, NAMED[0], NAMED[2])
+checked("for both", 18, NAMED[0], NAMED[2])
 write("rust/rignoldad/src/main.rs", "a daemon\n")
 change("rust/rignoldad/Cargo.toml", "1.2.0", "1.1.9")
 daemon("--keep")

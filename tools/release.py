@@ -482,10 +482,11 @@ class Release(Commands):
             file.write_bytes(data)
         if any(it.kind == "module" for it in self.artefacts.values()):
             index_page.write()
-        # (the package of the crate for Rust has the archive of its target inside)
-        if (TOP / "rust/rignolda").is_dir() and (RELEASE / "librignolda.a").is_file():
-            (TOP / "rust/rignolda/lib").mkdir(exist_ok=True)
-            shutil.copy(RELEASE / "librignolda.a", TOP / "rust/rignolda/lib/x86_64-linux.a")
+        # (the package of the crate for Rust has the archives of its target inside)
+        for name, part in ("librignolda.a", ""), ("librignolda_settings.a", "-settings"):
+            if (TOP / "rust/rignolda").is_dir() and (RELEASE / name).is_file():
+                (TOP / "rust/rignolda/lib").mkdir(exist_ok=True)
+                shutil.copy(RELEASE / name, TOP / f"rust/rignolda/lib/x86_64-linux{part}.a")
         names = " ".join(self.artefacts)
         self.say(f"release/ has what these sources give ({names}); commit all of it")
         if self.daemon:

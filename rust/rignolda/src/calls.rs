@@ -1,6 +1,9 @@
-//! The calls of the C library, as `include/rignolda.h` declares them.
+//! The calls of the C library, as `include/rignolda.h` and `include/rignolda_settings.h` declare
+//! them.
 //!
 //! They ask for nothing but that each reference is one: every bit pattern of a struct is a state.
+#[cfg(feature = "net")]
+use crate::settings::Entry;
 
 /// `rignolda_params`.
 #[repr(C)]
@@ -183,4 +186,113 @@ extern "C" {
     pub(crate) fn rignolda_word_frame(word: u64, frame: &mut Frame) -> bool;
     pub(crate) fn rignolda_word_of_label(label: u16) -> u64;
     pub(crate) fn rignolda_word_label(word: u64, label: &mut u16) -> bool;
+}
+
+/// `rignolda_body_head`.
+#[cfg(feature = "net")]
+#[repr(C)]
+#[derive(Default)]
+pub(crate) struct BodyHead {
+    pub(crate) number: u64,
+    pub(crate) count: u32,
+    pub(crate) kind: u32,
+}
+
+/// `rignolda_body_entry`.
+#[cfg(feature = "net")]
+#[repr(C)]
+#[derive(Default)]
+struct BodyEntry {
+    key: usize,
+    key_length: usize,
+    value: usize,
+    value_length: usize,
+}
+
+#[cfg(feature = "net")]
+extern "C" {
+    fn rignolda_checksum(bytes: *const u8, length: usize) -> u32;
+    fn rignolda_body_check(item: u32, bytes: *const u8, length: usize, head: &mut BodyHead) -> u8;
+    fn rignolda_body_read(bytes: *const u8, length: usize, at: usize, entry: &mut BodyEntry) -> u8;
+    fn rignolda_body_begin(
+        buffer: *mut u8,
+        size: usize,
+        kind: u8,
+        number: u64,
+        count: u32,
+    ) -> usize;
+    fn rignolda_body_set(
+        buffer: *mut u8,
+        size: usize,
+        at: usize,
+        key: *const u8,
+        key_length: usize,
+        value: *const u8,
+        value_length: usize,
+    ) -> usize;
+    fn rignolda_body_unset(
+        buffer: *mut u8,
+        size: usize,
+        at: usize,
+        key: *const u8,
+        key_length: usize,
+    ) -> usize;
+}
+
+/// The checksum CRC-32.
+#[cfg(feature = "net")]
+pub(crate) fn checksum(bytes: &[u8]) -> u32 {
+    // SAFETY: the bytes are lent for the call.
+    unsafe { rignolda_checksum(bytes.as_ptr(), bytes.len()) }
+}
+
+/// The head of the bytes beside an item, where they are a body that fits it.
+#[cfg(feature = "net")]
+pub(crate) fn body_head(item: u32, bytes: &[u8]) -> Option<BodyHead> {
+    let mut head = BodyHead::default();
+    // SAFETY: the bytes and the head are lent for the call.
+    let fault = unsafe { rignolda_body_check(item, bytes.as_ptr(), bytes.len(), &mut head) };
+    (fault == 0).then_some(head)
+}
+
+/// The entry that begins at this place of a body, and where the next one does.
+#[cfg(feature = "net")]
+pub(crate) fn body_entry(bytes: &[u8], at: usize) -> Option<(Entry<'_>, usize)> {
+    let mut it = BodyEntry::default();
+    // SAFETY: the bytes and the entry are lent for the call.
+    let mark = unsafe { rignolda_body_read(bytes.as_ptr(), bytes.len(), at, &mut it) };
+    let end = it.value + it.value_length;
+    let value = match mark {
+        b'S' => Some(bytes.get(it.value..end)?),
+        b'U' => None,
+        _ => return None,
+    };
+    let key = bytes.get(it.key..it.key + it.key_length)?;
+    // SAFETY: what is read as a key has the bytes of one alone, which are all below 128.
+    Some(((unsafe { std::str::from_utf8_unchecked(key) }, value), end))
+}
+
+/// The bytes of a body of this kind, of which there are so many at most; none where it has no
+/// spelling in so many bytes.
+#[cfg(feature = "net")]
+pub(crate) fn body(kind: u8, number: u64, entries: &[Entry<'_>], size: usize) -> Vec<u8> {
+    let mut bytes = Vec::with_capacity(size);
+    let to = bytes.as_mut_ptr();
+    // SAFETY: each call writes within these bytes, which are reserved, from the end of the last one
+    // on, and says where its own end is.
+    unsafe {
+        let mut at = rignolda_body_begin(to, size, kind, number, entries.len() as u32);
+        for (key, value) in entries {
+            if at == 0 {
+                break;
+            }
+            let (key, length) = (key.as_ptr(), key.len());
+            at = match value {
+                Some(it) => rignolda_body_set(to, size, at, key, length, it.as_ptr(), it.len()),
+                None => rignolda_body_unset(to, size, at, key, length),
+            };
+        }
+        bytes.set_len(at);
+    }
+    bytes
 }

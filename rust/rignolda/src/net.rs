@@ -73,38 +73,8 @@ impl Body {
 /// assert_eq!(rignolda::net::checksum(b"123456789"), 0xcbf4_3926);
 /// ```
 pub fn checksum(bytes: &[u8]) -> u32 {
-    let mut sum = !0;
-    let mut eights = bytes.chunks_exact(8);
-    for eight in &mut eights {
-        let mut next = 0;
-        for (at, byte) in eight.iter().enumerate() {
-            // (the sum so far goes into the first four bytes)
-            let mixed = u32::from(*byte) ^ (if at < 4 { sum >> (8 * at) & 255 } else { 0 });
-            next ^= SUMS[7 - at][mixed as usize];
-        }
-        sum = next;
-    }
-    for byte in eights.remainder() {
-        sum = sum >> 8 ^ SUMS[0][((sum ^ u32::from(*byte)) & 255) as usize];
-    }
-    !sum
+    crate::calls::checksum(bytes)
 }
-
-/// `SUMS[zeros][byte]` is the checksum of the byte with `zeros` zeros after it.
-static SUMS: [[u32; 256]; 8] = {
-    let mut sums = [[0; 256]; 8];
-    let mut byte = 0;
-    while byte < 256 {
-        let (mut sum, mut bit) = (byte as u32, 0);
-        while bit < 64 {
-            sum = (sum >> 1) ^ ((sum & 1) * 0xedb8_8320);
-            bit += 1;
-            sums[(bit - 1) / 8][byte] = sum;
-        }
-        byte += 1;
-    }
-    sums
-};
 
 /// Whether this may be the name of an agent: letters, digits, `.`, `_` and `-`, and no dot or
 /// hyphen in front.

@@ -23,6 +23,7 @@
 //! assert!(table.takes(sequence, &meaning) && table.heard.applies);
 //! assert!(publisher.next(100).is_none());
 //! ```
+use crate::calls;
 use crate::net::{is_plain, Body, BODY_BYTES};
 use std::collections::{BTreeMap, BTreeSet};
 use std::sync::Arc;
@@ -96,114 +97,42 @@ impl Meaning<'_> {
 pub type Entry<'a> = (&'a str, Option<&'a [u8]>);
 
 impl Body {
-    /// A body that says this, under a sequence number.
+    /// A body that says this, under a sequence number. Where none can, since a key or a value is
+    /// too long, it is one without bytes, which says nothing.
     pub fn new(sequence: u64, meaning: &Meaning<'_>) -> Arc<Body> {
         let (kind, entries) = match meaning {
-            Meaning::Changes(entries) => (b'C', Some(entries)),
-            Meaning::Table(entries) => (b'T', Some(entries)),
-            Meaning::Harmless => (b'H', None),
+            Meaning::Changes(entries) => (b'C', entries.as_slice()),
+            Meaning::Table(entries) => (b'T', entries.as_slice()),
+            Meaning::Harmless => (b'H', &[][..]),
         };
-        let rest: usize = entries.into_iter().flatten().map(entry_bytes).sum();
-        let mut bytes = Vec::with_capacity(HEAD + rest);
-        bytes.push(kind);
-        bytes.extend_from_slice(&sequence.to_be_bytes());
-        if let Some(entries) = entries {
-            bytes.extend_from_slice(&(entries.len() as u32).to_be_bytes());
-            for (key, value) in entries {
-                bytes.push(if value.is_some() { b'S' } else { b'U' });
-                bytes.push(key.len() as u8);
-                bytes.extend_from_slice(key.as_bytes());
-                if let Some(value) = value {
-                    bytes.extend_from_slice(&(value.len() as u32).to_be_bytes());
-                    bytes.extend_from_slice(value);
-                }
-            }
-        }
+        let rest: usize = entries.iter().map(entry_bytes).sum();
+        let bytes = calls::body(kind, sequence, entries, HEAD + rest);
         Arc::new(Body::of(bytes))
     }
 
     /// The sequence and what the body says, or nothing where it does not fit its item or says
     /// nothing that [`Body::new`] writes.
     pub fn meaning(&self) -> Option<(u64, Meaning<'_>)> {
-        if !self.fits() {
-            return None;
+        let head = calls::body_head(self.item, &self.bytes)?;
+        let mut entries = Vec::with_capacity(head.count as usize);
+        let mut at = HEAD;
+        for _ in 0..head.count {
+            let (entry, end) = calls::body_entry(&self.bytes, at)?;
+            entries.push(entry);
+            at = end;
         }
-        let mut rest = Rest(&self.bytes);
-        let kind = rest.number(1)? as u8;
-        let sequence = rest.number(8)?;
-        let meaning = match kind {
-            b'C' => Meaning::Changes(rest.entries()?),
-            b'T' => {
-                let entries = rest.entries()?;
-                let all_set = entries.iter().all(|(_, value)| value.is_some());
-                all_set.then_some(Meaning::Table(entries))?
-            }
-            b'H' => Meaning::Harmless,
-            _ => return None,
+        let meaning = match head.kind as u8 {
+            b'C' => Meaning::Changes(entries),
+            b'T' => Meaning::Table(entries),
+            _ => Meaning::Harmless,
         };
-        rest.0.is_empty().then_some((sequence, meaning))
+        Some((head.number, meaning))
     }
 }
 
 /// How many bytes of a body an entry takes.
 pub fn entry_bytes((key, value): &Entry<'_>) -> usize {
     2 + key.len() + value.map_or(0, |value| 4 + value.len())
-}
-
-/// What is still to be read.
-struct Rest<'a>(&'a [u8]);
-
-impl<'a> Rest<'a> {
-    fn take(&mut self, length: usize) -> Option<&'a [u8]> {
-        if length > self.0.len() {
-            return None;
-        }
-        let (taken, rest) = self.0.split_at(length);
-        self.0 = rest;
-        Some(taken)
-    }
-
-    fn number(&mut self, bytes: usize) -> Option<u64> {
-        Some(
-            self.take(bytes)?
-                .iter()
-                .fold(0, |number, byte| number << 8 | u64::from(*byte)),
-        )
-    }
-
-    fn key(&mut self) -> Option<&'a str> {
-        let length = self.number(1)? as usize;
-        std::str::from_utf8(self.take(length)?)
-            .ok()
-            .filter(|key| is_key(key))
-    }
-
-    fn entries(&mut self) -> Option<Vec<Entry<'a>>> {
-        let count = self.number(4)? as usize;
-        // (an entry has 3 bytes at least; and a list of many takes several times their bytes)
-        let count = Some(count).filter(|it| *it <= SETTINGS.min(self.0.len() / 3))?;
-        let mut entries: Vec<Entry<'a>> = Vec::with_capacity(count);
-        for _ in 0..count {
-            let kind = self.number(1)? as u8;
-            let key = self.key()?;
-            let value = match kind {
-                b'S' => {
-                    let length = self.number(4)? as usize;
-                    Some(
-                        self.take(length)
-                            .filter(|value| value.len() <= VALUE_BYTES)?,
-                    )
-                }
-                b'U' => None,
-                _ => return None,
-            };
-            if entries.last().map_or(false, |(last, _)| *last >= key) {
-                return None;
-            }
-            entries.push((key, value));
-        }
-        Some(entries)
-    }
 }
 
 /// Whether a body with this number is newer than one with that. Numbers go round, past 0, which is
