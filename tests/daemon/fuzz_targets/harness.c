@@ -14,7 +14,7 @@ void *__real_realloc(void *old, size_t size);
 int __real_posix_memalign(void **to, size_t alignment, size_t size);
 
 static const char *const targets[] = {"hello", "frames", "answers", "body", "configuration",
-                                      "control"};
+                                      "control", "agent"};
 static uint32_t target;
 static size_t most = SIZE_MAX;
 

@@ -1,7 +1,10 @@
 //! What the fuzzer calls: each target reads bytes as the daemon does, and compares what comes out
 //! with what the format says, read here by other means. It panics where they differ.
-use rignolda::net::wire::{take, Expect, Hello, Message, REPORT_BYTES};
-use rignolda::net::{Body, Children, BODY_BYTES};
+use rignolda::net::parents::NAMES;
+use rignolda::net::wire::{self, take, Expect, Hello, Message, REPORT_BYTES, WAY_BYTES};
+use rignolda::net::{
+    Body, Children, Handler, Line, Parent, Parents, Peers, Setup, Way, BODY_BYTES,
+};
 use rignolda::settings::{is_key, Meaning, Table};
 use rignoldactl::ask::{bounds_text, tree_text};
 use rignoldactl::{ChildStatus, Request, Response, Status};
@@ -11,11 +14,13 @@ use rignoldad::serve::Ticket;
 use rignoldad::tree::Below;
 use std::cell::RefCell;
 use std::collections::BTreeMap;
-use std::io::{Read, Write};
+use std::fmt;
+use std::io::{self, ErrorKind, Read, Write};
 use std::net::Shutdown;
 use std::os::unix::net::UnixStream;
 use std::path::PathBuf;
-use std::time::Instant;
+use std::sync::Arc;
+use std::time::{Duration, Instant};
 
 thread_local! {
     static INPUT: RefCell<Vec<u8>> = const { RefCell::new(Vec::new()) };
@@ -38,7 +43,8 @@ pub extern "C" fn rignolda_fuzz_run(target: u32) {
         2 => answers(&input),
         3 => body(&input),
         4 => configuration(&input),
-        _ => requests(&input),
+        5 => requests(&input),
+        _ => agent(&input),
     }
 }
 
@@ -55,24 +61,33 @@ fn is_name(text: &str) -> bool {
     text.chars().all(good) && !matches!(first, None | Some('.' | '-')) && text.len() <= 64
 }
 
-/// The hello at the front of these bytes, and its length, if it is whole and good.
-fn read_hello(bytes: &[u8]) -> Option<(Hello, usize)> {
+/// The hello or look at the front of these bytes, and its length, if it is whole and good.
+fn read_hello(bytes: &[u8]) -> Option<(Message, usize)> {
     let from_end = 16 + number(bytes, 15, 1)? as usize;
     let to_end = from_end + 1 + number(bytes, from_end, 1)? as usize;
     let from = String::from_utf8(bytes.get(16..from_end)?.to_vec()).ok()?;
     let to = String::from_utf8(bytes.get(from_end + 1..to_end)?.to_vec()).ok()?;
-    let good = bytes.starts_with(b"RGND\x01") && is_name(&from) && (to.is_empty() || is_name(&to));
+    let kind =
+        [&b"RGND\x01"[..], b"RGND\x02", b"RGNL\x02"].iter().position(|it| bytes.starts_with(it));
+    let good = is_name(&from) && (to.is_empty() || is_name(&to));
     let (life, label) = (number(bytes, 5, 8)?, number(bytes, 13, 2)? as u16);
-    good.then_some((Hello { life, label, from, to }, to_end))
+    let hello = Hello { version: bytes[4], life, label, from, to };
+    let message = if kind? == 2 { Message::Look(hello) } else { Message::Hello(hello) };
+    good.then_some((message, to_end))
 }
 
 fn hello(bytes: &[u8]) {
     let mut input = bytes.to_vec();
     let taken = take(&mut input, Expect::Hello);
     match (&taken, read_hello(bytes)) {
-        (Ok(Some(Message::Hello(hello))), Some((expected, length))) => {
-            assert_eq!(*hello, expected);
-            assert_eq!(hello.bytes(), bytes[..length]);
+        (Ok(Some(message)), Some((expected, length))) => {
+            assert_eq!(*message, expected);
+            let written = match message {
+                Message::Look(look) => look.look(),
+                Message::Hello(hello) => hello.bytes(),
+                other => panic!("{other:?}"),
+            };
+            assert_eq!(written, bytes[..length]);
             assert_eq!(input, bytes[length..]);
         }
         // (no hello has more bytes: so what is kept of one is bounded)
@@ -95,38 +110,80 @@ fn hello(bytes: &[u8]) {
     }
 }
 
+/// The names of a way, if it may have these bytes.
+fn read_names(bytes: &[u8]) -> Option<Vec<String>> {
+    let text = String::from_utf8(bytes.to_vec()).ok()?;
+    let names: Vec<String> = text.split('\n').map(String::from).collect();
+    (names.len() <= NAMES && names.iter().all(|name| is_name(name))).then_some(names)
+}
+
+/// What a parent sends: frames and ways. A candidate that is looked at sends a way alone.
 fn frames(bytes: &[u8]) {
+    let look = take(&mut bytes.to_vec(), Expect::Way);
+    match bytes.first() {
+        None | Some(b'W') => assert_eq!(look, take(&mut bytes.to_vec(), Expect::Frames)),
+        Some(_) => assert!(look.is_err()),
+    }
+    let mut chooses = Parents::new("inner", [None, Some(3)], true);
     let (mut input, mut at) = (bytes.to_vec(), 0);
     loop {
         let rest = &bytes[at..];
-        let length = number(rest, 7, 4).map(|length| length as usize);
-        let is_none = rest.first().is_some_and(|first| *first != b'F');
+        // (where the length lies, how many bytes it has, and how long what follows may be)
+        let (place, digits, most) = match rest.first() {
+            Some(b'F') => (7, 4, BODY_BYTES),
+            Some(b'W') => (3, 2, WAY_BYTES),
+            _ => (rest.len(), 1, 0),
+        };
+        let length = number(rest, place, digits).map(|length| length as usize);
+        let end = length.map(|length| place + digits + length);
+        let content = end.and_then(|end| rest.get(place + digits..end));
         match take(&mut input, Expect::Frames) {
             Ok(Some(Message::Frame(label, body))) => {
-                let end = 11 + length.unwrap();
-                assert!(!is_none);
+                assert_eq!(rest[0], b'F');
                 assert_eq!(Some(u64::from(label)), number(rest, 1, 2));
                 assert_eq!(Some(u64::from(body.item)), number(rest, 3, 4));
-                assert_eq!(body.bytes, rest[11..end]);
+                assert_eq!(Some(&*body.bytes), content);
                 let _ = body.meaning();
-                at += end;
-                assert_eq!(input, bytes[at..]);
+            }
+            Ok(Some(Message::Way(way))) => {
+                assert_eq!(rest[0], b'W');
+                assert_eq!(Some(u64::from(way.cost)), number(rest, 1, 2));
+                assert_eq!(Some(&way.names), content.and_then(read_names).as_ref());
+                assert_eq!(wire::way(&way), rest[..end.unwrap()]);
+                told(&mut chooses, at % 2, way);
             }
             Ok(None) => {
-                assert!(!is_none);
-                assert!(length.is_none_or(|it| it <= BODY_BYTES && rest.len() < 11 + it));
+                assert!(rest.first().is_none_or(|first| b"FW".contains(first)));
+                assert!(length.is_none_or(|it| it <= most && content.is_none()));
                 return;
             }
             Err(_) => {
-                assert!(is_none || length.is_some_and(|it| it > BODY_BYTES));
+                let is_none = rest.first().is_some_and(|first| !b"FW".contains(first));
+                let is_long = length.is_some_and(|it| it > most);
+                let is_bad = rest[0] == b'W' && content.is_some_and(|it| read_names(it).is_none());
+                assert!(is_none || is_long || is_bad);
                 return;
             }
             other => panic!("{other:?}"),
         }
+        at += end.unwrap();
+        assert_eq!(input, bytes[at..]);
     }
 }
 
-/// Acknowledgements and reports; and what an agent tells its parent of a report is one as well.
+/// A candidate says a way, and is taken where it may be: what the agent then says is a way as well.
+fn told(chooses: &mut Parents, candidate: usize, way: Way) {
+    if chooses.looked(candidate, &way).is_ok() {
+        chooses.took(candidate, way);
+    }
+    let says = chooses.says().clone();
+    assert_eq!(says.names.last().map(String::as_str), Some("inner"));
+    let read = take(&mut wire::way(&says), Expect::Way);
+    assert_eq!(read, Ok(Some(Message::Way(says))));
+}
+
+/// What a child sends: acknowledgements, reports and goodbyes. What an agent tells its parent of a
+/// report is one as well.
 fn answers(bytes: &[u8]) {
     let (mut input, mut at) = (bytes.to_vec(), 0);
     let now = Instant::now();
@@ -145,6 +202,10 @@ fn answers(bytes: &[u8]) {
                 at += 5 + json.len();
                 heard(&json, now);
             }
+            Ok(Some(Message::Goodbye)) => {
+                assert_eq!(rest[0], b'G');
+                at += 1;
+            }
             Ok(None) => {
                 let needed = match rest.first() {
                     None => return,
@@ -157,7 +218,7 @@ fn answers(bytes: &[u8]) {
             }
             Err(_) => {
                 let is_long = rest[0] == b'R' && length.is_some_and(|it| it > REPORT_BYTES);
-                assert!(is_long || ![b'A', b'R'].contains(&rest[0]));
+                assert!(is_long || !b"AGR".contains(&rest[0]));
                 return;
             }
             other => panic!("{other:?}"),
@@ -176,6 +237,7 @@ fn heard(json: &[u8], now: Instant) {
     let status = Status { name: "inner".into(), children: children.into(), ..Status::default() };
     let report = below.report(&status, now);
     assert!(report.len() <= REPORT_BYTES);
+    assert!(Below::default().heard("inner", &report, now));
     let list = below.tree(&status, now);
     let text = tree_text(&list) + &bounds_text(&list);
     assert!(text.contains("child"));
@@ -201,7 +263,16 @@ fn body(bytes: &[u8]) {
     if let Some((sequence, meaning)) = body.meaning() {
         assert_eq!(*Body::new(sequence, &meaning), body);
         let mut table = Table::default();
-        table.takes(sequence, &meaning);
+        assert!(table.takes(sequence, &meaning) && table.heard.applies);
+        let keys: Vec<&str> = match &meaning {
+            Meaning::Table(entries) => entries.iter().map(|entry| entry.0).collect(),
+            Meaning::Changes(entries) => {
+                entries.iter().filter_map(|entry| entry.1.map(|_| entry.0)).collect()
+            }
+            Meaning::Harmless => Vec::new(),
+        };
+        assert!(table.keys.keys().eq(keys));
+        assert!(!table.takes(sequence, &meaning) || sequence == 0);
         table.takes(sequence ^ 1, &meaning);
     }
     // The same bytes as a list of keys and values: what is written of it is read again.
@@ -303,4 +374,154 @@ fn requests(bytes: &[u8]) {
         assert_eq!(answers.lines().count(), lines);
         assert_eq!(server.descriptors().count(), 1);
     });
+}
+
+/// A line that brings what is put here. Nobody looks at what is written to it.
+#[derive(Default)]
+struct Pipe(RefCell<Vec<u8>>);
+
+impl Read for Pipe {
+    fn read(&mut self, to: &mut [u8]) -> io::Result<usize> {
+        let bytes = self.0.get_mut();
+        let count = bytes.len().min(to.len());
+        to[..count].copy_from_slice(&bytes[..count]);
+        bytes.drain(..count);
+        if count == 0 {
+            Err(ErrorKind::WouldBlock.into())
+        } else {
+            Ok(count)
+        }
+    }
+}
+
+impl Write for Pipe {
+    fn write(&mut self, bytes: &[u8]) -> io::Result<usize> {
+        Ok(bytes.len())
+    }
+
+    fn flush(&mut self) -> io::Result<()> {
+        Ok(())
+    }
+}
+
+impl Line for Pipe {
+    fn may_be(&self, name: &str) -> bool {
+        is_name(name)
+    }
+}
+
+#[derive(Default)]
+struct Shell(Below);
+
+impl Handler for Shell {
+    fn on_item(&mut self, body: &Arc<Body>, _: Instant) -> bool {
+        matches!(body.meaning(), Some((_, Meaning::Table(_))))
+    }
+
+    fn on_report(&mut self, child: &str, report: &[u8], now: Instant) -> bool {
+        assert!(CHILDREN.iter().any(|(name, _)| *name == child));
+        self.0.heard(child, report, now)
+    }
+
+    fn on_gone(&mut self, child: &str) {
+        self.0.forget(child);
+    }
+
+    fn on_fact(&mut self, _: &'static str, words: fmt::Arguments<'_>) {
+        assert!(!words.to_string().is_empty());
+    }
+}
+
+const CHILDREN: [(&str, Option<&str>); 3] =
+    [("leaf", None), ("far", Some("line")), ("kept", Some("store"))];
+/// What others set in the store, and what the agent sets, which they may spoil.
+const KEYS: [&str; 6] = [
+    "hub3:inner:way",
+    "hub3:inner:down",
+    "hub3:inner:up",
+    "inner:kept:up",
+    "inner:kept:report",
+    "inner:kept:down",
+];
+
+/// An agent with parents and children of each kind. Of each piece of the input the first byte says
+/// by which line it comes, at which key of the store it lies, or that time goes by; and the second
+/// one how long it is.
+fn agent(bytes: &[u8]) {
+    let parent =
+        |name: &str, address| Parent { name: Some(name.to_string()), address, price: None };
+    let setup = Setup {
+        name: "inner".into(),
+        parents: vec![
+            parent("hub1", None),
+            parent("hub2", Some("line")),
+            parent("hub3", Some("store")),
+        ],
+        children: Children::Named(CHILDREN.map(|(name, at)| (name.to_string(), at)).into()),
+        ack_timeout: Duration::from_millis(500),
+        evict: Duration::from_secs(60),
+        poll: Duration::from_millis(50),
+    };
+    let (mut now, to) = (Instant::now(), &mut Shell::default());
+    let (mut peers, mut store) = (Peers::new(setup, 7, 16, now), BTreeMap::new());
+    let mut rest = bytes;
+    while let [first, length, after @ ..] = rest {
+        let (piece, after) = after.split_at(after.len().min(usize::from(*length)));
+        rest = after;
+        match usize::from(first % 8) {
+            7 => {
+                now += Duration::from_millis(u64::from(*length) * 10);
+                assert_eq!(peers.check(false, now, to), Ok(()));
+            }
+            6 => {
+                let key = KEYS[usize::from(first / 8) % KEYS.len()];
+                store.insert(key.to_string(), piece.to_vec());
+            }
+            at => {
+                if peers.lines().nth(at).is_none() {
+                    peers.accept(Pipe::default(), now, to);
+                }
+                let (id, line, _) = peers.lines().take(at + 1).last().expect("there is one");
+                line.0.borrow_mut().extend_from_slice(piece);
+                peers.read([id], now, to);
+            }
+        }
+        turn(&mut peers, &mut store, now, to);
+        assert_eq!(peers.fault(), None);
+    }
+    // All that is due now gets done: no loop would turn without end.
+    let is_done = (0..16).any(|_| {
+        turn(&mut peers, &mut store, now, to);
+        peers.deadline(now).is_none_or(|at| at > now)
+    });
+    assert!(is_done);
+    assert!(peers.lines().count() <= 64 + 2 * CHILDREN.len() + 3);
+    assert_eq!(peers.way().names.last().map(String::as_str), Some("inner"));
+    assert!(peers.way().names.len() <= NAMES);
+}
+
+/// What an agent's loop does at this moment.
+fn turn(
+    peers: &mut Peers<Pipe, &'static str>,
+    store: &mut BTreeMap<String, Vec<u8>>,
+    now: Instant,
+    to: &mut Shell,
+) {
+    peers.tick(now, to);
+    while let Some(call) = peers.next_call(now, to) {
+        match call.address {
+            "store" => peers.in_store(call, now),
+            _ => peers.called(call, Ok(Pipe::default()), now, to),
+        }
+    }
+    for (place, turn) in peers.turns(now, to) {
+        store.extend(turn.sets);
+        let shown = |(key, most): &(String, usize)| {
+            let bytes = store.get(key).map_or(&[][..], Vec::as_slice);
+            bytes[..bytes.len().min(*most)].to_vec()
+        };
+        let got = turn.gets.iter().map(shown).collect();
+        peers.turned(&place, Ok(got), now, to);
+    }
+    peers.write(now, to);
 }
