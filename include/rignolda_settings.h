@@ -1,5 +1,6 @@
 /*
- * Rignolda: bodies of settings, as bytes that travel beside an item, for agents of one's own.
+ * Rignolda: bodies of settings, as bytes that travel beside an item, and what a root publishes, for
+ * agents of one's own.
  *
  * Each call is proved: it reads and writes what the definitions of the crate rignolda_body say. The
  * rules for pointers and for several calls at once are those of rignolda.h, and none takes memory.
@@ -18,10 +19,17 @@
  *   - what_is_written_is_read: a head and then its entries, one after the other, are that body.
  *   - entries_are_read_in_turn: in a body that was checked, as many entries as its head says follow
  *     each other from the end of the head to the end of the bytes.
+ * Those of what a root publishes, of the crate rignolda_root:
+ *   - numbers_rise_by_one, a_round_ends, every_change_is_published: from every bit pattern of a
+ *     publisher.
+ *   - what_does_not_wait_is_told: a table that was told every body is the root's, beside each key
+ *     that does not wait.
+ *   - merged_changes_tell_the_same: what waits tells a table the same as all bodies that came.
  */
 #ifndef RIGNOLDA_SETTINGS_H
 #define RIGNOLDA_SETTINGS_H
 
+#include <stdbool.h>
 #include <stddef.h>
 #include <stdint.h>
 
@@ -77,6 +85,82 @@ size_t rignolda_body_set(uint8_t *buffer, size_t size, size_t at, const uint8_t 
                          size_t key_length, const uint8_t *value, size_t value_length);
 size_t rignolda_body_unset(uint8_t *buffer, size_t size, size_t at, const uint8_t *key,
                            size_t key_length);
+
+/*
+ * What a root remembers of what it published, to be made by rignolda_publisher_init. Its settings,
+ * and the keys of changes that wait, are kept by the caller: each key once, in the order in which
+ * the first change of it came. A body of changes has the first ones of these, each with its value
+ * of now, and a whole table has all settings; what was published does not wait any more.
+ */
+typedef struct rignolda_publisher {
+    uint64_t number;      /* of the last body */
+    uint64_t items;       /* bodies after the last whole table, */
+    uint64_t bytes;       /* their bytes, */
+    uint64_t table_bytes; /* and those of the table */
+    uint64_t left;        /* bodies of the round that are still to come, its table with them */
+    uint8_t rounds_turn;  /* not 0 where the round goes on before changes do */
+    uint8_t table_first;  /* not 0 while the first table is still to come */
+    uint8_t held;         /* not 0 while no table may be published, and nothing of a round */
+} rignolda_publisher;
+
+/* The body to publish next. */
+typedef struct rignolda_next_body {
+    uint64_t number;  /* its number */
+    uint64_t entries; /* how many entries it has: the first changes that wait, or all settings */
+    uint8_t kind;     /* 'C', 'T' or 'H', or 0 where nothing is to be published */
+} rignolda_next_body;
+
+/* Makes a publisher whose bodies have the numbers after this one. It begins with a whole table. */
+void rignolda_publisher_init(rignolda_publisher *publisher, uint64_t number);
+
+/*
+ * A round with so many harmless bodies begins, 65,535 at most. One that is under way goes on
+ * instead, with no more bodies than that.
+ */
+void rignolda_publisher_begin_round(rignolda_publisher *publisher, uint32_t harmless);
+
+/*
+ * Goes on above this number, which an agent has, with a whole table first, if it is newer than the
+ * last one. Returns whether it is.
+ */
+bool rignolda_publisher_go_above(rignolda_publisher *publisher, uint64_t number);
+
+bool rignolda_publisher_is_in_a_round(const rignolda_publisher *publisher);
+
+/* While `holds` is not 0, no table is published, and nothing of a round. */
+void rignolda_publisher_hold(rignolda_publisher *publisher, uint8_t holds);
+
+/* Whether something is to be published, where this number of changes waits. */
+bool rignolda_publisher_waits(const rignolda_publisher *publisher, uint64_t changes);
+
+/*
+ * Writes which body is next, where this number of changes waits, there are so many settings, and
+ * so many bodies may follow a table.
+ */
+void rignolda_publisher_next(const rignolda_publisher *publisher, uint64_t changes,
+                             uint64_t settings, uint64_t limit, rignolda_next_body *body);
+
+/* Publishes that body, which has so many bytes. Returns its kind. */
+uint8_t rignolda_publisher_publish(rignolda_publisher *publisher, uint64_t changes, uint64_t limit,
+                                   uint64_t bytes);
+
+/*
+ * What waits beside a key to be applied; all 0 where nothing does. Its value is kept by the caller.
+ */
+typedef struct rignolda_waits {
+    uint64_t first;   /* the number of the first change that waits for this one, */
+    uint64_t last;    /* and its own */
+    uint8_t is_there; /* not 0 where something waits */
+} rignolda_waits;
+
+/*
+ * A change of the key comes. Returns whether its value takes the place of the one that waits, which
+ * it does; its numbers are those of the body that it came with.
+ */
+bool rignolda_waits_on_change(rignolda_waits *waits, uint64_t first, uint64_t last);
+
+/* A whole table leaves the key out. Returns whether it is to be unset: nothing waits beside it. */
+bool rignolda_waits_on_left_out(rignolda_waits *waits, uint64_t first, uint64_t last);
 
 #ifdef __cplusplus
 }

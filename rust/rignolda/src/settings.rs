@@ -25,7 +25,7 @@
 //! ```
 use crate::calls;
 use crate::net::{is_plain, Body, BODY_BYTES};
-use std::collections::{BTreeMap, BTreeSet};
+use std::collections::BTreeMap;
 use std::sync::Arc;
 
 mod batch;
@@ -34,6 +34,8 @@ mod depth;
 mod floor;
 #[cfg(unix)]
 mod folder;
+mod proved;
+mod publisher;
 #[cfg(unix)]
 mod source;
 mod waiting;
@@ -44,6 +46,7 @@ pub use depth::{too_deep, TOO_DEEP};
 pub use floor::{read_floor, write_floor};
 #[cfg(unix)]
 pub use folder::{remove, Folder};
+pub use publisher::{Published, Publisher};
 #[cfg(unix)]
 pub use source::{no_key, read_folder, read_plain, too_many, write_folder, Faults, Found, Kept};
 pub use waiting::{Change, Value, Waiting};
@@ -54,10 +57,6 @@ pub const KEY_BYTES: usize = 128;
 pub const VALUE_BYTES: usize = 1 << 20;
 /// How many settings there are at most.
 pub const SETTINGS: usize = 1 << 16;
-/// The most changes in one body.
-const CHANGES: usize = 4_096;
-/// After this many items a new table is published, if it is not longer than they were.
-const MANY: u64 = 64;
 /// How many bytes a body with entries has before them.
 const HEAD: usize = 13;
 
@@ -320,220 +319,5 @@ impl Table {
             bytes = bytes.saturating_sub(old.copied().unwrap_or(0));
         }
         count <= SETTINGS && bytes <= BODY_BYTES
-    }
-}
-
-/// All settings, as the root has them, and which bodies it publishes.
-///
-/// Changes that wait are merged: of each key the last value alone is published. A round is a number
-/// of harmless items and then the whole table.
-#[derive(Debug)]
-pub struct Publisher {
-    settings: BTreeMap<String, Vec<u8>>,
-    /// How many bytes a whole table of them has.
-    bytes: usize,
-    /// The keys whose last value is not published yet.
-    changed: BTreeSet<String>,
-    sequence: u64,
-    /// Items and bytes since the last whole table, and what that table had.
-    since: (u64, usize),
-    table_bytes: usize,
-    /// Items of the round under way that are still to come, its table with them.
-    round: u64,
-    table_first: bool,
-    /// Whether no table may be published.
-    holds: bool,
-}
-
-/// A body to publish.
-#[derive(Debug)]
-pub struct Published {
-    /// The body.
-    pub body: Arc<Body>,
-    /// Whether it is a whole table.
-    pub is_table: bool,
-    /// The keys of those changes that were waiting and are in it.
-    pub keys: BTreeSet<String>,
-}
-
-impl Publisher {
-    /// A publisher without settings, whose bodies have the numbers after this one: to be above
-    /// those of an earlier life, it may be that of a clock. It begins with the whole table.
-    pub fn new(sequence: u64) -> Publisher {
-        Publisher {
-            settings: BTreeMap::new(),
-            bytes: HEAD,
-            changed: BTreeSet::new(),
-            sequence,
-            since: (0, 0),
-            table_bytes: 0,
-            round: 0,
-            table_first: true,
-            holds: false,
-        }
-    }
-
-    /// All settings.
-    pub fn settings(&self) -> &BTreeMap<String, Vec<u8>> {
-        &self.settings
-    }
-
-    /// How long a whole table of these settings would be, in bytes. It has to be at most
-    /// [`BODY_BYTES`].
-    pub fn bytes_of(settings: &BTreeMap<String, Vec<u8>>) -> usize {
-        let entries = settings.iter();
-        HEAD + entries
-            .map(|(key, value)| entry_bytes(&(key, Some(value))))
-            .sum::<usize>()
-    }
-
-    /// Whether there is room for this setting beside all others.
-    pub fn has_room(&self, key: &str, value: &[u8]) -> bool {
-        let all = self.bytes - self.bytes_at(key) + entry_bytes(&(key, Some(value)));
-        let is_few = self.settings.len() < SETTINGS || self.settings.contains_key(key);
-        value.len() <= VALUE_BYTES && all <= BODY_BYTES && is_few
-    }
-
-    /// How many bytes of them are this setting's.
-    fn bytes_at(&self, key: &str) -> usize {
-        let old = self.settings.get(key);
-        old.map_or(0, |old| entry_bytes(&(key, Some(old))))
-    }
-
-    /// Makes a setting. It is published even where it is as it was.
-    pub fn set(&mut self, key: &str, value: Vec<u8>) {
-        self.changed.insert(key.into());
-        self.bytes += entry_bytes(&(key, Some(&value)));
-        self.bytes -= self.bytes_at(key);
-        self.settings.insert(key.into(), value);
-    }
-
-    /// Removes a setting.
-    pub fn unset(&mut self, key: &str) {
-        self.changed.insert(key.into());
-        self.bytes -= self.bytes_at(key);
-        self.settings.remove(key);
-    }
-
-    /// Makes a setting, or, without a value, removes it, as [`set`](Publisher::set) and
-    /// [`unset`](Publisher::unset) do.
-    pub fn put(&mut self, key: &str, value: Option<Vec<u8>>) {
-        match value {
-            Some(value) => self.set(key, value),
-            None => self.unset(key),
-        }
-    }
-
-    /// Takes all settings anew: what differs is published.
-    pub fn replace(&mut self, settings: BTreeMap<String, Vec<u8>>) {
-        self.bytes = Publisher::bytes_of(&settings);
-        let old = std::mem::replace(&mut self.settings, settings);
-        let differs = |(key, value): &(&String, &Vec<u8>)| old.get(*key) != Some(value);
-        let new = self
-            .settings
-            .iter()
-            .filter(differs)
-            .map(|(key, _)| key.clone());
-        self.changed.extend(new);
-        let gone = old
-            .into_keys()
-            .filter(|key| !self.settings.contains_key(key));
-        self.changed.extend(gone);
-    }
-
-    /// Goes on above this number, where it is ahead: an agent has it, so it would take nothing else.
-    /// The whole table comes next. Whether it was ahead.
-    pub fn go_above(&mut self, number: u64) -> bool {
-        let is_ahead = is_newer(number, self.sequence);
-        if is_ahead {
-            self.sequence = number;
-            self.table_first = true;
-        }
-        is_ahead
-    }
-
-    /// A round with `harmless` harmless items begins, unless one is under way. Where the deepest
-    /// agent is `d` links below the root, `2 * d + 3` are enough: more than can be missing after a
-    /// fault, so that each agent gets some of them.
-    pub fn begin_round(&mut self, harmless: u32) {
-        let items = u64::from(harmless) + 1;
-        if !self.is_in_a_round() || self.round > items {
-            self.round = items;
-        }
-    }
-
-    /// Whether a round is under way.
-    pub fn is_in_a_round(&self) -> bool {
-        self.round > 0
-    }
-
-    /// Publishes no table from now on, or does again: as long as a setting is there whose value is
-    /// not known, a table would unset it. Changes alone are published then, and no round.
-    pub fn hold(&mut self, holds: bool) {
-        self.holds = holds;
-    }
-
-    /// Whether something waits to be published.
-    pub fn waits(&self) -> bool {
-        let is_due = self.table_first || self.round > 0;
-        (is_due && !self.holds) || !self.changed.is_empty()
-    }
-
-    /// Whether a change waits, or the first table.
-    pub fn is_changed(&self) -> bool {
-        self.table_first || !self.changed.is_empty()
-    }
-
-    /// Whether the next body is the whole table, where `limit` items may follow one at most. Before
-    /// that the root takes [its settings](Publisher::replace) anew, since what it remembers may be
-    /// spoiled.
-    pub fn is_table_next(&self, limit: u64) -> bool {
-        let (items, bytes) = self.since;
-        // (tables never take more than the changes between them, but where these are very many)
-        let is_long = bytes > self.table_bytes && (items >= MANY || bytes > VALUE_BYTES);
-        let is_due = self.table_first || (self.changed.is_empty() && self.round == 1);
-        !self.holds && self.waits() && (is_due || is_long || items >= limit)
-    }
-
-    /// The next body to publish. `limit`: how many items may follow a table at most.
-    pub fn next(&mut self, limit: u64) -> Option<Published> {
-        if !self.waits() {
-            return None;
-        }
-        let (items, bytes) = self.since;
-        let is_table = self.is_table_next(limit);
-        self.sequence = after(self.sequence);
-        if is_table {
-            // (the table of a round comes behind its harmless items)
-            self.round -= u64::from(self.round == 1);
-            self.table_first = false;
-            let entries = self.settings.iter();
-            let entries = entries.map(|(key, value)| (key.as_str(), Some(value.as_slice())));
-            let body = Body::new(self.sequence, &Meaning::Table(entries.collect()));
-            self.since = (0, 0);
-            self.table_bytes = body.bytes.len();
-            return Some(Published {
-                body,
-                is_table,
-                keys: std::mem::take(&mut self.changed),
-            });
-        }
-        let later = self.changed.iter().nth(CHANGES).cloned();
-        let later = later.map_or(BTreeSet::new(), |key| self.changed.split_off(&key));
-        let keys = std::mem::replace(&mut self.changed, later);
-        let body = if keys.is_empty() {
-            self.round -= 1;
-            Body::new(self.sequence, &Meaning::Harmless)
-        } else {
-            let value = |key: &String| self.settings.get(key).map(Vec::as_slice);
-            let entries = keys.iter().map(|key| (key.as_str(), value(key))).collect();
-            Body::new(self.sequence, &Meaning::Changes(entries))
-        };
-        self.since = (items + 1, bytes + body.bytes.len());
-        Some(Published {
-            body,
-            is_table,
-            keys,
-        })
     }
 }

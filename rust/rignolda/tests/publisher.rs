@@ -1,7 +1,7 @@
-//! What the root publishes: here, whether there is room for a setting.
+//! What the root publishes, and whether there is room for a setting.
 #![cfg(feature = "net")]
 use rignolda::net::BODY_BYTES;
-use rignolda::settings::{Publisher, SETTINGS, VALUE_BYTES};
+use rignolda::settings::{Meaning, Publisher, SETTINGS, VALUE_BYTES};
 use std::collections::BTreeMap;
 use std::time::{Duration, Instant};
 
@@ -109,4 +109,63 @@ fn one_that_holds_publishes_changes_alone() {
         [true, false, false, false, true],
         "the table, and then the round"
     );
+}
+
+/// A step of a row, and the body that it publishes, if it asks for one.
+fn step(publisher: &mut Publisher, step: &str) -> Option<String> {
+    if let Some(limit) = step.strip_prefix('?') {
+        let limit = limit.parse().unwrap();
+        let is_table = publisher.is_table_next(limit);
+        let waits = publisher.waits();
+        let said = publisher.next(limit).map(|published| {
+            let (sequence, meaning) = published.body.meaning().expect("it fits its item");
+            let keys: Vec<&str> = match &meaning {
+                Meaning::Changes(entries) => entries.iter().map(|entry| entry.0).collect(),
+                _ => Vec::new(),
+            };
+            let changes = published.keys.iter().map(String::as_str);
+            assert!(keys.is_empty() || changes.eq(keys), "{:?}", published.keys);
+            assert_eq!(published.is_table, matches!(meaning, Meaning::Table(_)));
+            let (kind, item) = (published.body.bytes[0] as char, published.body.item);
+            (
+                format!("{}{}:{:08x}", kind, sequence, item),
+                published.is_table,
+            )
+        });
+        let is_one = said.as_ref().map(|(_, is_table)| *is_table);
+        assert_eq!((waits, is_table), (said.is_some(), is_one == Some(true)));
+        return Some(said.map_or("-".into(), |(said, _)| said));
+    }
+    if let Some(harmless) = step.strip_prefix("round") {
+        publisher.begin_round(harmless.parse().unwrap());
+    } else if let Some(number) = step.strip_prefix("above") {
+        publisher.go_above(number.parse().unwrap());
+    } else if let Some(count) = step.strip_prefix("all=") {
+        let count: usize = count.parse().unwrap();
+        (0..count).for_each(|at| publisher.set(&format!("k{:05}", at), b"1".to_vec()));
+    } else if let "hold" | "go" = step {
+        publisher.hold(step == "hold");
+    } else if let Some(key) = step.strip_suffix('-') {
+        publisher.unset(key);
+    } else if let Some((key, count)) = step.split_once('*') {
+        publisher.set(key, vec![b'x'; count.parse().unwrap()]);
+    } else {
+        let (key, value) = step.split_once('=').expect("a key and its value");
+        publisher.set(key, value.into());
+    }
+    None
+}
+
+/// The rows are worked out by `tests/daemon/publisher.py`, which knows nothing of this library.
+#[test]
+fn it_publishes_what_another_program_does() {
+    let lines: Vec<&str> = include_str!("publisher.txt").lines().collect();
+    assert_eq!(lines.len(), 28);
+    for (number, row) in lines.chunks(2).enumerate() {
+        let mut publisher = Publisher::new(1_000 * number as u64);
+        let steps = row[0].split(' ');
+        let said: Vec<String> = steps.filter_map(|it| step(&mut publisher, it)).collect();
+        let expected: Vec<&str> = row[1].split(' ').collect();
+        assert_eq!(said, expected, "row {}", number);
+    }
 }

@@ -1,5 +1,5 @@
 //! Changes that wait to be applied.
-use super::{is_key, older, Meaning};
+use super::{is_key, older, proved, Meaning};
 use std::collections::BTreeMap;
 use std::ops::{Deref, Range};
 use std::sync::Arc;
@@ -107,13 +107,27 @@ impl Waiting {
     }
 
     /// Puts a change in the place of the one of its key that waits.
-    pub fn put(&mut self, key: &str, mut change: Change) {
-        if let Some(before) = self.changes.get(key) {
-            change.first = older(change.first, before.first);
+    pub fn put(&mut self, key: &str, change: Change) {
+        let mut waits = self.beside(key);
+        if is_key(key) && waits.on_change(change.first, change.last) {
+            self.insert(key, change.value, &waits);
         }
-        if is_key(key) {
-            self.changes.insert(key.into(), change);
-        }
+    }
+
+    /// The numbers of what waits beside a key.
+    fn beside(&self, key: &str) -> proved::Waits {
+        let waits = self.changes.get(key);
+        waits.map_or(proved::Waits::default(), |change| proved::Waits {
+            first: change.first,
+            last: change.last,
+            is_there: 1,
+        })
+    }
+
+    fn insert(&mut self, key: &str, value: Option<Value>, waits: &proved::Waits) {
+        let (first, last) = (waits.first, waits.last);
+        self.changes
+            .insert(key.into(), Change { value, first, last });
     }
 
     /// Whether a whole table waits.
@@ -125,9 +139,10 @@ impl Waiting {
     pub fn unset_others(&mut self, there: impl IntoIterator<Item = String>) {
         if let Some((first, last)) = self.whole {
             for key in there.into_iter().filter(|key| is_key(key)) {
-                let value = None;
-                let unset = Change { value, first, last };
-                self.changes.entry(key).or_insert(unset);
+                let mut waits = self.beside(&key);
+                if waits.on_left_out(first, last) {
+                    self.insert(&key, None, &waits);
+                }
             }
         }
     }

@@ -1,0 +1,205 @@
+//! What the root publishes.
+use super::{entry_bytes, proved, Meaning, HEAD, SETTINGS, VALUE_BYTES};
+use crate::net::{Body, BODY_BYTES};
+use std::collections::{BTreeMap, BTreeSet, VecDeque};
+use std::sync::Arc;
+
+/// All settings, as the root has them, and which bodies it publishes.
+///
+/// Changes that wait are merged: of each key the last value alone is published. A round is a number
+/// of harmless items and then the whole table; while changes come, they and the harmless items take
+/// turns. Which body is next, its number and what it has of all this is said by calls of the proved
+/// library; its crate `rignolda_root` has the laws.
+#[derive(Debug)]
+pub struct Publisher {
+    settings: BTreeMap<String, Vec<u8>>,
+    /// How many bytes a whole table of them has.
+    bytes: usize,
+    /// The keys whose last value is not published yet, and these in the order in which they came.
+    changed: BTreeSet<String>,
+    order: VecDeque<String>,
+    numbers: proved::Publisher,
+}
+
+/// A body to publish.
+#[derive(Debug)]
+pub struct Published {
+    /// The body.
+    pub body: Arc<Body>,
+    /// Whether it is a whole table.
+    pub is_table: bool,
+    /// The keys of those changes that were waiting and are in it.
+    pub keys: BTreeSet<String>,
+}
+
+impl Publisher {
+    /// A publisher without settings, whose bodies have the numbers after this one: to be above
+    /// those of an earlier life, it may be that of a clock. It begins with the whole table.
+    pub fn new(sequence: u64) -> Publisher {
+        Publisher {
+            settings: BTreeMap::new(),
+            bytes: HEAD,
+            changed: BTreeSet::new(),
+            order: VecDeque::new(),
+            numbers: proved::Publisher::new(sequence),
+        }
+    }
+
+    /// All settings.
+    pub fn settings(&self) -> &BTreeMap<String, Vec<u8>> {
+        &self.settings
+    }
+
+    /// How long a whole table of these settings would be, in bytes. It has to be at most
+    /// [`BODY_BYTES`].
+    pub fn bytes_of(settings: &BTreeMap<String, Vec<u8>>) -> usize {
+        let entries = settings.iter();
+        HEAD + entries
+            .map(|(key, value)| entry_bytes(&(key, Some(value))))
+            .sum::<usize>()
+    }
+
+    /// Whether there is room for this setting beside all others.
+    pub fn has_room(&self, key: &str, value: &[u8]) -> bool {
+        let all = self.bytes - self.bytes_at(key) + entry_bytes(&(key, Some(value)));
+        let is_few = self.settings.len() < SETTINGS || self.settings.contains_key(key);
+        value.len() <= VALUE_BYTES && all <= BODY_BYTES && is_few
+    }
+
+    /// How many bytes of them are this setting's.
+    fn bytes_at(&self, key: &str) -> usize {
+        let old = self.settings.get(key);
+        old.map_or(0, |old| entry_bytes(&(key, Some(old))))
+    }
+
+    /// Makes a setting. It is published even where it is as it was.
+    pub fn set(&mut self, key: &str, value: Vec<u8>) {
+        self.changes(key);
+        self.bytes += entry_bytes(&(key, Some(&value)));
+        self.bytes -= self.bytes_at(key);
+        self.settings.insert(key.into(), value);
+    }
+
+    /// Removes a setting.
+    pub fn unset(&mut self, key: &str) {
+        self.changes(key);
+        self.bytes -= self.bytes_at(key);
+        self.settings.remove(key);
+    }
+
+    /// A change of this key waits, at the place of the one that waits already.
+    fn changes(&mut self, key: &str) {
+        if self.changed.insert(key.into()) {
+            self.order.push_back(key.into());
+        }
+    }
+
+    /// Makes a setting, or, without a value, removes it, as [`set`](Publisher::set) and
+    /// [`unset`](Publisher::unset) do.
+    pub fn put(&mut self, key: &str, value: Option<Vec<u8>>) {
+        match value {
+            Some(value) => self.set(key, value),
+            None => self.unset(key),
+        }
+    }
+
+    /// Takes all settings anew: what differs is published.
+    pub fn replace(&mut self, settings: BTreeMap<String, Vec<u8>>) {
+        self.bytes = Publisher::bytes_of(&settings);
+        let old = std::mem::replace(&mut self.settings, settings);
+        let new = self.settings.iter();
+        let new = new.filter(|(key, value)| old.get(*key) != Some(value));
+        let gone = old.keys().filter(|key| !self.settings.contains_key(*key));
+        let differ: Vec<String> = new.map(|(key, _)| key).chain(gone).cloned().collect();
+        differ.iter().for_each(|key| self.changes(key));
+    }
+
+    /// A round with `harmless` harmless items begins, 65,535 at most. One that is under way goes on
+    /// instead, with no more items than that. Where the deepest agent is `d` links below the root,
+    /// `2 * d + 3` are enough: more than can be missing after a fault, so that each agent gets some
+    /// of them.
+    ///
+    /// Unless it is [held](Publisher::hold), the table comes after `4 * harmless + 1` other bodies
+    /// at most, whatever changes meanwhile.
+    pub fn begin_round(&mut self, harmless: u32) {
+        self.numbers.begin_round(harmless);
+    }
+
+    /// Goes on above this number, where it is ahead: an agent has it, so it would take nothing else.
+    /// The whole table comes next. Whether it was ahead.
+    pub fn go_above(&mut self, number: u64) -> bool {
+        self.numbers.go_above(number)
+    }
+
+    /// Whether a round is under way.
+    pub fn is_in_a_round(&self) -> bool {
+        self.numbers.is_in_a_round()
+    }
+
+    /// Publishes no table from now on, or does again: as long as a setting is there whose value is
+    /// not known, a table would unset it. Changes alone are published then, and no round.
+    pub fn hold(&mut self, holds: bool) {
+        self.numbers.hold(holds);
+    }
+
+    /// Whether something waits to be published.
+    pub fn waits(&self) -> bool {
+        self.numbers.waits(self.changed.len())
+    }
+
+    /// Whether a change waits, or the first table.
+    pub fn is_changed(&self) -> bool {
+        self.numbers.is_table_first() || !self.changed.is_empty()
+    }
+
+    /// Whether the next body is the whole table, where `limit` items may follow one at most. Before
+    /// that the root takes [its settings](Publisher::replace) anew, since what it remembers may be
+    /// spoiled.
+    pub fn is_table_next(&self, limit: u64) -> bool {
+        self.next_body(limit).kind == b'T'
+    }
+
+    fn next_body(&self, limit: u64) -> proved::NextBody {
+        self.numbers
+            .next(self.changed.len(), self.settings.len(), limit)
+    }
+
+    /// The next body to publish. `limit`: how many items may follow a table at most.
+    pub fn next(&mut self, limit: u64) -> Option<Published> {
+        let (next, changes) = (self.next_body(limit), self.changed.len());
+        let keys = match next.kind {
+            0 => return None,
+            b'H' => BTreeSet::new(),
+            b'C' if next.entries < changes as u64 => {
+                let keys: BTreeSet<_> = self.order.drain(..next.entries as usize).collect();
+                for key in &keys {
+                    self.changed.remove(key);
+                }
+                keys
+            }
+            _ => {
+                self.order.clear();
+                std::mem::take(&mut self.changed)
+            }
+        };
+        let meaning = match next.kind {
+            b'H' => Meaning::Harmless,
+            b'C' => {
+                let value = |key: &String| self.settings.get(key).map(Vec::as_slice);
+                Meaning::Changes(keys.iter().map(|key| (key.as_str(), value(key))).collect())
+            }
+            _ => {
+                let all = self.settings.iter().take(next.entries as usize);
+                let all = all.map(|(key, value)| (key.as_str(), Some(value.as_slice())));
+                Meaning::Table(all.collect())
+            }
+        };
+        let body = Body::new(next.number, &meaning);
+        self.numbers.publish(changes, limit, body.bytes.len());
+        Some(Published {
+            body,
+            is_table: next.kind == b'T',
+            keys,
+        })
+    }
+}

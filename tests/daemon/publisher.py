@@ -1,0 +1,164 @@
+#!/usr/bin/env python3
+"""What a root publishes, worked out without the library: rows for a test of it.
+
+    tests/daemon/publisher.py > rust/rignolda/tests/publisher.txt
+
+A row is a line of steps and a line of the bodies that they publish, each its kind, number and
+checksum. Steps: `a=7` sets the key a, `a*900` sets it to so many letters x, `a-` unsets it, `all=5000`
+sets so many keys, `round3` begins a round with three harmless bodies, `hold` and `go` hold tables
+back or no more, `above9` goes on above 9, and `?8` asks for a body where eight may
+follow a table.
+"""
+import random
+import struct
+import zlib
+
+CHANGES, MANY, LONG = 4096, 64, 1 << 20
+
+
+class Root:
+    def __init__(self, number):
+        self.number, self.settings, self.queue = number, {}, []
+        self.since, self.table_bytes = [], None
+        self.harmless, self.in_round, self.changes_had_it = 0, False, False
+        self.held = False
+
+    def put(self, key, value):
+        self.settings.pop(key, None)
+        if value is not None:
+            self.settings[key] = value
+        if key not in self.queue:
+            self.queue.append(key)
+
+    def round(self, harmless):
+        if self.in_round:
+            self.harmless = min(self.harmless, harmless)
+        else:
+            self.in_round, self.harmless, self.changes_had_it = True, harmless, False
+
+    def go_above(self, number):
+        # (numbers go round, and 0 is none)
+        ahead = (number - self.number) % 2 ** 64
+        if number and (0 < ahead < 2 ** 63 or not self.number):
+            self.number, self.table_bytes = number, None
+
+    def is_long(self, limit):
+        if self.table_bytes is None:
+            return True
+        bytes_since = sum(self.since)
+        grown = bytes_since > self.table_bytes
+        return (len(self.since) >= max(1, limit)
+                or grown and (len(self.since) >= MANY or bytes_since > LONG))
+
+    def kind(self, limit):
+        if self.held:
+            return "C" if self.queue else None
+        if self.table_bytes is None:
+            return "T"
+        if not self.queue and not self.in_round:
+            return None
+        if self.is_long(limit):
+            return "T"
+        if self.in_round and (self.changes_had_it or not self.queue):
+            return "H" if self.harmless else "T"
+        return "C"
+
+    def ask(self, limit):
+        kind = self.kind(limit)
+        if kind is None:
+            return "-"
+        self.number = self.number % (2 ** 64 - 1) + 1
+        keys = {"T": sorted(self.settings), "H": [], "C": sorted(self.queue[:CHANGES])}[kind]
+        body = kind.encode() + struct.pack(">Q", self.number)
+        if kind != "H":
+            body += struct.pack(">I", len(keys))
+        for key in keys:
+            value = self.settings.get(key)
+            body += (b"U" if value is None else b"S") + bytes([len(key)]) + key.encode()
+            if value is not None:
+                body += struct.pack(">I", len(value)) + value
+        self.since.append(len(body))
+        if kind == "H":
+            self.harmless -= 1
+            self.changes_had_it = False
+        elif kind == "C":
+            self.queue = self.queue[CHANGES:]
+            self.changes_had_it = True
+        else:
+            self.queue, self.since, self.table_bytes = [], [], len(body)
+            if self.in_round and self.harmless == 0:
+                self.in_round = False
+        return f"{kind}{self.number}:{zlib.crc32(body):08x}"
+
+    def step(self, step):
+        if step.startswith("?"):
+            return self.ask(int(step[1:]))
+        if step.startswith("round"):
+            self.round(int(step[5:]))
+        elif step.startswith("above"):
+            self.go_above(int(step[5:]))
+        elif step.startswith("all="):
+            have = set(self.queue)
+            for at in range(int(step[4:])):
+                key = f"k{at:05}"
+                self.settings[key] = b"1"
+                if key not in have:
+                    self.queue.append(key)
+        elif step in ("hold", "go"):
+            self.held = step == "hold"
+        elif step.endswith("-"):
+            self.put(step[:-1], None)
+        elif "*" in step:
+            key, count = step.split("*")
+            self.put(key, b"x" * int(count))
+        else:
+            key, value = step.split("=")
+            self.put(key, value.encode())
+        return None
+
+
+def steps(draw, busy, limit, large):
+    """Steps, where a change comes before each body so often."""
+    for _ in range(120):
+        while draw.random() < busy:
+            key = draw.choice("abcdef")
+            what = draw.randrange(8)
+            if what == 0:
+                yield f"{key}-"
+            elif what == 1 and large:
+                yield f"{key}*{draw.randrange(700_000)}"
+            else:
+                yield f"{key}={draw.randrange(100)}"
+        what = draw.randrange(40)
+        if what < 3:
+            yield f"round{draw.randrange(6)}"
+        elif what == 3:
+            yield "hold"
+        elif what < 6:
+            yield "go"
+        yield f"?{limit}"
+
+
+def main():
+    draw = random.Random(1)
+    rows = [list(steps(draw, busy, limit, large)) for busy, limit, large in [
+        (.2, 100, False), (.5, 100, False), (.8, 100, False), (.5, 1, False), (.6, 0, False),
+        (.5, 2, False), (.4, 7, False), (.6, 1000, True), (.3, 5, True)]]
+    # (changes without end hold no round up, and no change)
+    rows.append(["?9", "round5"] + [it for at in range(20) for it in (f"a={at}", "?9")])
+    rows.append(["?100", "z=1", "all=10000", "?100", "all=9000", "y=2", "round1"]
+                + ["?100", "all=9000"] * 9)
+    rows.append(["hold", "z=1", "all=9000"] + ["?3"] * 4 + ["round2", "go"] + ["?3"] * 5)
+    rows.append(["?9", "round70000", "?9", "a=1", "?9", "?9", "round2"] + ["?9"] * 5)
+    # (numbers of agents, also those behind, and the circle's end)
+    rows.append(["?9", "above5", "a=1", "?9", "above99999", "a=2", "?9", "above0", "a=3", "?9",
+                 f"above{2 ** 63}", "a=4", "?9", f"above{2 ** 64 - 2}", "a=5", "?9", "a=6", "?9",
+                 "a=7", "?9", "above7", "a=8", "?9"])
+    for number, row in enumerate(rows):
+        root = Root(1000 * number)
+        print(*row)
+        print(*filter(None, map(root.step, row)))
+
+
+if __name__ == "__main__":
+    main()
