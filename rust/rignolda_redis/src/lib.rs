@@ -66,6 +66,13 @@ impl Stores {
         }
     }
 
+    /// What cannot be, where something cannot: to be asked once a second.
+    pub fn fault<L: Line>(&self, peers: &Peers<L, Address>) -> Option<&'static str> {
+        let mut all = self.workers.iter();
+        let is_so = all.all(|(address, it)| it.is_asked(u32::from(peers.asks(address))));
+        (!is_so).then_some("a store was asked for something else")
+    }
+
     fn worker(&mut self, address: &Address, name: &str) -> Result<&StoreWorker, String> {
         let at = self.workers.iter().position(|(it, _)| it == address);
         let at = match (at, address) {

@@ -476,6 +476,7 @@ impl Agent {
             (!listen.all(|it| it)).then_some("it does not listen"),
             applier.zip(apply).and_then(|(applier, config)| applier.fault(config)),
             root.and_then(|(root, config)| root.fault(config)),
+            self.stores.fault(&self.peers),
         ];
         faults.into_iter().flatten().next().map_or(Ok(()), Err)
     }

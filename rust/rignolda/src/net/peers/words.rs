@@ -177,6 +177,12 @@ impl<L: Line, A: Clone + PartialEq + fmt::Display> Peers<L, A> {
         Some(words)
     }
 
+    /// Whether a turn at this store is under way.
+    pub fn asks(&self, store: &A) -> bool {
+        let mut places = self.stores.iter();
+        places.any(|place| place.address == *store && place.asked.is_some())
+    }
+
     /// The turns that are to be begun now, and at which stores. What came of each is to be told to
     /// [`Peers::turned`].
     pub fn turns(&mut self, now: Instant, to: &mut dyn Handler) -> Vec<(A, Turn)> {
