@@ -152,7 +152,21 @@ pub eight_more_zeros : (word : ℕ) → word < 2 ^ 32
     ≡ after_zeros 8 word
 eight_more_zeros word low = by_four 4 word refl low
 
--- ---- eight bytes
+pub twelve_more_zeros : (word : ℕ) → word < 2 ^ 32
+    → bit_xor
+    (bit_xor (after_zeros 12 (word % 256)) (after_zeros 11 (word / 256 % 256)))
+    (bit_xor (after_zeros 10 (word / 65536 % 256)) (after_zeros 9 (word / 16777216 % 256)))
+    ≡ after_zeros 12 word
+twelve_more_zeros word low = by_four 8 word refl low
+
+pub sixteen_more_zeros : (word : ℕ) → word < 2 ^ 32
+    → bit_xor
+    (bit_xor (after_zeros 16 (word % 256)) (after_zeros 15 (word / 256 % 256)))
+    (bit_xor (after_zeros 14 (word / 65536 % 256)) (after_zeros 13 (word / 16777216 % 256)))
+    ≡ after_zeros 16 word
+sixteen_more_zeros word low = by_four 12 word refl low
+
+-- ---- sixteen bytes
 
 all_bytes : (bytes : List ℕ) → AreBytes bytes → AllBytes bytes
 all_bytes [] are = tt
@@ -171,42 +185,70 @@ nothing_past (b ∷ bytes) zero past = absurd (omega (arith, past))
 nothing_past (b ∷ bytes) (suc i) past = nothing_past bytes i (omega (arith, past))
 
 -- four bytes more are as many zeros less
-four_zeros : (high : ℕ) → after_zeros 8 (high * 2 ^ 32) ≡ after_zeros 4 high
-four_zeros high =
+four_zeros : (n high : ℕ) → after_zeros (suc (suc (suc (suc n)))) (high * 2 ^ 32) ≡ after_zeros n high
+four_zeros n high =
     let whole : high * 2 ^ 32 ≡ high * 256 * 256 * 256 * 256 = omega arith in
-    ap (after_zeros 8) whole
-    ∙ ap (after_zeros 7) (eight_zeros (high * 256 * 256 * 256))
-    ∙ ap (after_zeros 6) (eight_zeros (high * 256 * 256))
-    ∙ ap (after_zeros 5) (eight_zeros (high * 256))
-    ∙ ap (after_zeros 4) (eight_zeros high)
+    ap (after_zeros (suc (suc (suc (suc n))))) whole
+    ∙ ap (after_zeros (suc (suc (suc n)))) (eight_zeros (high * 256 * 256 * 256))
+    ∙ ap (after_zeros (suc (suc n))) (eight_zeros (high * 256 * 256))
+    ∙ ap (after_zeros (suc n)) (eight_zeros (high * 256))
+    ∙ ap (after_zeros n) (eight_zeros high)
 
--- the sum of eight bytes is that of the two numbers that they are
-pub eight_bytes : (sum : ℕ) (bytes : List ℕ) → length bytes ≡ 8 → AreBytes bytes
+-- the low word apart from what is above it
+word_apart : (n sum high low : ℕ) → low < 2 ^ 32
+    → after_zeros (suc (suc (suc (suc n)))) (bit_xor sum (high * 2 ^ 32 + low))
+    ≡ bit_xor (after_zeros n high) (after_zeros (suc (suc (suc (suc n)))) (bit_xor sum low))
+word_apart n sum high low is_low =
+    let split : bit_xor sum (high * 2 ^ 32 + low) ≡ bit_xor (high * 2 ^ 32) (bit_xor sum low) =
+    ap (bit_xor sum) (sym (xor_shifted high 32 low is_low) ∙ xor_comm (high * 2 ^ 32) low)
+    ∙ sym (xor_assoc sum low (high * 2 ^ 32))
+    ∙ xor_comm (bit_xor sum low) (high * 2 ^ 32) in
+    ap (after_zeros (suc (suc (suc (suc n))))) split
+    ∙ zeros_linear (suc (suc (suc (suc n)))) (high * 2 ^ 32) (bit_xor sum low)
+    ∙ ap (λ x. bit_xor x (after_zeros (suc (suc (suc (suc n)))) (bit_xor sum low))) (four_zeros n high)
+
+-- the word of four bytes from this place on
+abbrev word_at : List ℕ → ℕ → ℕ
+word_at bytes i =
+    from_le_bytes w32 (slice_index bytes i ∷ slice_index bytes (suc i) ∷ slice_index bytes (suc (suc i)) ∷ slice_index bytes (suc (suc (suc i))) ∷ [])
+
+low_word : (bytes : List ℕ) (i : ℕ) → AreBytes bytes → word_at bytes i < 2 ^ 32
+low_word bytes i are = omega (arith, are i, are (suc i), are (suc (suc i)), are (suc (suc (suc i))))
+
+from_word : (bytes : List ℕ) (i : ℕ) → little (drop i bytes) ≡ little (drop (suc (suc (suc (suc i)))) bytes) * 2 ^ 32 + word_at bytes i
+from_word bytes i =
+    omega (arith, from_place bytes i, from_place bytes (suc i), from_place bytes (suc (suc i)), from_place bytes (suc (suc (suc i))))
+
+-- the sum of sixteen bytes is that of the four numbers that they are
+pub sixteen_bytes : (sum : ℕ) (bytes : List ℕ) → length bytes ≡ 16 → AreBytes bytes
     → bit_xor
-    (after_zeros 4 (from_le_bytes w32 (slice_index bytes 4 ∷ slice_index bytes 5 ∷ slice_index bytes 6 ∷ slice_index bytes 7 ∷ [])))
-    (after_zeros 8 (bit_xor sum (from_le_bytes w32 (slice_index bytes 0 ∷ slice_index bytes 1 ∷ slice_index bytes 2 ∷ slice_index bytes 3 ∷ []))))
+    (bit_xor (bit_xor (after_zeros 4 (word_at bytes 12)) (after_zeros 8 (word_at bytes 8))) (after_zeros 12 (word_at bytes 4)))
+    (after_zeros 16 (bit_xor sum (word_at bytes 0)))
     ≡ fold with_byte sum bytes
-eight_bytes sum bytes eight are =
-    let first : ℕ = from_le_bytes w32 (slice_index bytes 0 ∷ slice_index bytes 1 ∷ slice_index bytes 2 ∷ slice_index bytes 3 ∷ []) in
-    let last : ℕ = from_le_bytes w32 (slice_index bytes 4 ∷ slice_index bytes 5 ∷ slice_index bytes 6 ∷ slice_index bytes 7 ∷ []) in
-    let at : (i : ℕ) → little (drop i bytes) ≡ little (drop (suc i) bytes) * 256 + slice_index bytes i = from_place bytes in
-    let none : little (drop 8 bytes) ≡ 0 = nothing_past bytes 8 (omega (arith, eight)) in
-    let word : last * 2 ^ 32 + first ≡ little bytes = omega (arith, at 0, at 1, at 2, at 3, at 4, at 5, at 6, at 7, none) in
-    let low : first < 2 ^ 32 = omega (arith, are 0, are 1, are 2, are 3) in
-    let split : bit_xor (last * 2 ^ 32) (bit_xor sum first) ≡ bit_xor sum (little bytes) =
-    ap (bit_xor (last * 2 ^ 32)) (xor_comm sum first)
-    ∙ sym (xor_assoc (last * 2 ^ 32) first sum)
-    ∙ ap (λ x. bit_xor x sum) (xor_shifted last 32 first low ∙ word)
-    ∙ xor_comm (little bytes) sum in
-    ap (λ x. bit_xor x (after_zeros 8 (bit_xor sum first))) (sym (four_zeros last))
-    ∙ sym (zeros_linear 8 (last * 2 ^ 32) (bit_xor sum first))
-    ∙ ap (after_zeros 8) split
-    ∙ ap (λ n. after_zeros n (bit_xor sum (little bytes))) (sym eight)
+sixteen_bytes sum bytes sixteen are =
+    let none : little (drop 16 bytes) ≡ 0 = nothing_past bytes 16 (omega (arith, sixteen)) in
+    let last : little (drop 12 bytes) ≡ word_at bytes 12 = omega (arith, from_word bytes 12, none) in
+    let third : after_zeros 8 (little (drop 8 bytes)) ≡ bit_xor (after_zeros 4 (word_at bytes 12)) (after_zeros 8 (word_at bytes 8)) =
+    ap (after_zeros 8) (from_word bytes 8)
+    ∙ word_apart 4 0 (little (drop 12 bytes)) (word_at bytes 8) (low_word bytes 8 are)
+    ∙ ap (λ x. bit_xor (after_zeros 4 x) (after_zeros 8 (word_at bytes 8))) last in
+    let second : after_zeros 12 (little (drop 4 bytes))
+    ≡ bit_xor (bit_xor (after_zeros 4 (word_at bytes 12)) (after_zeros 8 (word_at bytes 8))) (after_zeros 12 (word_at bytes 4)) =
+    ap (after_zeros 12) (from_word bytes 4)
+    ∙ word_apart 8 0 (little (drop 8 bytes)) (word_at bytes 4) (low_word bytes 4 are)
+    ∙ ap (λ x. bit_xor x (after_zeros 12 (word_at bytes 4))) third in
+    let first : after_zeros 16 (bit_xor sum (little bytes))
+    ≡ bit_xor (after_zeros 12 (little (drop 4 bytes))) (after_zeros 16 (bit_xor sum (word_at bytes 0))) =
+    ap (λ x. after_zeros 16 (bit_xor sum x)) (from_word bytes 0)
+    ∙ word_apart 12 sum (little (drop 4 bytes)) (word_at bytes 0) (low_word bytes 0 are) in
+    ap (λ x. bit_xor x (after_zeros 16 (bit_xor sum (word_at bytes 0)))) (sym second)
+    ∙ sym first
+    ∙ ap (λ n. after_zeros n (bit_xor sum (little bytes))) (sym sixteen)
     ∙ sym (at_once sum bytes (all_bytes bytes are))
 
 -- what comes first goes into the sum first
-pub eight_more : (sum : ℕ) (bytes : List ℕ) → fold with_byte (fold with_byte sum (take 8 bytes)) (drop 8 bytes) ≡ fold with_byte sum bytes
-eight_more sum bytes = parts 8 sum bytes
+pub sixteen_more : (sum : ℕ) (bytes : List ℕ) → fold with_byte (fold with_byte sum (take 16 bytes)) (drop 16 bytes) ≡ fold with_byte sum bytes
+sixteen_more sum bytes = parts 16 sum bytes
   where
     parts : (n sum : ℕ) (bytes : List ℕ) → fold with_byte (fold with_byte sum (take n bytes)) (drop n bytes) ≡ fold with_byte sum bytes
     parts zero sum bytes = refl

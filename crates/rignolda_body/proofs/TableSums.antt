@@ -3,6 +3,7 @@ use Rattle.std.proofs.Common.{◌≡◌, ℕ, zero, suc, ◌+◌, ◌<◌, Bool,
 use Rattle.std.specs.Prelude.{◌==◌, ◌&&◌}
 use Rattle.std.proofs.lemmas.Bool.{eqb-true}
 use Rattle.rignolda_body.specs.declared.tables.TheConstants.{SUMS_1, SUMS_2, SUMS_3, SUMS_4, SUMS_5, SUMS_6, SUMS_7, SUMS_8}
+use Rattle.rignolda_body.specs.declared.more_tables.TheConstants.{SUMS_9, SUMS_10, SUMS_11, SUMS_12, SUMS_13, SUMS_14, SUMS_15, SUMS_16}
 use Rattle.rignolda_body.specs.Sums.{after_zeros}
 
 -- from this byte on each has the sum with so many zeros after it
@@ -46,3 +47,27 @@ in_7 byte low = in_table 7 0 SUMS_7 byte byte (omega arith) refl low
 
 pub in_8 : (byte : ℕ) → byte < 256 → slice_index_or SUMS_8 byte 0 ≡ after_zeros 8 byte
 in_8 byte low = in_table 8 0 SUMS_8 byte byte (omega arith) refl low
+
+pub in_9 : (byte : ℕ) → byte < 256 → slice_index_or SUMS_9 byte 0 ≡ after_zeros 9 byte
+in_9 byte low = in_table 9 0 SUMS_9 byte byte (omega arith) refl low
+
+pub in_10 : (byte : ℕ) → byte < 256 → slice_index_or SUMS_10 byte 0 ≡ after_zeros 10 byte
+in_10 byte low = in_table 10 0 SUMS_10 byte byte (omega arith) refl low
+
+pub in_11 : (byte : ℕ) → byte < 256 → slice_index_or SUMS_11 byte 0 ≡ after_zeros 11 byte
+in_11 byte low = in_table 11 0 SUMS_11 byte byte (omega arith) refl low
+
+pub in_12 : (byte : ℕ) → byte < 256 → slice_index_or SUMS_12 byte 0 ≡ after_zeros 12 byte
+in_12 byte low = in_table 12 0 SUMS_12 byte byte (omega arith) refl low
+
+pub in_13 : (byte : ℕ) → byte < 256 → slice_index_or SUMS_13 byte 0 ≡ after_zeros 13 byte
+in_13 byte low = in_table 13 0 SUMS_13 byte byte (omega arith) refl low
+
+pub in_14 : (byte : ℕ) → byte < 256 → slice_index_or SUMS_14 byte 0 ≡ after_zeros 14 byte
+in_14 byte low = in_table 14 0 SUMS_14 byte byte (omega arith) refl low
+
+pub in_15 : (byte : ℕ) → byte < 256 → slice_index_or SUMS_15 byte 0 ≡ after_zeros 15 byte
+in_15 byte low = in_table 15 0 SUMS_15 byte byte (omega arith) refl low
+
+pub in_16 : (byte : ℕ) → byte < 256 → slice_index_or SUMS_16 byte 0 ≡ after_zeros 16 byte
+in_16 byte low = in_table 16 0 SUMS_16 byte byte (omega arith) refl low

@@ -12,6 +12,7 @@ mod fault;
 mod fields;
 mod keys;
 pub mod laws;
+mod more_tables;
 mod reading;
 mod summing;
 mod tables;
