@@ -3,6 +3,7 @@
 
     tests/daemon/older.py [WORD..]     by itself; check.py runs it with all others
 """
+import argparse
 import contextlib
 import signal
 import struct
@@ -13,6 +14,7 @@ from blocked import lacking, preload
 from daemons import Tree, until
 from memory import write_over
 from runner import main, sure, test
+from simulate import tried
 
 # (no file is renamed while another one is there, and a third one says so)
 SLOW_RENAME = r"""
@@ -234,6 +236,23 @@ def the_disk_has_the_number_before_the_files():
         slow.unlink()
         leaf.start()
         colour(leaf, 2)
+
+
+# What drawn runs find where the rule lacks a part: which run, and what is found.
+LACKING = [("newer", 1, "back"), ("floor", 0, "back"), ("order", 64, "back"), ("gap", 30, "back"),
+           ("own", 1378, "wrong"), ("above", 1, "wrong")]
+
+
+@test
+def drawn_runs_refute_nothing_but_rules_that_lack_a_part():
+    def found(first, runs, hurry=False, away=False, any=False, without=()):
+        return tried(argparse.Namespace(**locals()))
+
+    for what in "hurry", "away", "any":
+        refuted = found(0, 120, **{what: True})
+        sure(not refuted["wrong"] and not refuted["back"], what, refuted)
+    for part, run, how in LACKING:
+        sure(found(run, 1, any=part == "own", without=[part])[how], part, "is not missed")
 
 
 if __name__ == "__main__":

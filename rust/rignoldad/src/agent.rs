@@ -201,9 +201,9 @@ fn random() -> io::Result<u64> {
 }
 
 impl State {
-    /// The number that is furthest ahead, of its own, that of its files, and those below.
-    fn ahead(&self) -> u64 {
-        furthest(self.table.taker.number, [self.table.taker.floor, self.ahead])
+    /// Its own number, that of its files, and the one that is furthest ahead of those below.
+    fn numbers(&self) -> [u64; 3] {
+        [self.table.taker.number, self.table.taker.floor, self.ahead]
     }
 
     /// Whether to say now what a peer can make happen at any rate: once in a second, but in trials.
@@ -277,7 +277,8 @@ impl Handler for State {
     fn on_report(&mut self, child: &str, report: &[u8], now: Instant) -> bool {
         self.changed = true;
         let is_one = self.below.heard(child, report, now);
-        self.ahead = furthest(self.ahead(), [self.below.ahead(child)]);
+        let numbers = self.below.numbers(child).into_iter().chain([self.ahead]);
+        self.ahead = furthest(self.table.taker.number, numbers);
         is_one
     }
 
@@ -534,7 +535,7 @@ impl Agent {
     /// At the root: publishes what waits, as fast as the quickest child takes it.
     fn publish(&mut self, now: Instant) {
         if let Some(root) = &mut self.root {
-            root.hears(self.state.ahead());
+            root.hears(self.state.numbers());
         }
         while self.may_publish() {
             let Some(root) = &mut self.root else { return };
@@ -606,7 +607,7 @@ impl Agent {
             // (the table that is lacking may bring changes of any number)
             applied: applier.as_ref().map_or(number, |it| it.applied(number))
                 * u64::from(table.taker.whole),
-            ahead: self.state.ahead(),
+            ahead: furthest(number, self.state.numbers()),
             changed: table.changed,
             round: table.round,
             round_age: self.state.round_at.map_or(0, millis),

@@ -273,10 +273,12 @@ impl<W> Root<W> {
 
     /// Goes on above the number that is furthest ahead of those that agents have. Once in a round,
     /// since whoever lies about it makes a whole table come.
-    pub fn hears(&mut self, number: u64) {
-        if !self.went_above && self.publisher.go_above(number) {
-            self.went_above = true;
-            fact!("numbers", "go on above {number}, which an agent has");
+    pub fn hears(&mut self, numbers: impl IntoIterator<Item = u64>) {
+        for number in numbers.into_iter().filter(|_| !self.went_above).collect::<Vec<_>>() {
+            if self.publisher.go_above(number) {
+                self.went_above = true;
+                fact!("numbers", "go on above {number}, which an agent has");
+            }
         }
     }
 

@@ -207,17 +207,17 @@ fn it_goes_on_above_a_number_that_is_ahead_once_in_a_round() {
     };
     root.change("a", Some(b"1")).unwrap();
     let first = next(&mut root).unwrap().0;
-    root.hears(first - 1);
-    root.hears(first);
+    root.hears([first - 1]);
+    root.hears([first]);
     assert_eq!(next(&mut root), None);
-    root.hears(first + 1_000);
+    root.hears([first + 1_000]);
     assert_eq!(next(&mut root), Some((first + 1_001, true)));
     // (whoever lies about it does not make one table after the other come)
-    root.hears(first + 5_000);
+    root.hears([first + 5_000]);
     assert_eq!(next(&mut root), None);
     root.begin_round(now);
-    root.hears(first + 5_000);
-    root.hears(first + 9_000);
+    root.hears([first + 5_000]);
+    root.hears([first + 9_000]);
     let all: Vec<_> = std::iter::from_fn(|| next(&mut root)).collect();
     let of = |number, is_table| (first + number, is_table);
     let round = [of(5_002, false), of(5_003, false), of(5_004, false), of(5_005, true)];

@@ -113,7 +113,9 @@ fn of_a_list_the_number_that_is_furthest_ahead_counts() {
     let heard = |list: &str| {
         let mut below = Below::default();
         assert!(below.heard("a", list.as_bytes(), Instant::now()));
-        below.ahead("a")
+        let [sequence, ahead] = below.numbers("a");
+        assert_eq!(sequence, below.tree(&status("root", &["a"]), Instant::now())[1].sequence);
+        ahead
     };
     assert_eq!(heard(r#"[{"name":"a","sequence":7,"ahead":70}]"#), 70);
     // (agents of before say none)
@@ -124,7 +126,7 @@ fn of_a_list_the_number_that_is_furthest_ahead_counts() {
     assert_eq!(heard(&format!(r#"[{{"name":"a","sequence":50}},{below}]"#)), 50);
     let last = u64::MAX;
     assert_eq!(heard(&format!(r#"[{{"name":"a","sequence":{last}}},{below}]"#)), 12);
-    assert_eq!(Below::default().ahead("a"), 0);
+    assert_eq!(Below::default().numbers("a"), [0, 0]);
 }
 
 #[test]
