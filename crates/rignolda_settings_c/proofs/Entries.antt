@@ -22,8 +22,9 @@ module _ (bytes : List ℕ) (at : ℕ) (key rest : List ℕ) (are : AreBytes byt
   abbrev ReadUnset : Type 0
   ReadUnset = entry_at (drop at bytes) ≡ Ok (unset key, rest)
 
-  pub set_fits : (value : List ℕ) → ReadSet value → at + 2 + length key + 4 + length value ≤ length bytes
-  set_fits value read =
+  set_ends : (value : List ℕ) → ReadSet value
+      → at + 2 + length key + 4 + length value + length rest ≡ length bytes
+  set_ends value read =
       let text = ap length (entry_there bytes at (set key value) rest are read) in
       omega (
         arith,
@@ -33,10 +34,16 @@ module _ (bytes : List ℕ) (at : ℕ) (key rest : List ℕ) (are : AreBytes byt
         length-append key (to_be_bytes w32 (length value) ++ value),
       )
 
-  pub unset_fits : ReadUnset → at + 2 + length key ≤ length bytes
-  unset_fits read =
+  unset_ends : ReadUnset → at + 2 + length key + length rest ≡ length bytes
+  unset_ends read =
       let text = ap length (entry_there bytes at (unset key) rest are read) in
       omega (arith, text, length-drop at bytes, length-append (entry_bytes (unset key)) rest, length-append key [])
+
+  pub set_fits : (value : List ℕ) → ReadSet value → at + 2 + length key + 4 + length value ≤ length bytes
+  set_fits value read = omega (arith, set_ends value read)
+
+  pub unset_fits : ReadUnset → at + 2 + length key ≤ length bytes
+  unset_fits read = omega (arith, unset_ends read)
 
   pub set_found : (old : BodyEntry) (value : List ℕ) → ReadSet value
       → Found bytes old (entry_at (drop at bytes)) 83
@@ -60,7 +67,10 @@ module _ (bytes : List ℕ) (at : ℕ) (key rest : List ℕ) (are : AreBytes byt
       rw read (
         refl,
         rw (its_key, its_value) refl,
+        refl,
+        refl,
         after_text bytes (at + 2 + length key + 4) value rest behind_size,
+        set_ends value read,
       )
 
   pub unset_found : (old : BodyEntry) → ReadUnset
@@ -77,7 +87,10 @@ module _ (bytes : List ℕ) (at : ℕ) (key rest : List ℕ) (are : AreBytes byt
       rw read (
         refl,
         rw its_key refl,
+        refl,
+        refl,
         ap (λ n. drop n bytes) same ∙ after_text bytes (at + 2) key rest behind_mark,
+        ap (λ n. n + length rest) same ∙ unset_ends read,
       )
 
 -- there is no entry past the end

@@ -1,6 +1,6 @@
 -- What the structs and the numbers of the calls mean.
 -- Source: this project's own.
-use Rattle.std.specs.Prelude.{◌≡◌, ℕ, ◌+◌, ◌==◌, if◌then◌else◌, List, take, drop, Option, Some, None, Result, Ok, Err}
+use Rattle.std.specs.Prelude.{◌≡◌, ℕ, ◌+◌, ◌==◌, if◌then◌else◌, List, length, take, drop, Option, Some, None, Result, Ok, Err}
 use Rattle.rignolda_body.specs.declared.body.Head.{Head}
 use Rattle.rignolda_body.specs.declared.body.Kind.{Kind}
 use Rattle.rignolda_body.specs.declared.body.Kind.TheVariants.{Changes, Table, Harmless}
@@ -48,12 +48,19 @@ setting_in bytes mark e = record {
   value = value_of bytes mark e;
 }
 
--- a call found this entry in the bytes: the setting is there, and what follows it is behind its
--- value; or there was none, it returned 0, and the entry is as it was
+-- how long a value is: 0 where there is none
+abbrev pub value_len : Option (List ℕ) → ℕ
+value_len None = 0
+value_len (Some value) = length value
+
+-- a call found this entry in the bytes: the setting is there, with its lengths, and what follows it
+-- is behind its value, up to the end; or there was none, it returned 0, and the entry is as it was
 abbrev pub Found : List ℕ → BodyEntry → Result (Setting × List ℕ) Fault → ℕ → BodyEntry → Type 0
 Found bytes old (Ok x) code e =
     (code ≡ mark x.0.value) × (setting_in bytes code e ≡ x.0)
+    × (e.key_length ≡ length x.0.key) × (e.value_length ≡ value_len x.0.value)
     × (drop (e.value + e.value_length) bytes ≡ x.1)
+    × (e.value + e.value_length + length x.1 ≡ length bytes)
 Found bytes old (Err fault) code e = (code ≡ 0) × (e ≡ old)
 
 -- the kind that a byte names
