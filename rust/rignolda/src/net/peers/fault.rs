@@ -43,6 +43,7 @@ impl<L: Line, A: Clone + PartialEq + fmt::Display> Peers<L, A> {
     }
 
     fn mend(&mut self, looks_up: bool, now: Instant) {
+        self.dial_all(now);
         let most = now + self.setup.ack_timeout * (1 << LATER) + SILENCE + travels(BODY_BYTES);
         let mut called = BTreeSet::new();
         for conn in self.conns.values_mut() {
