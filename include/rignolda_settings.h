@@ -57,10 +57,11 @@ uint32_t rignolda_checksum(const uint8_t *bytes, size_t length);
 
 /*
  * Returns 0 if these bytes are a body that fits its item, after writing its head; else the first of
- * these faults, from left to right: 1 they do not fit the item, 2 they are over 16 MiB, 3 they end
- * within a field, 4 no kind, 5 too many entries, 6 neither 'S' nor 'U', 7 no key, 8 a key that is
- * not above the one before it, 9 a value over 1 MiB, 10 a table that unsets a key, 11 something
- * follows the last entry.
+ * these faults that is met: 1 they do not fit the item, 2 they are over 16 MiB, 3 they end within a
+ * field, 4 no kind, 5 too many entries, 6 neither 'S' nor 'U', 7 no key, 8 a key that is not above
+ * the one before it, 9 a value over 1 MiB, 10 a table that unsets a key, 11 something follows the
+ * last entry. 1 and 2 are met first, and then the fields from left to right, but 6 after the key,
+ * and 8 and then 10 after the whole entry.
  */
 uint8_t rignolda_body_check(uint32_t item, const uint8_t *bytes, size_t length,
                             rignolda_body_head *head);

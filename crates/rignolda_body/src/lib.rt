@@ -3,7 +3,7 @@
 //! Contracts see bytes as a list, and a body as its kind, its number and its settings, each a key
 //! and perhaps a value. Nothing takes memory: what is read stays where it lies, and what is written
 //! goes into a buffer of the caller's. The layer above uses one fact: reading gives a body exactly
-//! where the bytes are its one spelling, or the first fault from left to right ([`laws`]).
+//! where the bytes are its one spelling ([`laws`]), and else the first fault that is met.
 #![tactic(auto)]
 
 mod body;
