@@ -1,15 +1,9 @@
 -- What an agent is told to do about a body, by the byte with which it begins and its number.
 -- Source: this project's own.
-use Rattle.std.specs.Prelude.{ℕ, ◌==◌, ◌&&◌, not, Bool, true, false, if◌then◌else◌, Option, Some, None}
+use Rattle.std.specs.Prelude.{ℕ, ◌&&◌, not, Bool, true, false, Option, Some, None}
 use Rattle.rignolda_body.specs.declared.body.Kind.{Kind}
-use Rattle.rignolda_body.specs.declared.body.Kind.TheVariants.{Changes, Table, Harmless}
 use Rattle.rignolda_agent.specs.Takers.{Taker, after, drops, fills, is_held, is_table, looks, takes}
 use Rattle.rignolda_settings_c.specs.declared.taker.TakerHeard.{TakerHeard}
-
-abbrev pub kind_of : ℕ → Option Kind
-kind_of byte =
-    if byte == 67 then Some Changes
-    else (if byte == 84 then Some Table else (if byte == 72 then Some Harmless else None))
 
 abbrev pub after_read : Taker → Option Kind → ℕ → Taker
 after_read t None number = t

@@ -3,7 +3,8 @@ ghost use Rattle.rignolda_body.specs.Checksum.{checksum};
 ghost use Rattle.rignolda_body.specs.Reading.{entry_at, heard};
 ghost use Rattle.rignolda_body.specs.Seen.{head_of};
 ghost use Rattle.rignolda_body.specs.Spelling.{kind_byte};
-ghost use Rattle.rignolda_settings_c.specs.Calls.{Found, check_code, fault_code, written_head};
+ghost use Rattle.rignolda_settings_c.specs.Calls.{Found, check_code, fault_code, kind_named};
+ghost use Rattle.rignolda_settings_c.specs.Calls.{written_head};
 
 use rignolda_body::{Fault, Kind, checksum, entry, heard};
 
@@ -44,6 +45,18 @@ fn kind_byte(kind: Kind) -> u8
         Kind::Changes => b'C',
         Kind::Table => b'T',
         Kind::Harmless => b'H',
+    }
+}
+
+/// The kind that a byte names.
+pub(crate) fn kind_named(byte: u8) -> Option<Kind>
+    ensures { result ≡ kind_named byte }
+{
+    match byte {
+        b'C' => Some(Kind::Changes),
+        b'T' => Some(Kind::Table),
+        b'H' => Some(Kind::Harmless),
+        _ => None,
     }
 }
 

@@ -1,12 +1,13 @@
-ghost use Rattle.std.specs.Prelude.{◌≡◌};
+ghost use Rattle.std.specs.Prelude.{◌≡◌, None};
 ghost use Rattle.rignolda_agent.specs.Numbers.{further as further_of, is_newer as newer};
 ghost use Rattle.rignolda_agent.specs.Numbers.{next as after_number};
 ghost use Rattle.rignolda_agent.specs.Structs.{taker_of};
 ghost use Rattle.rignolda_agent.specs.Takers.{Taker as TakerState, restarted};
-ghost use Rattle.rignolda_settings_c.specs.Heard.{after_read, kind_of, told};
+ghost use Rattle.rignolda_settings_c.specs.Calls.{kind_named};
+ghost use Rattle.rignolda_settings_c.specs.Heard.{after_read, told};
 
+use crate::bodies::kind_named;
 use rignolda_agent::{Taker, further, is_newer, next};
-use rignolda_body::Kind;
 
 /// What is to be done about a body that came: 1 for yes and 0 for no, in each.
 #[repr(C)]
@@ -22,17 +23,6 @@ pub struct TakerHeard {
     pub fills: u8,
     /// It is a table with which all files are looked at.
     pub looks: u8,
-}
-
-fn kind_of(byte: u8) -> Option<Kind>
-    ensures { result ≡ kind_of byte }
-{
-    match byte {
-        b'C' => Some(Kind::Changes),
-        b'T' => Some(Kind::Table),
-        b'H' => Some(Kind::Harmless),
-        _ => None,
-    }
 }
 
 /// Makes what an agent remembers at the start of its process, whose files have this number, or 0
@@ -54,8 +44,9 @@ pub extern "C" fn rignolda_taker_hears(
     number: u64,
     heard: &mut TakerHeard,
 )
-    ensures after { taker_of taker.new ≡ after_read (taker_of taker.old) (kind_of kind) number }
-    ensures heard { heard.new ≡ told (taker_of taker.old) (kind_of kind) number }
+    ensures after { taker_of taker.new ≡ after_read (taker_of taker.old) (kind_named kind) number }
+    ensures heard { heard.new ≡ told (taker_of taker.old) (kind_named kind) number }
+    ensures refused { kind_named kind ≡ None → taker.new ≡ taker.old }
 {
     *heard = TakerHeard {
         taken: 0,
@@ -64,7 +55,7 @@ pub extern "C" fn rignolda_taker_hears(
         fills: 0,
         looks: 0,
     };
-    if let Some(kind) = kind_of(kind) {
+    if let Some(kind) = kind_named(kind) {
         let it = taker.hears(kind, number);
         *heard = TakerHeard {
             taken: u8::from(it.taken),
