@@ -3,7 +3,8 @@
 ghost use Rattle.std.specs.Prelude.{◌≡◌, ◌++◌, List, [], ◌∷◌, Some, None, Ok, Err};
 ghost use Rattle.rignolda_body.specs.Checksum.{checksum};
 ghost use Rattle.rignolda_body.specs.declared.body.Kind.TheVariants.{Changes};
-ghost use Rattle.rignolda_body.specs.declared.fault.Fault.TheVariants.{Order, Trailing, Unset};
+ghost use Rattle.rignolda_body.specs.declared.fault.Fault.TheVariants.{Long, NoKey, Order};
+ghost use Rattle.rignolda_body.specs.declared.fault.Fault.TheVariants.{Trailing, Unset};
 ghost use Rattle.rignolda_body.specs.Reading.{body_of};
 ghost use Rattle.rignolda_body.specs.Spelling.{Body, Setting, spelling};
 
@@ -26,6 +27,15 @@ pub fn worked_out()
         × (body_of (84 ∷ number ++ (0 ∷ 0 ∷ 0 ∷ 1 ∷ 85 ∷ 1 ∷ 97 ∷ [])) ≡ Err Unset)
         × (body_of (67 ∷ number ++ (0 ∷ 0 ∷ 0 ∷ 2 ∷ 85 ∷ 1 ∷ 97 ∷ 85 ∷ 1 ∷ 97 ∷ []))
         ≡ Err Order) }
+    // A key that is none is met before a mark that is none and before what a table unsets, a value
+    // that is too long before the order of the keys, and that before what a table unsets.
+    ensures order { let number = 0 ∷ 0 ∷ 0 ∷ 0 ∷ 0 ∷ 0 ∷ 0 ∷ 7 ∷ [] in
+        (body_of (67 ∷ number ++ (0 ∷ 0 ∷ 0 ∷ 1 ∷ 88 ∷ 0 ∷ [])) ≡ Err NoKey)
+        × (body_of (84 ∷ number ++ (0 ∷ 0 ∷ 0 ∷ 1 ∷ 85 ∷ 1 ∷ 46 ∷ [])) ≡ Err NoKey)
+        × (body_of (67 ∷ number ++ (0 ∷ 0 ∷ 0 ∷ 2 ∷ 85 ∷ 1 ∷ 98
+        ∷ 83 ∷ 1 ∷ 97 ∷ 0 ∷ 16 ∷ 0 ∷ 1 ∷ [])) ≡ Err Long)
+        × (body_of (84 ∷ number ++ (0 ∷ 0 ∷ 0 ∷ 2 ∷ 83 ∷ 1 ∷ 98 ∷ 0 ∷ 0 ∷ 0 ∷ 0
+        ∷ 85 ∷ 1 ∷ 97 ∷ [])) ≡ Err Order) }
     // The checksum of the digits from 1 to 9 is cbf43926, in hexadecimal.
     ensures sum { checksum (49 ∷ 50 ∷ 51 ∷ 52 ∷ 53 ∷ 54 ∷ 55 ∷ 56 ∷ 57 ∷ []) ≡ 3421780262 }
 {}

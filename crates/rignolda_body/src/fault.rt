@@ -1,6 +1,6 @@
 /// Why bytes are no body: the first fault that is met. Checksum and length of all bytes come first,
-/// and then the fields from left to right, but that the mark of an entry is looked at after its key,
-/// and the order of the keys, and then what a table unsets, after the whole entry.
+/// and then the fields from left to right, but the mark of an entry is looked at after its key, and
+/// the order of the keys, and then what a table unsets, after the whole entry.
 #[derive(Clone, Copy, Debug, PartialEq, Eq)]
 pub enum Fault {
     /// Their checksum is not the item beside them.

@@ -11,6 +11,10 @@ pub returns-clause-faults : goal.returns-clause-faults
 unfolding body_of said_by kind_at settings_of count_at entries_at next_at entry_at key_at marked_at value_at
 returns-clause-faults c = (refl, refl, refl)
 
+pub returns-clause-order : goal.returns-clause-order
+unfolding body_of said_by kind_at settings_of count_at entries_at next_at entry_at key_at marked_at value_at
+returns-clause-order c = (refl, refl, refl, refl)
+
 pub returns-clause-sum : goal.returns-clause-sum
 unfolding with_byte
 returns-clause-sum c = refl
