@@ -4,7 +4,8 @@
  *
  * Each call is proved: it reads and writes what the definitions of the crate rignolda_body say. The
  * rules for pointers and for several calls at once are those of rignolda.h, and none takes memory.
- * The calls are those of an archive of their own, librignolda_settings.a.
+ * The calls are those of an archive of their own, librignolda_settings.a, which needs `memmove` of
+ * a C library and nothing else.
  *
  * A body is `kind u8 | number u64 | rest`, numbers in big-endian order. A harmless one, 'H', has no
  * rest. That of changes, 'C', and of a whole table, 'T', is `count u32` and as many entries, in the

@@ -20,7 +20,7 @@ fn link(name: &str, variable: &str, part: &str) {
     println!("cargo:rerun-if-env-changed={variable}");
     let library = env::var_os(variable).map_or_else(
         || {
-            // (the archive needs no C library, so it is the same one for each of them)
+            // (of a C library an archive needs `memmove` at most, so it is the same one for each)
             let processor = env::var("CARGO_CFG_TARGET_ARCH").unwrap();
             let system = env::var("CARGO_CFG_TARGET_OS").unwrap();
             home.join(format!("lib/{processor}-{system}{part}.a"))
