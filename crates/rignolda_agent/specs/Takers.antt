@@ -17,7 +17,7 @@ pub record Taker : Type 0 where
   pub floor : ℕ
   -- whether a whole table was taken, and no number was left out since
   pub whole : Bool
-  -- whether harmless bodies came since the last table that was taken
+  -- whether harmless bodies were taken since the last table
   pub in_a_round : Bool
 
 abbrev pub is_table : Kind → Bool
@@ -62,12 +62,7 @@ after_if true t kind number = record {
   whole = is_table kind || (t.whole && follows t number);
   in_a_round = is_harmless kind || (t.in_a_round && not (is_table kind));
 }
-after_if false t kind number = record {
-  number = t.number;
-  floor = t.floor;
-  whole = t.whole;
-  in_a_round = t.in_a_round || is_harmless kind;
-}
+after_if false t kind number = t
 
 -- after a body of this kind and number came
 abbrev pub after : Taker → Kind → ℕ → Taker

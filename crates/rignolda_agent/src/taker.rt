@@ -17,7 +17,7 @@ pub struct Taker {
     pub floor: u64,
     /// Whether a whole table was taken, and no number was left out since: 0 is no.
     pub whole: u8,
-    /// Whether harmless bodies came since the last table that was taken: 0 is no.
+    /// Whether harmless bodies were taken since the last table: 0 is no.
     pub in_a_round: u8,
 }
 
@@ -61,8 +61,6 @@ impl Taker {
         };
         if taken {
             self.take(kind, number);
-        } else {
-            self.pass(kind);
         }
         heard
     }
@@ -126,15 +124,6 @@ impl Taker {
             }
             Kind::Harmless => self.in_a_round = 1,
             Kind::Changes => (),
-        }
-    }
-
-    /// The body is not newer.
-    fn pass(&mut self, kind: Kind)
-        ensures { taker_of self.new ≡ after_if false (taker_of self.old) kind 0 }
-    {
-        if kind == Kind::Harmless {
-            self.in_a_round = 1;
         }
     }
 }

@@ -296,3 +296,101 @@ pub(crate) fn body(kind: u8, number: u64, entries: &[Entry<'_>], size: usize) ->
     }
     bytes
 }
+
+/// What an agent remembers of the numbers of bodies. It takes each body that is newer than the last,
+/// and applies it unless its files are from a later one: an agent that begins anew waits until it
+/// has caught up with its files. So nothing older ever follows what is newer.
+#[cfg(feature = "net")]
+#[repr(C)]
+#[derive(Clone, Copy, Debug, Default, PartialEq, Eq)]
+pub struct Taker {
+    /// The number of the last body that was taken; 0 before the first.
+    pub number: u64,
+    /// The number up to which the files are, or may be. The disk keeps it.
+    pub floor: u64,
+    whole: u8,
+    in_a_round: u8,
+}
+
+/// `rignolda_taker_heard`.
+#[cfg(feature = "net")]
+#[repr(C)]
+#[derive(Default)]
+struct TakerHeard {
+    taken: u8,
+    drops: u8,
+    applied: u8,
+    fills: u8,
+    looks: u8,
+}
+
+#[cfg(feature = "net")]
+const _: () = assert!(core::mem::size_of::<Taker>() == 24);
+#[cfg(feature = "net")]
+const _: () = assert!(core::mem::size_of::<TakerHeard>() == 5);
+
+#[cfg(feature = "net")]
+extern "C" {
+    fn rignolda_taker_init(taker: &mut Taker, floor: u64);
+    fn rignolda_taker_hears(taker: &mut Taker, kind: u8, number: u64, heard: &mut TakerHeard);
+    fn rignolda_number_is_newer(than: u64, number: u64) -> bool;
+    fn rignolda_number_next(number: u64) -> u64;
+    fn rignolda_number_further(from: u64, number: u64, other: u64) -> u64;
+}
+
+#[cfg(feature = "net")]
+impl Taker {
+    /// That of a process which starts, whose files have this number, or 0 where it is not known.
+    pub fn new(floor: u64) -> Taker {
+        let mut taker = Taker::default();
+        // SAFETY: the taker is lent for the call.
+        unsafe { rignolda_taker_init(&mut taker, floor) };
+        taker
+    }
+
+    /// Whether a whole table came, and nothing was left out since.
+    pub fn is_whole(&self) -> bool {
+        self.whole != 0
+    }
+
+    /// What it was told was left out, so that something is missing.
+    pub(crate) fn lacks(&mut self) {
+        self.whole = 0;
+    }
+
+    /// What to do with a body that came now, which begins with this byte. One that is not newer
+    /// changes nothing: it came by a link that began anew, or lay somewhere.
+    pub fn hears(&mut self, kind: u8, number: u64) -> crate::settings::Heard {
+        let mut heard = TakerHeard::default();
+        // SAFETY: the taker and what is heard are lent for the call.
+        unsafe { rignolda_taker_hears(self, kind, number, &mut heard) };
+        crate::settings::Heard {
+            takes: heard.taken != 0,
+            drops: heard.drops != 0,
+            applies: heard.applied != 0,
+            fills: heard.fills != 0,
+            looks: heard.looks != 0,
+        }
+    }
+}
+
+/// Whether the second number is newer than the first.
+#[cfg(feature = "net")]
+pub(crate) fn is_newer(than: u64, number: u64) -> bool {
+    // SAFETY: it takes numbers alone.
+    unsafe { rignolda_number_is_newer(than, number) }
+}
+
+/// The number after this one.
+#[cfg(feature = "net")]
+pub(crate) fn next(number: u64) -> u64 {
+    // SAFETY: it takes numbers alone.
+    unsafe { rignolda_number_next(number) }
+}
+
+/// Of two numbers the one that is further ahead of the first.
+#[cfg(feature = "net")]
+pub(crate) fn further(from: u64, number: u64, other: u64) -> u64 {
+    // SAFETY: they are numbers alone.
+    unsafe { rignolda_number_further(from, number, other) }
+}

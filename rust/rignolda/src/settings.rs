@@ -40,6 +40,7 @@ mod publisher;
 mod source;
 mod waiting;
 
+pub use crate::calls::Taker;
 pub use batch::Batch;
 pub use depth::{too_deep, TOO_DEEP};
 #[cfg(unix)]
@@ -82,12 +83,12 @@ pub enum Meaning<'a> {
 }
 
 impl Meaning<'_> {
-    /// Its kind.
-    pub fn kind(&self) -> Kind {
+    /// The byte with which its bodies begin.
+    fn kind(&self) -> u8 {
         match self {
-            Meaning::Changes(_) => Kind::Changes,
-            Meaning::Table(_) => Kind::Table,
-            Meaning::Harmless => Kind::Harmless,
+            Meaning::Changes(_) => b'C',
+            Meaning::Table(_) => b'T',
+            Meaning::Harmless => b'H',
         }
     }
 }
@@ -99,13 +100,12 @@ impl Body {
     /// A body that says this, under a sequence number. Where none can, since a key or a value is
     /// too long, it is one without bytes, which says nothing.
     pub fn new(sequence: u64, meaning: &Meaning<'_>) -> Arc<Body> {
-        let (kind, entries) = match meaning {
-            Meaning::Changes(entries) => (b'C', entries.as_slice()),
-            Meaning::Table(entries) => (b'T', entries.as_slice()),
-            Meaning::Harmless => (b'H', &[][..]),
+        let entries = match meaning {
+            Meaning::Changes(entries) | Meaning::Table(entries) => entries.as_slice(),
+            Meaning::Harmless => &[],
         };
         let rest: usize = entries.iter().map(entry_bytes).sum();
-        let bytes = calls::body(kind, sequence, entries, HEAD + rest);
+        let bytes = calls::body(meaning.kind(), sequence, entries, HEAD + rest);
         Arc::new(Body::of(bytes))
     }
 
@@ -137,44 +137,22 @@ pub fn entry_bytes((key, value): &Entry<'_>) -> usize {
 /// Whether a body with this number is newer than one with that. Numbers go round, past 0, which is
 /// none and older than all: the newer one is less than half of them ahead.
 pub fn is_newer(number: u64, than: u64) -> bool {
-    than == 0 || number.wrapping_sub(than) as i64 > 0
+    calls::is_newer(than, number)
 }
 
 /// The older one of two numbers; 0 is older than all.
 pub fn older(one: u64, other: u64) -> u64 {
-    if one == 0 || other != 0 && is_newer(other, one) {
-        one
-    } else {
+    if is_newer(one, other) {
         other
+    } else {
+        one
     }
-}
-
-/// The number that follows this one.
-pub fn after(number: u64) -> u64 {
-    number.wrapping_add(1).max(1)
 }
 
 /// Of these numbers the one that is furthest ahead of this one; itself where none is.
 pub fn furthest(number: u64, others: impl IntoIterator<Item = u64>) -> u64 {
-    let others = others.into_iter().filter(|other| *other != 0);
-    let all = others.chain(std::iter::once(number));
-    let furthest = all.max_by_key(|other| other.wrapping_sub(number) as i64);
-    furthest.unwrap_or(number)
-}
-
-/// What an agent remembers of the numbers of bodies. It takes each body that is newer than the last,
-/// and applies it unless its files are from a later one: an agent that begins anew waits until it
-/// has caught up with its files. So nothing older ever follows what is newer.
-#[derive(Clone, Copy, Debug, Default, PartialEq, Eq)]
-pub struct Taker {
-    /// The number of the last body that was taken; 0 before the first.
-    pub number: u64,
-    /// The number up to which the files are, or may be. The disk keeps it.
-    pub floor: u64,
-    /// Whether a whole table came, and no gap since.
-    pub whole: bool,
-    /// Whether harmless items came since the last whole table.
-    pub in_a_round: bool,
+    let further = |one, other| calls::further(number, one, other);
+    others.into_iter().fold(number, further)
 }
 
 /// What an agent does with a body.
@@ -182,60 +160,16 @@ pub struct Taker {
 pub struct Heard {
     /// Whether it takes it.
     pub takes: bool,
+    /// Whether what waited before it is dropped: it lacks something, and is older than the files.
+    pub drops: bool,
     /// Whether it applies it, with all that waited. Else what was taken waits.
     pub applies: bool,
-    /// Whether a number was left out before it, and it does not make up for that.
-    pub gap: bool,
     /// Whether it is a whole table that makes up for something: the first one, or a number was left
     /// out before it. It may bring changes that are older than itself.
     pub fills: bool,
-    /// Whether it is the whole table of a round, or the first one since something was missing: then
-    /// all files are to be looked at. Others come between rounds.
+    /// Whether it is the whole table of a round, or one that makes up for something: then all files
+    /// are to be looked at. Others come between rounds.
     pub looks: bool,
-}
-
-/// What kind of body it is.
-#[derive(Clone, Copy, Debug, PartialEq, Eq)]
-pub enum Kind {
-    /// Of changes.
-    Changes,
-    /// A whole table.
-    Table,
-    /// A harmless one.
-    Harmless,
-}
-
-impl Taker {
-    /// Whether what is taken waits: the files are from a later body.
-    pub fn is_behind(&self) -> bool {
-        self.floor != self.number && !is_newer(self.number, self.floor)
-    }
-
-    /// What to do with a body that came now. One that is not newer changes nothing: it came by a
-    /// link that began anew, or lay somewhere.
-    pub fn hears(&mut self, kind: Kind, number: u64) -> Heard {
-        if !is_newer(number, self.number) {
-            return Heard::default();
-        }
-        let is_table = kind == Kind::Table;
-        let follows = self.number == 0 || number == after(self.number);
-        self.number = number;
-        self.in_a_round |= kind == Kind::Harmless;
-        let applies = !self.is_behind();
-        if applies {
-            self.floor = number;
-        }
-        let heard = Heard {
-            takes: true,
-            applies,
-            gap: !follows && !is_table,
-            fills: is_table && !(follows && self.whole),
-            looks: is_table && (self.in_a_round || !self.whole),
-        };
-        self.whole = is_table || self.whole && follows;
-        self.in_a_round &= !is_table;
-        heard
-    }
 }
 
 /// What an agent does with bodies: [which of them it takes](Taker), and which settings there are.
@@ -266,15 +200,24 @@ pub struct Table {
 }
 
 impl Table {
-    /// Whether to take a body that came now. Whether to apply it, `heard` says.
+    /// Whether to take a body that came now. Whether to apply it, `heard` says. What there is no room
+    /// for is as if it did not come.
     pub fn takes(&mut self, sequence: u64, meaning: &Meaning<'_>) -> bool {
+        let before = self.taker.number;
+        if let Meaning::Changes(entries) = meaning {
+            if is_newer(sequence, before) && !self.has_room(entries) {
+                self.misses();
+                return false;
+            }
+        }
         let heard = self.taker.hears(meaning.kind(), sequence);
         if !heard.takes {
             self.strays += 1;
             return false;
         }
         self.heard = heard;
-        self.gaps += u64::from(heard.gap);
+        let is_gap = before != 0 && sequence != calls::next(before);
+        self.gaps += u64::from(is_gap && !matches!(meaning, Meaning::Table(_)));
         match meaning {
             Meaning::Table(entries) => {
                 self.round = sequence;
@@ -283,10 +226,6 @@ impl Table {
                 let keys = entries.iter().map(|it| (it.0.to_owned(), entry_bytes(it)));
                 self.keys = keys.collect();
                 self.bytes = self.keys.values().sum();
-            }
-            Meaning::Changes(entries) if !self.has_room(entries) => {
-                self.misses();
-                return false;
             }
             Meaning::Changes(entries) => entries.iter().for_each(|it| {
                 self.changed = sequence;
@@ -304,7 +243,7 @@ impl Table {
 
     /// What a body says is left out, for want of room: a whole table is waited for.
     pub fn misses(&mut self) {
-        self.taker.whole = false;
+        self.taker.lacks();
         self.full = true;
     }
 

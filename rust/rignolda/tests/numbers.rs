@@ -1,7 +1,6 @@
 //! Which bodies are newer, by numbers that go round, and what is done with them.
 #![cfg(feature = "net")]
-use rignolda::settings::{after, furthest, is_newer, older, Heard, Kind, Meaning};
-use rignolda::settings::{Publisher, Taker};
+use rignolda::settings::{furthest, is_newer, older, Heard, Meaning, Publisher, Taker};
 
 /// The last number, and half of all of them.
 const LAST: u64 = 18_446_744_073_709_551_615;
@@ -32,10 +31,6 @@ fn numbers_go_round() {
     ] {
         assert_eq!(is_newer(number, than), expected, "{number} {than}");
     }
-    assert_eq!(
-        [0, 7, HALF - 1, LAST - 1, LAST].map(after),
-        [1, 8, HALF, LAST, 1]
-    );
     let pairs = [
         (7, 8),
         (8, 7),
@@ -68,19 +63,16 @@ fn the_furthest_is_counted_from_the_own_number_on() {
 
 /// What an agent with this number and floor does with a body: whether it takes it, and whether it
 /// applies it; and its number and floor then.
-fn hears(number: u64, floor: u64, kind: Kind, body: u64) -> (bool, bool, u64, u64) {
-    let mut taker = Taker {
-        number,
-        floor,
-        ..Taker::default()
-    };
+fn hears(number: u64, floor: u64, kind: u8, body: u64) -> (bool, bool, u64, u64) {
+    let mut taker = Taker::new(floor);
+    taker.number = number;
     let Heard { takes, applies, .. } = taker.hears(kind, body);
     (takes, applies, taker.number, taker.floor)
 }
 
 #[test]
 fn what_is_newer_is_taken_and_applied_where_the_files_are_not_from_later() {
-    for kind in [Kind::Changes, Kind::Table, Kind::Harmless] {
+    for kind in *b"CTH" {
         for (number, floor, body, expected) in [
             (0, 0, 7, (true, true, 7, 7)),
             (7, 7, 8, (true, true, 8, 8)),
@@ -96,10 +88,10 @@ fn what_is_newer_is_taken_and_applied_where_the_files_are_not_from_later() {
             (LAST, LAST, 1, (true, true, 1, 1)),
             (LAST - 3, 2, LAST, (true, false, LAST, 2)),
             (LAST, 2, 2, (true, true, 2, 2)),
-            // (numbers that are half of all ahead, or more, are older)
+            // (numbers that are half of all ahead, or more, are not newer)
             (7, 7, HALF + 7, (false, false, 7, 7)),
             (0, HALF + 8, 7, (true, true, 7, 7)),
-            (0, HALF + 7, 7, (true, false, 7, HALF + 7)),
+            (0, HALF + 7, 7, (true, true, 7, 7)),
             (0, HALF + 6, 7, (true, false, 7, HALF + 6)),
         ] {
             let found = hears(number, floor, kind, body);

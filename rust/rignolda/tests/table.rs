@@ -29,10 +29,10 @@ fn newer_ones_are_taken_and_older_ones_are_strays() {
         [true, true, false, false, true, true]
     );
     assert_eq!((table.taker.number, table.round), (11, 7));
-    assert_eq!((table.strays, table.gaps, table.taker.whole), (2, 1, false));
-    assert!(table.takes(12, &TABLE) && table.taker.whole && table.round == 12);
+    assert_eq!((table.strays, table.gaps, table.taker.is_whole()), (2, 1, false));
+    assert!(table.takes(12, &TABLE) && table.taker.is_whole() && table.round == 12);
     // (what is left out before a table is made up for)
-    assert!(table.takes(20, &TABLE) && table.taker.whole && table.gaps == 1);
+    assert!(table.takes(20, &TABLE) && table.taker.is_whole() && table.gaps == 1);
 }
 
 #[test]
@@ -57,8 +57,8 @@ fn all_files_are_looked_at_when_a_round_comes_and_after_a_gap() {
 #[test]
 fn it_is_whole_from_its_first_table_on() {
     let mut table = Table::default();
-    assert!(table.takes(3, &CHANGE) && !table.taker.whole);
-    assert!(table.takes(4, &TABLE) && table.taker.whole && table.gaps == 0);
+    assert!(table.takes(3, &CHANGE) && !table.taker.is_whole());
+    assert!(table.takes(4, &TABLE) && table.taker.is_whole() && table.gaps == 0);
 }
 
 #[test]
@@ -105,16 +105,16 @@ fn more_settings_than_there_may_be_are_left_out() {
     one.remove(0);
     one[0].0 = "another";
     assert!(!table.takes(5, &Meaning::Changes(one.clone())));
-    assert_eq!((table.keys.len(), table.taker.number), (SETTINGS, 5));
+    assert_eq!((table.keys.len(), table.taker.number), (SETTINGS, 4));
     assert_eq!(
-        (table.taker.whole, table.full, table.strays),
+        (table.taker.is_whole(), table.full, table.strays),
         (false, true, 0)
     );
     // (what there is room for goes on, and a whole table makes it good)
     assert!(table.takes(6, &Meaning::Changes(vec![("000002", None)])));
-    assert!(!table.taker.whole && table.keys.len() == SETTINGS - 1);
+    assert!(!table.taker.is_whole() && table.keys.len() == SETTINGS - 1);
     assert!(table.takes(7, &Meaning::Table(settings(&all[..1], 0))));
-    assert!(table.taker.whole && !table.full && table.heard.fills && table.keys.len() == 1);
+    assert!(table.taker.is_whole() && !table.full && table.heard.fills && table.keys.len() == 1);
 }
 
 #[test]
@@ -134,7 +134,7 @@ fn more_bytes_of_settings_than_a_table_has_room_for_are_left_out() {
         20,
         &Meaning::Changes(settings(&all[16..], VALUE_BYTES - 12))
     ));
-    assert!(!table.taker.whole && table.keys.contains_key(&all[16]));
+    assert!(!table.taker.is_whole() && table.keys.contains_key(&all[16]));
 }
 
 #[test]

@@ -12,7 +12,7 @@ use crate::tree::{Below, EACH};
 use mio::unix::SourceFd;
 use mio::{Events, Interest, Poll, Registry, Token, Waker};
 use rignolda::net::{Body, Handler, Peers};
-use rignolda::settings::{furthest, older, Meaning, Table};
+use rignolda::settings::{furthest, older, Meaning, Table, Taker};
 use rignolda_redis::Stores;
 use rignolda_tls::{Caller, Line, Listener, Maker};
 use rignoldactl::{ChildStatus, Request, Response, Status};
@@ -252,7 +252,7 @@ impl Handler for State {
         // (before a line is written, so that the files wait for nothing)
         if let (true, Some(applier)) = (takes, &mut self.applier) {
             self.applying = true;
-            if !applier.take(&meaning, &self.table.taker, self.table.heard) {
+            if !applier.take(&meaning, sequence, self.table.heard) {
                 self.table.misses();
             }
         }
@@ -321,7 +321,7 @@ impl Agent {
         });
         let applier = applier.transpose()?;
         let mut table = Table::default();
-        table.taker.floor = applier.as_ref().map_or(0, Applier::floor);
+        table.taker = Taker::new(applier.as_ref().map_or(0, Applier::floor));
         let mut peers = Peers::new(config.peers.clone(), life, config.backlog, now);
         // (the others are for children that came, files and control)
         peers.bound_waiting((descriptors() / 4).max(1));
@@ -606,12 +606,12 @@ impl Agent {
             sequence: number,
             // (the table that is lacking may bring changes of any number)
             applied: applier.as_ref().map_or(number, |it| it.applied(number))
-                * u64::from(table.taker.whole),
+                * u64::from(table.taker.is_whole()),
             ahead: furthest(number, self.state.numbers()),
             changed: table.changed,
             round: table.round,
             round_age: self.state.round_at.map_or(0, millis),
-            whole: table.taker.whole,
+            whole: table.taker.is_whole(),
             settings: table.keys.len() as u64,
             draining: self.root.as_ref().is_some_and(Root::is_draining),
             harmless: self.config.root.as_ref().map_or(0, |root| root.harmless.into()),

@@ -12,7 +12,7 @@ use crate::config::{is_key, Apply};
 use crate::fact;
 use rignolda::net::LOST;
 use rignolda::settings::{older, read_floor, remove, write_floor, Change, Folder};
-use rignolda::settings::{Heard, Meaning, Taker, Waiting, SETTINGS};
+use rignolda::settings::{Heard, Meaning, Waiting, SETTINGS};
 use std::cell::Cell;
 use std::collections::{BTreeMap, BTreeSet};
 use std::fmt;
@@ -155,7 +155,7 @@ impl Applier {
     /// Makes the files what this body says, where it `applies`; where it `looks`, whatever was done
     /// to them. One that `fills` a gap may bring older changes, so nothing counts as applied until
     /// it is. Whether there is room: what waits has not many more keys than there may be.
-    pub fn take(&mut self, meaning: &Meaning<'_>, taker: &Taker, heard: Heard) -> bool {
+    pub fn take(&mut self, meaning: &Meaning<'_>, number: u64, heard: Heard) -> bool {
         let mut state = self.shared.lock();
         let (files, hooks) = (state.files.count(), state.hooks.count());
         let waits = match meaning {
@@ -165,16 +165,16 @@ impl Applier {
             Meaning::Harmless => 0,
         };
         let has_room = waits <= 2 * SETTINGS;
-        if state.holds && heard.applies && !(taker.whole && has_room) {
-            // (it is older than the files, and what would make up for that is missing)
+        if heard.drops || state.holds && !has_room {
+            // (it may be older than the files, and something is missing)
             state.files = Waiting::default();
         }
         state.holds = !heard.applies;
         if heard.applies {
-            state.floor = taker.number;
+            state.floor = number;
         }
         if has_room {
-            state.files.take(taker.number, meaning);
+            state.files.take(number, meaning);
             if heard.fills {
                 state.files.is_from_before();
             }

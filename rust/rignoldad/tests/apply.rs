@@ -1,5 +1,5 @@
 //! The files of settings and their hooks.
-use rignolda::settings::{Heard, Meaning, Table, Taker};
+use rignolda::settings::{Heard, Meaning, Table};
 use rignoldad::apply::{refusal, Applied, Applier, Outcome};
 use rignoldad::config::Apply;
 use std::collections::BTreeMap;
@@ -78,9 +78,8 @@ trait Bodies {
 
 impl Bodies for Applier {
     fn says(&mut self, meaning: Meaning<'_>, number: u64, looks: bool, fills: bool) {
-        let taker = Taker { number, whole: true, ..Taker::default() };
         let heard = Heard { takes: true, applies: true, looks, fills, ..Heard::default() };
-        assert!(self.take(&meaning, &taker, heard));
+        assert!(self.take(&meaning, number, heard));
     }
 
     fn set(&mut self, key: &str, value: &[u8], sequence: u64) {
@@ -579,7 +578,7 @@ impl Life {
     /// A body comes. Where it is applied, that is waited for.
     fn hears(&mut self, number: u64, meaning: Meaning<'_>) {
         assert!(self.0.takes(number, &meaning));
-        assert!(self.1.take(&meaning, &self.0.taker, self.0.heard));
+        assert!(self.1.take(&meaning, self.0.taker.number, self.0.heard));
         if self.0.heard.applies {
             until(|| self.1.applied(number) == number);
             self.1.done();
