@@ -1,21 +1,18 @@
 -- The number after the furthest of those that were heard.
-use Rattle.std.proofs.Common.{◌≡◌, ◌≢◌, ℕ, ◌+◌, ◌-◌, ◌<◌, ◌≤◌, Bool, true, false, inl, inr, List, [], ◌∷◌, sym, ap, ◌∙◌, arith}
-use Rattle.std.specs.Prelude.{◌==◌, ◌&&◌, ◌||◌, not, nat_lt, if◌then◌else◌}
+use Rattle.std.proofs.Common.{◌≡◌, ◌⊎◌, ◌≢◌, ℕ, ◌+◌, ◌-◌, ◌<◌, ◌≤◌, Bool, true, false, inl, inr, List, [], ◌∷◌, ap, ◌∙◌, arith}
+use Rattle.std.specs.Prelude.{◌==◌, not, nat_lt, if◌then◌else◌}
 use Rattle.std.specs.List.{AllByRecursion, fold}
-use Rattle.std.proofs.lemmas.Bool.{cases_lt, cases_eq, cases_Bool, and_from, and_parts, or_right, lt-ltb, le-ltb, ltb-true, ne_eqb, eq-eqb, and_right, or_from}
+use Rattle.std.proofs.lemmas.Bool.{cases_lt, cases_eq, cases_Bool, and_from, or_right, lt-ltb, le-ltb, ne_eqb, eq-eqb, and_right, or_from}
 use Rattle.rignolda_agent.specs.Numbers.{ahead, circle, half, is_newer, next, lead, further, furthest}
-use Rattle.rignolda_agent.specs.Rounds.{is_behind}
+use Rattle.rignolda_agent.specs.Rounds.{is_behind, IsWithin}
 use Rattle.rignolda_agent.proofs.Places.{up, down, ahead_by}
-
-abbrev IsHeard : ℕ → ℕ → Type 0
-IsHeard from n = (n < circle) × (lead from n < half - 1)
 
 -- ---- the furthest
 
-further_holds : (from a b : ℕ) → IsHeard from a → IsHeard from b → IsHeard from (further from a b)
-further_holds from a b left right = by (nat_lt (lead from a) (lead from b))
+further_holds : (P : ℕ → Type 0) (from a b : ℕ) → P a → P b → P (further from a b)
+further_holds P from a b left right = by (nat_lt (lead from a) (lead from b))
   where
-    by : (t : Bool) → IsHeard from (if t then b else a)
+    by : (t : Bool) → P (if t then b else a)
     by true = right
     by false = left
 
@@ -42,29 +39,11 @@ highest from a (x ∷ xs) =
     let here = further_higher from a x in
     (omega (arith, here.0, rest.0), (omega (arith, here.1, rest.0), rest.1))
 
-all_heard : (from a : ℕ) (xs : List ℕ) → IsHeard from a → AllByRecursion (IsHeard from) xs → IsHeard from (fold (further from) a xs)
-all_heard from a [] here all = here
-all_heard from a (x ∷ xs) here all = all_heard from (further from a x) xs (further_holds from a x here all.0) all.1
+all_hold : (P : ℕ → Type 0) (from a : ℕ) (xs : List ℕ) → P a → AllByRecursion P xs → P (fold (further from) a xs)
+all_hold P from a [] here all = here
+all_hold P from a (x ∷ xs) here all = all_hold P from (further from a x) xs (further_holds P from a x here all.0) all.1
 
 -- ---- numbers
-
-lead_of_newer : (from n : ℕ) → is_newer from n ≡ true → lead from n ≡ ahead from n
-lead_of_newer from n newer = ap (λ b. if b then ahead from n else 0) newer
-
-leads_is_newer : (from n : ℕ) → 0 < lead from n → is_newer from n ≡ true
-leads_is_newer from n leads =
-    elim (cases_Bool (is_newer from n)) [
-      | inl newer ↦ newer
-      | inr older ↦ absurd (omega (arith, leads, ap (λ b. if b then ahead from n else 0) older))
-    ]
-
--- how far what is newer than a number is ahead of it
-is_ahead : (from n : ℕ) → from ≢ 0 → is_newer from n ≡ true → 0 < ahead from n
-is_ahead from n from_one newer =
-    let parts = and_parts (not (n == 0)) _ newer in
-    ltb-true 0 (ahead from n)
-    (and_parts (nat_lt 0 (ahead from n)) (nat_lt (ahead from n) half)
-    (sym (ap (λ b. b || (nat_lt 0 (ahead from n) && nat_lt (ahead from n) half)) (ne_eqb from 0 from_one)) ∙ parts.1)).0
 
 next_ahead : (from f : ℕ) → from < circle → f < circle → ahead from f < half - 1
     → (next f < circle) × (next f ≢ 0) × (ahead from f < ahead from (next f)) × (ahead from (next f) ≤ ahead from f + 2)
@@ -119,26 +98,6 @@ not_newer_by than n one far =
     and_right (not (n == 0)) _
     (or_from (than == 0) _ (ne_eqb than 0 one) (and_right (nat_lt 0 (ahead than n)) _ (le-ltb (ahead than n) half far)))
 
-behind_next : (from f n : ℕ) → 0 < from → from < circle → IsHeard from f → IsHeard from n → lead from n ≤ lead from f → is_newer from n ≡ true
-    → is_behind (next f) n ≡ true
-behind_next from f n from_one from_in f_heard n_heard lower newer =
-    let n_ahead = is_ahead from n (λ none. omega (arith, none, from_one)) newer in
-    let f_newer = leads_is_newer from f (omega (arith, lower, n_ahead, lead_of_newer from n newer)) in
-    let f_ahead = lead_of_newer from f f_newer in
-    let (next_in, next_one, next_more, next_most) = next_ahead from f from_in f_heard.0 (omega (arith, f_heard.1, f_ahead)) in
-    let less : ahead from n < ahead from (next f) = omega (arith, lower, lead_of_newer from n newer, f_ahead, next_more) in
-    let by = ahead_by from n (next f) from_in n_heard.0 next_in less in
-    let back = ahead_back n (next f) n_heard.0 next_in (omega (arith, by, less)) in
-    and_from (is_newer n (next f)) _
-    (newer_by n (next f) next_one (omega (arith, by, less)) (omega (arith, by, n_ahead, next_most, f_heard.1, f_ahead)))
-    (ap not (not_newer_by (next f) n next_one (omega (arith, back, by, n_ahead, next_most, f_heard.1, f_ahead))))
-
-each_behind : (from f : ℕ) (xs : List ℕ) → 0 < from → from < circle → IsHeard from f → AllByRecursion (IsHeard from) xs → AllByRecursion (λ n. lead from n ≤ lead from f) xs
-    → AllByRecursion (λ n. is_newer from n ≡ true → is_behind (next f) n ≡ true) xs
-each_behind from f [] from_one from_in f_heard all lower = tt
-each_behind from f (x ∷ xs) from_one from_in f_heard all lower =
-    ((λ newer. behind_next from f x from_one from_in f_heard all.0 lower.0 newer), each_behind from f xs from_one from_in f_heard all.1 lower.1)
-
 -- a number is not ahead of itself
 own_lead : (from : ℕ) → lead from from ≡ 0
 own_lead from =
@@ -147,8 +106,69 @@ own_lead from =
       | inr older ↦ ap (λ b. if b then ahead from from else 0) older
     ]
 
-pub above_heard : (from : ℕ) (heard : List ℕ) → 0 < from → from < circle → AllByRecursion (IsHeard from) heard
-    → AllByRecursion (λ n. is_newer from n ≡ true → is_behind (next (furthest from heard)) n ≡ true) heard
-above_heard from heard from_one from_in all =
-    each_behind from (furthest from heard) heard from_one from_in
-    (all_heard from from heard (from_in, omega (arith, own_lead from)) all) all (highest from from heard).1
+-- how far a number leads is how much higher its place is
+same_place : (low x y : ℕ) → low < circle → x < circle → y < circle → ahead low x ≡ ahead low y → x ≡ y
+same_place low x y low_in x_in y_in alike = by (cases_lt x low) (cases_lt y low)
+  where
+    by : (x < low) ⊎ (low ≤ x) → (y < low) ⊎ (low ≤ y) → x ≡ y
+    by (inl a) (inl b) = omega (arith, down low x a, down low y b, alike)
+    by (inl a) (inr b) = omega (arith, down low x a, up low y b, alike)
+    by (inr a) (inl b) = omega (arith, up low x a, down low y b, alike)
+    by (inr a) (inr b) = omega (arith, up low x a, up low y b, alike)
+
+lead_is : (low from x : ℕ) → low < circle → IsWithin low from → IsWithin low x → lead from x ≡ ahead low x - ahead low from
+lead_is low from x low_in (from_in, from_one, from_near) (x_in, x_one, x_near) =
+    elim (cases_lt (ahead low from) (ahead low x)) [
+      | inl higher ↦
+          let by = ahead_by low from x low_in from_in x_in higher in
+          ap (λ b. if b then ahead from x else 0) (newer_by from x (λ none. omega (arith, none, x_one)) (omega (arith, by, higher)) (omega (arith, by, x_near))) ∙ by
+      | inr not_higher ↦
+          elim (cases_lt (ahead low x) (ahead low from)) [
+            | inl lower ↦
+                let by = ahead_by low x from low_in x_in from_in lower in
+                let back = ahead_back x from x_in from_in (omega (arith, by, lower)) in
+                ap (λ b. if b then ahead from x else 0) (not_newer_by from x (λ none. omega (arith, none, from_one)) (omega (arith, back, by, from_near)))
+                ∙ omega (arith, lower)
+            | inr not_lower ↦
+                ap (lead from) (same_place low x from low_in x_in from_in (omega (arith, not_higher, not_lower))) ∙ own_lead from ∙ omega (arith, not_higher)
+          ]
+    ]
+
+-- the furthest is no lower than the first
+no_lower : (low from a : ℕ) (xs : List ℕ) → low < circle → IsWithin low from → IsWithin low a → AllByRecursion (IsWithin low) xs → ahead low from ≤ ahead low a
+    → ahead low from ≤ ahead low (fold (further from) a xs)
+no_lower low from a [] low_in from_within a_within all above = above
+no_lower low from a (x ∷ xs) low_in from_within a_within all above =
+    no_lower low from (further from a x) xs low_in from_within (further_holds (IsWithin low) from a x a_within all.0) all.1
+    (elim (cases_lt (lead from a) (lead from x)) [
+      | inl less ↦ omega (arith, less, lead_is low from x low_in from_within all.0, ap (λ t. ahead low (if t then x else a)) (lt-ltb (lead from a) (lead from x) less))
+      | inr not_less ↦ omega (arith, above, ap (λ t. ahead low (if t then x else a)) (le-ltb (lead from a) (lead from x) not_less))
+    ])
+
+behind_next : (low f n : ℕ) → low < circle → IsWithin low f → IsWithin low n → ahead low n ≤ ahead low f → is_behind (next f) n ≡ true
+behind_next low f n low_in (f_in, f_one, f_near) (n_in, n_one, n_near) lower =
+    let (next_in, next_one, next_more, next_most) = next_ahead low f low_in f_in (omega (arith, f_near)) in
+    let less : ahead low n < ahead low (next f) = omega (arith, lower, next_more) in
+    let by = ahead_by low n (next f) low_in n_in next_in less in
+    let back = ahead_back n (next f) n_in next_in (omega (arith, by, less)) in
+    and_from (is_newer n (next f)) _
+    (newer_by n (next f) next_one (omega (arith, by, less)) (omega (arith, by, next_most, f_near)))
+    (ap not (not_newer_by (next f) n next_one (omega (arith, back, by, next_most, f_near))))
+
+each_behind : (low from f : ℕ) (xs : List ℕ) → low < circle → IsWithin low from → IsWithin low f → ahead low from ≤ ahead low f → AllByRecursion (IsWithin low) xs
+    → AllByRecursion (λ n. lead from n ≤ lead from f) xs → AllByRecursion (λ n. is_behind (next f) n ≡ true) xs
+each_behind low from f [] low_in from_within f_within above all lower = tt
+each_behind low from f (x ∷ xs) low_in from_within f_within above all lower = (
+  behind_next low f x low_in f_within all.0
+      (omega (arith, above, lower.0, lead_is low from x low_in from_within all.0, lead_is low from f low_in from_within f_within)),
+  each_behind low from f xs low_in from_within f_within above all.1 lower.1,
+)
+
+pub above_heard : (low from : ℕ) (heard : List ℕ) → low < circle → AllByRecursion (IsWithin low) (from ∷ heard)
+    → AllByRecursion (λ n. is_behind (next (furthest from heard)) n ≡ true) (from ∷ heard)
+above_heard low from heard low_in all =
+    let f_within = all_hold (IsWithin low) from from heard all.0 all.1 in
+    let above = no_lower low from from heard low_in all.0 all.0 all.1 (omega arith) in (
+      behind_next low (furthest from heard) from low_in f_within all.0 above,
+      each_behind low from (furthest from heard) heard low_in all.0 f_within above all.1 (highest from from heard).1,
+    )

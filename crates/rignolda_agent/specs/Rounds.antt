@@ -1,6 +1,6 @@
 -- What an agent hears: numbers that are near each other, and a round.
 -- Source: this project's own.
-use Rattle.std.specs.Prelude.{◌≡◌, ℕ, ◌==◌, ◌<◌, ◌≤◌, ◌&&◌, not, Bool, true, if◌then◌else◌}
+use Rattle.std.specs.Prelude.{◌-◌, ◌≡◌, ℕ, ◌==◌, ◌<◌, ◌≤◌, ◌&&◌, not, Bool, true, if◌then◌else◌}
 use Rattle.std.specs.Prelude.{List, [], ◌∷◌, ◌++◌, Option, Some, None}
 use Rattle.std.specs.List.{AllByRecursion}
 use Rattle.rignolda_body.specs.declared.body.Kind.TheVariants.{Table}
@@ -18,7 +18,11 @@ place low number = if number == 0 then 0 else ahead low number
 abbrev pub IsNear : ℕ → ℕ → Type 0
 IsNear low number = (number < circle) × (place low number < half)
 
--- every body that comes has such a number
+-- a number that is ahead of this one by a little less than that
+abbrev pub IsWithin : ℕ → ℕ → Type 0
+IsWithin low number = (number < circle) × (0 < number) × (ahead low number < half - 2)
+
+-- every body that comes has a number that is near
 abbrev pub AllNear : ℕ → List (Option Body) → Type 0
 AllNear low [] = Unit {0}
 AllNear low (None ∷ rest) = AllNear low rest

@@ -5,7 +5,7 @@ ghost use Rattle.rignolda_body.specs.declared.body.Kind.TheVariants.{Changes, Ta
 ghost use Rattle.rignolda_body.specs.Spelling.{Body, Setting};
 ghost use Rattle.rignolda_agent.specs.Agents.{Agent, applied, happens_all, none_set};
 ghost use Rattle.rignolda_agent.specs.Numbers.{ahead, furthest, is_newer, next};
-ghost use Rattle.rignolda_agent.specs.Takers.{Taker, drops, fills, looks, takes};
+ghost use Rattle.rignolda_agent.specs.Takers.{Taker, after, drops, fills, looks};
 
 /// The definitions of this crate on small values.
 pub fn worked_out()
@@ -52,4 +52,12 @@ pub fn worked_out()
         let between : Taker = record { number = 7; floor = 7; whole = true; in_a_round = false } in
         (looks within 8 ≡ true) × (looks between 8 ≡ false) × (fills between 8 ≡ false)
         × (fills between 9 ≡ true) × (looks between 9 ≡ true) }
+    // After a table with number 7 a change with number 9 lacks something, and the table 10 makes up
+    // for it; the table after a harmless body looks at all files.
+    ensures over_time { let begins : Taker =
+        record { number = 0; floor = 0; whole = false; in_a_round = false } in
+        let seven = after begins Table 7 in
+        (fills (after seven Changes 9) 10 ≡ true) × (fills (after seven Changes 8) 9 ≡ false)
+        × (looks (after seven Harmless 8) 9 ≡ true) × (looks (after seven Changes 8) 9 ≡ false)
+        × (looks (after (after seven Harmless 8) Table 9) 10 ≡ false) }
 {}

@@ -1,7 +1,7 @@
 //! Laws over lists of bodies and numbers. Each is a function with an empty body; its contract is
 //! the law.
 
-ghost use Rattle.std.specs.Prelude.{◌≡◌, ◌<◌, ◌≤◌, ◌-◌, [], ◌∷◌, ◌++◌, ℕ, List, Option, Some};
+ghost use Rattle.std.specs.Prelude.{◌≡◌, ◌<◌, ◌≤◌, [], ◌∷◌, ◌++◌, ℕ, List, Option, Some};
 ghost use Rattle.std.specs.Prelude.{length, map, take, true, false};
 ghost use Rattle.std.specs.List.{AllByRecursion};
 ghost use Rattle.stab_settings.specs.Refreshes.{reached};
@@ -12,8 +12,9 @@ ghost use Rattle.rignolda_agent.specs.Agents.{Agent, LacksNothing, Settings, Wai
 ghost use Rattle.rignolda_agent.specs.Agents.{applied_by, happens, happens_all, hears_all};
 ghost use Rattle.rignolda_agent.specs.Agents.{tell_all, with_body};
 ghost use Rattle.rignolda_agent.specs.Items.{Reading, SaysBehind, hears_items};
-ghost use Rattle.rignolda_agent.specs.Numbers.{circle, furthest, half, is_newer, lead, next};
-ghost use Rattle.rignolda_agent.specs.Rounds.{AllNear, IsNear, IsReady, IsRound, IsRun, NeverFall};
+ghost use Rattle.rignolda_agent.specs.Numbers.{circle, furthest, is_newer, next};
+ghost use Rattle.rignolda_agent.specs.Rounds.{AllNear, IsNear, IsReady, IsRound, IsRun, IsWithin};
+ghost use Rattle.rignolda_agent.specs.Rounds.{NeverFall};
 ghost use Rattle.rignolda_agent.specs.Rounds.{is_behind, last_number};
 ghost use Rattle.rignolda_agent.specs.Takers.{takes};
 
@@ -49,7 +50,7 @@ pub fn a_newer_table_makes_the_files_right()
 
 /// An agent that starts again comes back: whatever it remembered, once it has heard a whole table
 /// and all that follows it up to a number that is not behind that of its files, these are what the
-/// bodies tell. Before that no file is touched.
+/// bodies tell.
 pub fn an_agent_that_starts_again_comes_back()
     ensures { (agent : Agent) (table : Body) (later : List Body) (before : Settings)
         → table.kind ≡ Table → takes agent.taker table.number ≡ true → IsRun table.number later
@@ -92,12 +93,10 @@ pub fn two_rounds_bring_the_settings_of_the_last_item()
         → (hears_items reading agent received).files ≡ tell_all at_root bodies) }
 {}
 
-/// The root goes on above what it heard: of the numbers that agents told it, each that was ahead of
-/// its own is behind the number that comes after the furthest of them. (One that was ahead by
-/// exactly half of the circle but one is met the next time.)
+/// The root goes on above what it heard: the number after the furthest of those that agents have is
+/// ahead of its own and of all of them, if these are within a little less than half of the circle.
 pub fn the_root_goes_on_above_what_it_heard()
-    ensures { (from : ℕ) (heard : List ℕ) → 0 < from → from < circle
-        → AllByRecursion (λ n. (n < circle) × (lead from n < half - 1)) heard
-        → AllByRecursion (λ n. is_newer from n ≡ true
-        → is_behind (next (furthest from heard)) n ≡ true) heard }
+    ensures { (low from : ℕ) (heard : List ℕ)
+        → low < circle → AllByRecursion (IsWithin low) (from ∷ heard)
+        → AllByRecursion (λ n. is_behind (next (furthest from heard)) n ≡ true) (from ∷ heard) }
 {}

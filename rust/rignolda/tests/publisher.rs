@@ -169,3 +169,39 @@ fn it_publishes_what_another_program_does() {
         assert_eq!(said, expected, "row {}", number);
     }
 }
+
+/// A table with many keys is replaced by one with other, long values: what is unset and what is set
+/// have more bytes together than a body may have.
+#[test]
+fn changes_that_are_longer_than_a_body_are_published_in_several() {
+    let old = (0..4_000).map(|at| (format!("{at:0>120}"), Vec::new()));
+    let new = (0..16).map(|at| (format!("{at}"), vec![at; (1 << 20) - 64]));
+    let (old, new): (BTreeMap<_, _>, BTreeMap<_, _>) = (old.collect(), new.collect());
+    let mut publisher = Publisher::new(7);
+    publisher.replace(old);
+    let mut table = publisher.next(1_000).unwrap();
+    publisher.replace(new.clone());
+    let (mut told, mut bodies) = (BTreeMap::new(), 0);
+    loop {
+        let (_, meaning) = table.body.meaning().expect("it is a body");
+        let entries = match meaning {
+            Meaning::Changes(entries) | Meaning::Table(entries) => entries,
+            Meaning::Harmless => Vec::new(),
+        };
+        if table.is_table {
+            told.clear();
+        }
+        for (key, value) in entries {
+            match value {
+                Some(value) => told.insert(key.to_owned(), value.to_vec()),
+                None => told.remove(key),
+            };
+        }
+        bodies += 1;
+        match publisher.next(1_000) {
+            Some(next) => table = next,
+            None => break,
+        }
+    }
+    assert!(bodies > 2 && told == new);
+}

@@ -29,7 +29,10 @@ fn newer_ones_are_taken_and_older_ones_are_strays() {
         [true, true, false, false, true, true]
     );
     assert_eq!((table.taker.number, table.round), (11, 7));
-    assert_eq!((table.strays, table.gaps, table.taker.is_whole()), (2, 1, false));
+    assert_eq!(
+        (table.strays, table.gaps, table.taker.is_whole()),
+        (2, 1, false)
+    );
     assert!(table.takes(12, &TABLE) && table.taker.is_whole() && table.round == 12);
     // (what is left out before a table is made up for)
     assert!(table.takes(20, &TABLE) && table.taker.is_whole() && table.gaps == 1);

@@ -164,14 +164,29 @@ impl Publisher {
             .next(self.changed.len(), self.settings.len(), limit)
     }
 
+    /// How many of the first changes a body has room for. (Of those that unset keys and those that
+    /// set others there may be more than a table has.)
+    fn fits(&self, most: usize) -> usize {
+        let mut room = BODY_BYTES - HEAD;
+        let bytes = |key: &String| entry_bytes(&(key, self.settings.get(key).map(Vec::as_slice)));
+        let first = self.order.iter().take(most).map(bytes);
+        let fit = first.take_while(|bytes| {
+            let has_room = *bytes <= room;
+            room = room.saturating_sub(*bytes);
+            has_room
+        });
+        fit.count()
+    }
+
     /// The next body to publish. `limit`: how many items may follow a table at most.
     pub fn next(&mut self, limit: u64) -> Option<Published> {
         let (next, changes) = (self.next_body(limit), self.changed.len());
         let keys = match next.kind {
             0 => return None,
             b'H' => BTreeSet::new(),
-            b'C' if next.entries < changes as u64 => {
-                let keys: BTreeSet<_> = self.order.drain(..next.entries as usize).collect();
+            b'C' => {
+                let fits = self.fits(next.entries as usize);
+                let keys: BTreeSet<_> = self.order.drain(..fits).collect();
                 for key in &keys {
                     self.changed.remove(key);
                 }
