@@ -95,8 +95,8 @@
 //!
 //! With the feature `net`, which is on unless it is turned off, there is what an agent needs beside
 //! these calls: `net` are its connections, byte for byte and without sockets, and `settings` are
-//! keys and values that travel so. These two need the standard library, and are tested and not
-//! proved.
+//! keys and values that travel so. These two need the standard library. What bodies say, which are
+//! published, taken and applied is asked of calls that are proved; what is around these is tested.
 #![cfg_attr(not(feature = "net"), no_std)]
 #![warn(missing_docs)]
 
