@@ -116,6 +116,7 @@ pub extern "C" fn rignolda_publisher_publish(
     ensures after { publisher_of publisher.new
         ≡ after_body (next (publisher_of publisher.old) changes limit)
         (publisher_of publisher.old) bytes }
+    ensures refused { result ≡ 0 → publisher.new ≡ publisher.old }
 {
     kind_byte(publisher.publish(changes, limit, bytes))
 }
