@@ -1,4 +1,5 @@
--- Runs of a root: what comes before each call for the next body, and what is published then.
+-- Runs of a root while no agent says a newer number: what comes before each call for the next body,
+-- and what is published then.
 -- Changes wait in the order in which they came, a change of a key that waits already at the place
 -- of that one; bodies take them from the front.
 -- Source: this project's own.

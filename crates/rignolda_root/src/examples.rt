@@ -1,13 +1,13 @@
 //! Examples of the definitions, worked out: a law with an empty body.
 
-ghost use Rattle.std.specs.Prelude.{◌≡◌, ℕ, true, false, List, [], ◌∷◌, Option, Some, None};
-ghost use Rattle.rignolda_root.specs.Merging.{Act, Settings, has, after_acts};
+ghost use Rattle.std.specs.Prelude.{◌≡◌, true, false, [], ◌∷◌, Some, None};
+ghost use Rattle.rignolda_root.specs.Merging.{Settings};
 ghost use Rattle.rignolda_root.specs.Merging as merging;
-ghost use Rattle.rignolda_root.specs.Publishers.{Publisher};
+ghost use Rattle.rignolda_root.specs.Publishers.{Publisher, entries, gone_above, is_table_due};
 ghost use Rattle.rignolda_root.specs.Runs.{Call, Root, numbers, until_over};
-ghost use Rattle.rignolda_root.specs.Waiting.{Change, merged};
+ghost use Rattle.rignolda_root.specs.Waiting.{merged};
 ghost use Rattle.rignolda_root.specs.declared.publisher.Next.TheVariants.{Changes, Harmless, Whole};
-ghost use Rattle.stab_settings.specs.Tables.{Setting, Table, empty_table, set_key};
+ghost use Rattle.stab_settings.specs.Tables.{empty_table, set_key};
 
 /// The definitions of this crate on small values.
 pub fn worked_out()
@@ -48,6 +48,38 @@ pub fn worked_out()
         let call : Call = record { more = 1; asked = None; held = false; limit = 2; bytes = 9 } in
         until_over root (call ∷ call ∷ call ∷ call ∷ call ∷ [])
         ≡ Whole ∷ Changes ∷ Harmless ∷ Whole ∷ [] }
+    // 64 bodies, or 1,048,577 bytes, make a table due that was shorter.
+    ensures bytes { let publisher : Publisher = record {
+      number = 9;
+      items = 1;
+      bytes = 1048577;
+      table_bytes = 1048576;
+      left = 0;
+      rounds_turn = false;
+      table_first = false;
+      held = false;
+    } in
+        (is_table_due publisher 100 ≡ true)
+        × (is_table_due (record publisher { table_bytes = 1048577 }) 100 ≡ false)
+        × (is_table_due (record publisher { bytes = 1048576; table_bytes = 50 }) 100 ≡ false)
+        × (is_table_due (record publisher { items = 63; bytes = 9; table_bytes = 8 }) 100 ≡ false)
+        × (is_table_due (record publisher { items = 64; bytes = 9; table_bytes = 8 }) 100 ≡ true) }
+    // Number 9 was the last. An agent has 12, 9 or 7; only the first one is ahead.
+    ensures above { let publisher : Publisher = record {
+      number = 9;
+      items = 1;
+      bytes = 20;
+      table_bytes = 50;
+      left = 3;
+      rounds_turn = true;
+      table_first = false;
+      held = false;
+    } in
+        (gone_above publisher 12 ≡ record publisher { number = 12; table_first = true })
+        × (gone_above publisher 9 ≡ publisher) × (gone_above publisher 7 ≡ publisher) }
+    // 5,000 changes wait, and there are 6,000 settings.
+    ensures entries { (entries Whole 5000 6000 ≡ 6000) × (entries Changes 5000 6000 ≡ 4096)
+        × (entries Changes 3 6000 ≡ 3) × (entries Harmless 5000 6000 ≡ 0) }
     // Key 1 is set to 5, then to 6, and key 2 to 7. One body tells 6 and 7.
     ensures merged { let one = set_key empty_table (record { key = 1; value = Some 5 }) in
         let two = set_key one (record { key = 1; value = Some 6 }) in

@@ -51,7 +51,7 @@ pub struct Publisher {
 }
 
 impl Publisher {
-    /// A publisher whose bodies have the numbers after this one. It begins with the whole table.
+    /// A publisher with the numbers after this one. It begins with the whole table, unless held.
     pub fn new(number: u64) -> Publisher
         ensures { publisher_of result ≡ publishers.new number }
     {

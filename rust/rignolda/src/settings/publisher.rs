@@ -34,7 +34,8 @@ pub struct Published {
 
 impl Publisher {
     /// A publisher without settings, whose bodies have the numbers after this one: to be above
-    /// those of an earlier life, it may be that of a clock. It begins with the whole table.
+    /// those of an earlier life, it may be that of a clock. It begins with the whole table,
+    /// unless it is [held](Publisher::hold).
     pub fn new(sequence: u64) -> Publisher {
         Publisher {
             settings: BTreeMap::new(),
@@ -120,7 +121,7 @@ impl Publisher {
     /// of them.
     ///
     /// Unless it is [held](Publisher::hold), the table comes after `4 * harmless + 1` other bodies
-    /// at most, whatever changes meanwhile.
+    /// at most, while no agent says a newer number.
     pub fn begin_round(&mut self, harmless: u32) {
         self.numbers.begin_round(harmless);
     }
