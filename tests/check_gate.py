@@ -153,7 +153,7 @@ house.command("tests/try_edits.py", BESIDE)
 STEPS = """
 has() { for _ in $(seq 200); do grep -q "$1" "$WORK/begun" && return; sleep 0.05; done; }
 sleep 0.3; cp "$WORK/begun" "$WORK/at_first"
-echo rt: low proved; has apart; has mid; cp "$WORK/begun" "$WORK/beside"
+echo rt: low proved; has apart; has low; has mid; cp "$WORK/begun" "$WORK/beside"
 echo 1 passed, 0 failed"""
 
 
