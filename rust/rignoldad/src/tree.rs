@@ -61,8 +61,8 @@ impl Below {
         list.map(|list| self.0.insert(child.into(), (now, list))).is_some()
     }
 
-    /// The number of a child, and the one that is furthest ahead of that at it and below. (Where its
-    /// own is wrong, it may count what is right as ahead.)
+    /// The number of a child, and the one that is furthest ahead of that at it and below. (Where
+    /// its own is wrong, it may count what is right as ahead.)
     pub fn numbers(&self, child: &str) -> [u64; 2] {
         self.0.get(child).map_or([0; 2], |(_, list)| [list[0].sequence, list[0].ahead])
     }
