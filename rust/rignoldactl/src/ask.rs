@@ -96,7 +96,8 @@ pub fn bounds(list: &[Seen]) -> Vec<Bounds> {
         .zip(depths)
         .enumerate()
         .map(|(at, (seen, depth))| {
-            let own = if at > 0 && seen.inner { seen.limit } else { 0 };
+            // (what an inner agent keeps for a child, and the item that its sender is holding)
+            let own = if at > 0 && seen.inner { seen.limit.saturating_add(1) } else { 0 };
             let e = above.get(seen.parent.as_str()).copied().unwrap_or(0).saturating_add(own);
             above.insert(&seen.name, e);
             let depth = depth as u64;

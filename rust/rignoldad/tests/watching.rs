@@ -66,13 +66,14 @@ fn who_is_below_an_agent_that_is_away_is_not_known() {
 fn the_bounds_are_the_sums_of_a_path() {
     let list = tree(Instant::now());
     let of = |name: &str, depth, c, e, m, n| Bounds { name: name.into(), depth, c, e, m, n };
-    // (each link has capacity 1: C = d, M = 3 d, N = 2 d + 1; each inner agent may hold ten)
+    // (each link has capacity 1: C = d, M = 3 d, N = 2 d + 1; each inner agent may keep ten for a
+    // child, and its sender one more)
     let expected = [
         of("root", 0, 0, 0, 0, 0),
-        of("a", 1, 1, 10, 3, 3),
-        of("b", 2, 2, 10, 6, 5),
-        of("c", 2, 2, 20, 6, 5),
-        of("d", 3, 3, 20, 9, 7),
+        of("a", 1, 1, 11, 3, 3),
+        of("b", 2, 2, 11, 6, 5),
+        of("c", 2, 2, 22, 6, 5),
+        of("d", 3, 3, 22, 9, 7),
     ];
     assert_eq!(bounds(&list), expected);
     assert_eq!(harmless_needed(&list), 9);
