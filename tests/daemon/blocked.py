@@ -43,26 +43,33 @@ int fsync64(int file) { return fsync(file); }
 """
 
 
-# (while a file is there, a mark of a hook is not removed, and another file says so)
-SLOW_UNLINK = r"""
+def slow_call(function, path, part, call):
+    """A function of C that waits while a file is there and `path` has this part, and says so by
+    another file; then it is this call of the system."""
+    return r"""
 #include <fcntl.h>
-#include <stdlib.h>
 #include <stdio.h>
+#include <stdlib.h>
 #include <string.h>
 #include <sys/syscall.h>
 #include <unistd.h>
-int unlink(const char *path)
+int FUNCTION
 {
     char began[4096];
     const char *slow = getenv("SLOW_FILE");
-    while (strstr(path, "/.pending/") && !access(slow, F_OK)) {
+    while (strstr(PATH, "PART") && !access(slow, F_OK)) {
         snprintf(began, sizeof began, "%s.began", slow);
         close(open(began, O_CREAT | O_WRONLY, 0600));
         usleep(10000);
     }
-    return syscall(SYS_unlinkat, AT_FDCWD, path, 0);
+    return syscall(CALL);
 }
-"""
+""".replace("FUNCTION", function).replace("PATH", path).replace("PART", part).replace("CALL", call)
+
+
+# (a mark of a hook is not removed)
+SLOW_UNLINK = slow_call("unlink(const char *path)", "path", "/.pending/",
+                        "SYS_unlinkat, AT_FDCWD, path, 0")
 
 
 def lacking():

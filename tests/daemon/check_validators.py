@@ -37,6 +37,7 @@ CASES = {
     "RignoldaAway": [("connected", "1x80", "1x39 0x3 1x40", "1x10 0x70")],
     "RignoldaRootless": [("rootless", "0x80", "0x39 1x3 0x40", "0x10 1x70")],
     "RignoldaAgentsAway": [("agents_away", "0x80", "0x39 2x3 0x40", "0x10 1x70")],
+    "RignoldaFilesDiffer": [("agents_differing", "0x80", "0x39 2x3 0x40", "0x10 1x70")],
     "RignoldaTwins": [("child_clashes_total{child=\"c\"}", "0x80", "3x80", "0x30 1x50")],
     "RignoldaUnpublished": [("unpublished", "0x80", "0x39 1x3 0x40", "0x10 2x70")],
     "RignoldaItemWaits": [

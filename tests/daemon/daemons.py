@@ -34,7 +34,7 @@ def binaries():
     """The folder of the two programs: RIGNOLDAD_BIN, what cargo built, or those that are kept."""
     named = os.environ.get("RIGNOLDAD_BIN")
     if named:
-        return pathlib.Path(named)
+        return pathlib.Path(named).resolve()
     built = HOME / "rust/target/release"
     if (built / "rignoldad").exists() and (built / "rignoldactl").exists():
         return built
@@ -145,7 +145,7 @@ class Agent:
         with open(self.log, "a") as log:
             self.process = subprocess.Popen(
                 [*self.prefix, self.tree.bin / "rignoldad", self.file], stderr=log, stdout=log,
-                stdin=subprocess.DEVNULL, env={**os.environ, **self.env})
+                stdin=subprocess.DEVNULL, cwd=self.home, env={**os.environ, **self.env})
 
     def kill(self, how=signal.SIGKILL):
         """Ends the process, and waits until it is gone."""

@@ -293,7 +293,8 @@ class Trials:
         seen = self.asked(self.tree.root, "tree") or []
         shape = {it["name"]: it["parent"] for it in seen}
         is_up = all(it["connected"] and it["whole"] and not it["failing"] and not it["draining"]
-                    and it["applied"] >= seen[0]["changed"] for it in seen)
+                    and it["applied"] >= seen[0]["changed"] and it["compared"] == "same"
+                    for it in seen)
         return is_up and shape == {"root": "", **SHAPE}
 
     def waits(self, seconds):

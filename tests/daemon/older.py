@@ -10,32 +10,15 @@ import struct
 import sys
 import time
 
-from blocked import lacking, preload
+from blocked import lacking, preload, slow_call
 from daemons import Tree, until
 from memory import write_over
 from runner import main, sure, test
 from simulate import tried
 
-# (no file is renamed while another one is there, and a third one says so)
-SLOW_RENAME = r"""
-#include <fcntl.h>
-#include <stdio.h>
-#include <stdlib.h>
-#include <string.h>
-#include <sys/syscall.h>
-#include <unistd.h>
-int rename(const char *from, const char *to)
-{
-    char began[4096];
-    const char *slow = getenv("SLOW_FILE");
-    while (strstr(to, "/colour") && !access(slow, F_OK)) {
-        snprintf(began, sizeof began, "%s.began", slow);
-        close(open(began, O_CREAT | O_WRONLY, 0600));
-        usleep(10000);
-    }
-    return syscall(SYS_renameat2, AT_FDCWD, from, AT_FDCWD, to, 0);
-}
-"""
+# (the file of `colour` does not take its place)
+SLOW_RENAME = slow_call("rename(const char *from, const char *to)", "to", "/colour",
+                        "SYS_renameat2, AT_FDCWD, from, AT_FDCWD, to, 0")
 
 # (the clock is a day behind)
 SET_BACK = r"""

@@ -9,9 +9,25 @@ import subprocess
 import sys
 import time
 
+from blocked import lacking, preload
 from daemons import PATIENCE, Tree, counted, root_has, running, took, until, very_patient
 from protocol import Child, Parent, body, entry, report
 from runner import main, sure, test
+
+
+# (while a file is there, what is written is spoiled on its way, and the call says that all is well)
+SPOILS = r"""
+#include <stdlib.h>
+#include <string.h>
+#include <sys/syscall.h>
+#include <unistd.h>
+ssize_t write(int file, const void *bytes, size_t length)
+{
+    if (length == 4 && !memcmp(bytes, "blue", 4) && !access(getenv("SLOW_FILE"), F_OK))
+        bytes = "glue";
+    return syscall(SYS_write, file, bytes, length);
+}
+"""
 
 
 def also_below(agent, parent):
@@ -100,6 +116,40 @@ def nothing_is_everywhere_before_it_is_applied():
             go.touch()
             tree.root.ask("wait", "--everywhere", number)
             sure(set(calls(leaf)) == {"k0", "k1", "k2", "k3"}, calls(leaf))
+
+
+def compared(tree):
+    """What the root says of each agent's files."""
+    return {it["name"]: it["compared"] for it in tree.root.ask("tree")}
+
+
+@test(needs=lacking)
+def files_that_differ_are_seen():
+    """A disk spoils what an agent gives it: the agent's numbers say that all is applied."""
+    with Tree({"left": "root", "leaf": "left", "relay": "left"}) as tree:
+        leaf, all = tree["leaf"], {"root": "same", "left": "same", "relay": "nothing"}
+        del tree["relay"].tables["apply"]
+        spoils = preload(leaf, SPOILS)
+        tree.root.tables["root"]["round"] = "500ms"
+        tree.write("size", 1)
+        tree.start()
+        sure(until(lambda: compared(tree) == {**all, "leaf": "same"}), compared(tree))
+        spoils.touch()
+        number = tree.root.ask("publish", "colour", "blue")["sequence"]
+        sure(until(lambda: leaf.files().get("colour") == b"glue"), leaf.files())
+        sure(until(lambda: leaf.status()["applied"] >= number), leaf.status())
+        sure(until(lambda: compared(tree) == {**all, "leaf": "differs"}), compared(tree))
+        why = waits(tree.root, "--everywhere", number, seconds=3)
+        sure(why and "leaf has other settings in its files" in why, why)
+        sure(tree.root.status()["differing"] == 1, tree.root.status())
+        sure(" differ " in tree.root.run("tree").stdout, tree.root.run("tree").stdout)
+        # (at another agent nothing is compared)
+        sure({it["compared"] for it in tree["left"].ask("tree")} == {"nothing"})
+        # a round looks at the file, and writes it anew
+        spoils.unlink()
+        tree.root.ask("wait", "--everywhere", number)
+        sure(leaf.files()["colour"] == b"blue", leaf.files())
+        sure(compared(tree) == {**all, "leaf": "same"}, compared(tree))
 
 
 @test

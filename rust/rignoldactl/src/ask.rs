@@ -1,5 +1,5 @@
 //! The other end of the control socket: asks an agent, and makes text of what it says.
-use crate::{ChildStatus, Request, Response, Seen, Status};
+use crate::{ChildStatus, Compared, Request, Response, Seen, Status};
 use rignolda::settings::is_newer;
 use serde::Serialize;
 use std::collections::BTreeMap;
@@ -52,6 +52,8 @@ pub fn lacks(agent: &Seen, sequence: u64) -> Option<&'static str> {
         () if agent.failing > 0 => Some("has a file or a hook that failed"),
         () if !agent.whole => Some("waits for a whole table"),
         () if is_newer(sequence, agent.applied) => Some("has not applied it"),
+        () if agent.compared == Compared::Differs => Some("has other settings in its files"),
+        () if agent.compared == Compared::NotKnown => Some("has not said what its files are"),
         () if agent.cut => Some("has more agents below it than it can report"),
         () => None,
     }
@@ -164,8 +166,8 @@ fn row<const COLUMNS: usize>(words: [&dyn Display; COLUMNS]) -> Vec<String> {
 pub fn tree_text(list: &[Seen]) -> String {
     // (what is harmless, or a table that changes nothing, is no lag)
     let newest = list.first().map_or(0, |root| root.changed);
-    let head: [&dyn Display; 7] =
-        [&"agent", &"lag", &"backlog", &"strays", &"garbage", &"gaps", &"state"];
+    let head: [&dyn Display; 8] =
+        [&"agent", &"lag", &"backlog", &"strays", &"garbage", &"gaps", &"files", &"state"];
     let mut rows = vec![row(head)];
     for (seen, depth) in list.iter().zip(depths(list)) {
         let state = match () {
@@ -183,7 +185,14 @@ pub fn tree_text(list: &[Seen]) -> String {
             _ => "0".into(),
         };
         let backlog = format!("{}/{}", seen.backlog, seen.limit);
-        rows.push(row([&name, &lag, &backlog, &seen.strays, &seen.garbage, &seen.gaps, &state]));
+        let files = match seen.compared {
+            Compared::Nothing => "-",
+            Compared::Same => "same",
+            Compared::Differs => "differ",
+            Compared::NotKnown => "not known",
+        };
+        let Seen { strays, garbage, gaps, .. } = seen;
+        rows.push(row([&name, &lag, &backlog, strays, garbage, gaps, &files, &state]));
     }
     table(&rows)
 }

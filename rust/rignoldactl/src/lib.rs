@@ -70,6 +70,11 @@ pub struct Status {
     /// That of the last body which was applied, its hooks included.
     /// While a table that may bring older changes is lacking, or is not applied, it is 0.
     pub applied: u64,
+    /// Whether it keeps files of settings; the number up to which they are what bodies said, or 0;
+    /// and the digest that they had when they were written, or looked at in a round.
+    pub applies: bool,
+    pub files: u64,
+    pub digest: String,
     /// The number that is furthest ahead, of its own, that of its files, and those below.
     pub ahead: u64,
     /// That of the last body which changed something.
@@ -103,10 +108,11 @@ pub struct Status {
     /// At the root: what of its folder cannot be published, and the first of these with their whys.
     pub unpublished: u64,
     pub faults: Vec<String>,
-    /// At the root: how many agents are known, itself with them, and how many of them are children
-    /// of agents and connected nowhere.
+    /// At the root: how many agents are known, itself with them; how many of them are children of
+    /// agents and connected nowhere; and how many have other settings in their files.
     pub agents: u64,
     pub away: u64,
+    pub differing: u64,
     pub children: Vec<ChildStatus>,
     /// What was not taken at the last reload, and why; empty where all was.
     pub reload_failed: String,
@@ -149,6 +155,10 @@ impl Status {
             connected: true,
             sequence: self.sequence,
             applied: self.applied,
+            applies: self.applies,
+            files: self.files,
+            digest: self.digest.clone(),
+            compared: Compared::Nothing,
             ahead: self.ahead,
             changed: self.changed,
             round: self.round,
@@ -179,6 +189,12 @@ pub struct Seen {
     pub sequence: u64,
     /// The last number up to which all is applied; 0 where it is not known that anything is.
     pub applied: u64,
+    /// Whether it keeps files of settings, up to which number they are what bodies said, and their
+    /// digest; and, where the root shows it, whether that is the digest of what it published.
+    pub applies: bool,
+    pub files: u64,
+    pub digest: String,
+    pub compared: Compared,
     /// The number that is furthest ahead, of its own, that of its files, and those below: the root
     /// goes on above it.
     pub ahead: u64,
@@ -201,6 +217,21 @@ pub struct Seen {
     pub cut: bool,
     /// How many milliseconds ago it said so.
     pub age: u64,
+}
+
+/// What the root knows of an agent's files.
+#[derive(Clone, Copy, Debug, Default, Deserialize, Eq, PartialEq, Serialize)]
+#[serde(rename_all = "kebab-case")]
+pub enum Compared {
+    /// Nothing is compared: the agent keeps none, or it is not the root that shows it.
+    #[default]
+    Nothing,
+    /// They have the digest of what was published up to the number that they are from.
+    Same,
+    /// They have another one.
+    Differs,
+    /// It has not heard from which number they are, or does not remember the digest of that.
+    NotKnown,
 }
 
 /// A whole number with `ms`, `s`, `m` or `h`.

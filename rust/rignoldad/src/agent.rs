@@ -3,6 +3,7 @@
 use crate::apply::{Applied, Applier, Outcome};
 use crate::config::{plain, Address, Config, Fault};
 use crate::control::{self, Asked, Server};
+use crate::digest::{self, Published};
 use crate::fact;
 use crate::journal;
 use crate::metrics;
@@ -15,7 +16,7 @@ use rignolda::net::{Body, Handler, Peers};
 use rignolda::settings::{furthest, older, Meaning, Table, Taker};
 use rignolda_redis::Stores;
 use rignolda_tls::{Caller, Line, Listener, Maker};
-use rignoldactl::{ChildStatus, Request, Response, Status};
+use rignoldactl::{ChildStatus, Compared, Request, Response, Seen, Status};
 use std::collections::{BTreeMap, HashSet};
 use std::fmt::Display;
 use std::io::{self, ErrorKind, Read};
@@ -85,6 +86,8 @@ pub struct Agent {
 #[derive(Default)]
 struct State {
     is_root: bool,
+    /// At the root: the digests of what it published.
+    published: Published,
     table: Table,
     applier: Option<Applier>,
     below: Below,
@@ -246,6 +249,9 @@ impl Handler for State {
             }
             return false;
         };
+        if self.is_root {
+            self.published.take(sequence, &meaning);
+        }
         let (was_full, strays) = (self.table.full, self.table.strays);
         let takes = self.table.takes(sequence, &meaning);
         let is_table = matches!(meaning, Meaning::Table(_));
@@ -582,6 +588,8 @@ impl Agent {
         let number = table.taker.number;
         let (relay, parent) = (self.peers.relay(), self.peers.parent());
         let faults = self.root.as_ref().map(Root::faults);
+        let files = applier.as_ref().and_then(|it| it.files(number));
+        let files = files.filter(|_| table.taker.is_whole());
         let children = relay.children().map(|(name, link)| ChildStatus {
             name: name.clone(),
             connected: link.is_connected(),
@@ -607,6 +615,9 @@ impl Agent {
             // (the table that is lacking may bring changes of any number)
             applied: applier.as_ref().map_or(number, |it| it.applied(number))
                 * u64::from(table.taker.is_whole()),
+            applies: applier.is_some(),
+            files: files.map_or(0, |(number, _)| number),
+            digest: files.map_or(String::new(), |(_, digest)| digest::text(digest)),
             ahead: furthest(number, self.state.numbers()),
             changed: table.changed,
             round: table.round,
@@ -636,13 +647,26 @@ impl Agent {
         }
     }
 
-    /// The same; at the root with what is known of the whole tree.
+    /// What is known of this agent and all below it. The root compares their files with what it
+    /// published.
+    fn tree(&self, status: &Status, now: Instant) -> Vec<Seen> {
+        let mut list = self.state.below.tree(status, now);
+        for seen in &mut list {
+            let compared = status.is_root.then(|| self.state.published.compared(seen));
+            seen.compared = compared.unwrap_or_default();
+        }
+        list
+    }
+
+    /// The same as `status`; at the root with what is known of the whole tree.
     fn full_status(&self, now: Instant) -> Status {
         let mut status = self.status(now);
         if status.is_root {
-            let list = self.state.below.tree(&status, now);
+            let list = self.tree(&status, now);
+            let count = |is: fn(&Seen) -> bool| list.iter().filter(|seen| is(seen)).count() as u64;
             status.agents = list.len() as u64;
-            status.away = list.iter().filter(|seen| !seen.connected).count() as u64;
+            status.away = count(|seen| !seen.connected);
+            status.differing = count(|seen| seen.compared == Compared::Differs);
         }
         status
     }
@@ -675,7 +699,7 @@ impl Agent {
                 return Ok(Some(Response::Status(Box::new(self.full_status(now)))));
             }
             (Request::Tree, _) => {
-                return Ok(Some(Response::Tree(self.state.below.tree(&self.status(now), now))));
+                return Ok(Some(Response::Tree(self.tree(&self.status(now), now))));
             }
             (Request::ChildAdd { .. }, _) if self.listeners.is_empty() => {
                 return Err("nobody can connect: there is no `listen`".into());

@@ -9,10 +9,11 @@
 //! The marker of the folder has the number up to which its files are, or are about to be: an agent
 //! that starts applies nothing older.
 use crate::config::{is_key, Apply};
+use crate::digest::Digest;
 use crate::fact;
 use rignolda::net::LOST;
-use rignolda::settings::{older, read_floor, remove, write_floor, Change, Folder};
-use rignolda::settings::{Heard, Meaning, Waiting, SETTINGS};
+use rignolda::settings::{older, read_floor, read_plain, remove, write_floor, Change, Folder};
+use rignolda::settings::{Heard, Meaning, Waiting, SETTINGS, VALUE_BYTES};
 use std::cell::Cell;
 use std::collections::{BTreeMap, BTreeSet};
 use std::fmt;
@@ -109,6 +110,8 @@ struct State {
     floor: u64,
     /// The first sequence number of what the thread for files has in hand.
     writing: Option<u64>,
+    /// The digest of the files, once all were looked at.
+    digest: Option<u64>,
     /// The key whose file is being written.
     key: Option<String>,
     hooks: Waiting,
@@ -210,6 +213,16 @@ impl Applier {
         oldest.map_or(sequence, |oldest| older(sequence, oldest.saturating_sub(1)))
     }
 
+    /// The number up to which the files are what bodies said, where those up to `sequence` were handed
+    /// over, and the digest that they have: as they were written, or looked at in a round.
+    pub fn files(&self, sequence: u64) -> Option<(u64, u64)> {
+        let state = self.shared.lock();
+        let digest = state.digest.filter(|_| !state.holds)?;
+        let oldest = state.files.first().into_iter().chain(state.writing).reduce(older);
+        let before = oldest.map_or(sequence, |oldest| older(sequence, oldest.saturating_sub(1)));
+        Some((before, digest))
+    }
+
     /// What of its state cannot be, where something cannot: to be asked once a second.
     pub fn fault(&self, config: &Apply) -> Option<&'static str> {
         let state = self.shared.lock();
@@ -286,7 +299,7 @@ fn keep_files(shared: &Shared) {
         Some((files, due, looks, state.floor, state.config.clone()))
     };
     let (mut folder, mut others) = (Folder::new(shared.folder.clone()), Vec::new());
-    let mut is_taken = false;
+    let (mut is_taken, mut digest) = (false, None);
     while let Some((mut files, mut due, looks, floor, config)) = shared.next(&shared.files, take) {
         if folder.path() != config.folder {
             // (the memory is spoiled)
@@ -316,13 +329,22 @@ fn keep_files(shared: &Shared) {
             // (a folder in it is no setting, and may be somebody's)
             let there = if looks { folder.names() } else { folder.keys() };
             files.unset_others(there.into_iter().chain(due.iter().cloned()));
+            if looks {
+                digest = Some(Digest::default());
+            }
         }
         for (key, change) in files.in_order() {
             let (value, was_due) = (change.value.as_deref(), due.remove(&key));
             let had = !looks && value.is_some_and(|value| folder.had(&key, value));
             let differs = !had && folder.differs(&key, value, config.mode);
             if differs || was_due {
-                keep_file(shared, &mut folder, &config, &key, change, differs);
+                keep_file(shared, &mut folder, &config, &key, change.clone(), differs);
+            }
+            match (&mut digest, change.value.as_deref()) {
+                (Some(digest), _) if differs => see(digest, &folder, &key),
+                (Some(digest), Some(value)) if !had || !digest.has(&key) => digest.set(&key, value),
+                (Some(digest), None) => digest.unset(&key),
+                _ => (),
             }
         }
         if looks {
@@ -331,6 +353,7 @@ fn keep_files(shared: &Shared) {
         let mut state = shared.lock();
         state.due.append(&mut due);
         state.writing = None;
+        state.digest = digest.as_ref().map(Digest::sum);
     }
 }
 
@@ -351,6 +374,15 @@ fn say_others(folder: &Folder, before: &mut Vec<String>) {
         fact!("settings", "{count} in the folder are none of settings, as {first}");
     }
     *before = others;
+}
+
+/// Takes up what the file of a key is now that it was written, or could not be.
+fn see(digest: &mut Digest, folder: &Folder, key: &str) {
+    match read_plain(&folder.path().join(key), VALUE_BYTES) {
+        Ok(value) => digest.set(key, &value),
+        Err(error) if error.kind() == io::ErrorKind::NotFound => digest.unset(key),
+        Err(_) => digest.cannot_read(key),
+    }
 }
 
 /// Makes one file what it should be, where it differs, and lets its hook wait.

@@ -9,6 +9,7 @@ pub mod apply;
 pub mod check;
 pub mod config;
 pub mod control;
+pub mod digest;
 pub mod disk;
 pub mod journal;
 pub mod metrics;

@@ -5,7 +5,7 @@ use std::fmt::Write;
 /// A number of an agent: its name, its kind, what it is, and how to get it.
 type Number<T> = (&'static str, &'static str, &'static str, fn(&T) -> u64);
 
-const OF_AGENT: [Number<Status>; 24] = [
+const OF_AGENT: [Number<Status>; 25] = [
     ("connected", "gauge", "Whether the agent has its parent; 1 at the root.", |s| {
         u64::from(s.parent.is_some() || s.is_root)
     }),
@@ -31,6 +31,7 @@ const OF_AGENT: [Number<Status>; 24] = [
     ("unpublished", "gauge", "What the root cannot publish.", |s| s.unpublished),
     ("agents", "gauge", "At the root: agents that it knows, itself with them.", |s| s.agents),
     ("agents_away", "gauge", "At the root: those that are connected nowhere.", |s| s.away),
+    ("agents_differing", "gauge", "At the root: those with other settings.", |s| s.differing),
     ("reload_failed", "gauge", "Whether the last reload was not taken whole.", |s| {
         u64::from(!s.reload_failed.is_empty())
     }),

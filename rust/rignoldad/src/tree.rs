@@ -119,7 +119,8 @@ impl Below {
             // (of who is below an agent that is away, nothing newer is known; and what it said
             // before it connected may be of an earlier life)
             seen.connected &= child.connected;
-            seen.applied *= u64::from(age <= child.since || !child.connected);
+            let is_of_now = u64::from(age <= child.since || !child.connected);
+            (seen.applied, seen.files) = (seen.applied * is_of_now, seen.files * is_of_now);
         }
         (list[0].parent, list[0].connected) = (parent.into(), child.connected);
         list

@@ -2,7 +2,7 @@
 use rignoldactl::ask::{
     bounds, depths, harmless_needed, lacks, too_few_harmless, tree_text, Bounds,
 };
-use rignoldactl::{ChildStatus, Seen, Status};
+use rignoldactl::{ChildStatus, Compared, Seen, Status};
 use rignoldad::tree::{Below, REPORT_BYTES};
 use std::time::{Duration, Instant};
 
@@ -237,7 +237,16 @@ fn the_tree_is_a_line_for_each_agent() {
     let lines: Vec<&str> = text.lines().collect();
     assert_eq!(lines.len(), 6);
     assert!(lines[5].starts_with("      d"), "{text}");
-    assert!(lines.iter().skip(1).all(|line| line.ends_with("up")), "{text}");
+    assert!(lines.iter().skip(1).all(|line| line.ends_with("-      up")), "{text}");
+    let compared = [Compared::Same, Compared::Differs, Compared::NotKnown];
+    let list = compared.map(|compared| Seen { compared, ..seen("a", "", true) });
+    let text = tree_text(&list);
+    let ends = ["same       up", "differ     up", "not known  up"];
+    assert!(text.lines().skip(1).zip(ends).all(|(line, end)| line.ends_with(end)), "{text}");
+    let lack = list.each_ref().map(|seen| lacks(seen, 5));
+    assert_eq!(lack[0], None);
+    assert_eq!(lack[1], Some("has other settings in its files"));
+    assert_eq!(lack[2], Some("has not said what its files are"));
 }
 
 fn seen(name: &str, parent: &str, connected: bool) -> Seen {
