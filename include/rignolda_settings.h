@@ -1,9 +1,9 @@
 /*
- * Rignolda: bodies of settings, as bytes that travel beside an item, and what a root publishes, for
- * agents of one's own.
+ * Rignolda: bodies of settings, as bytes that travel beside an item, which of them an agent takes
+ * and applies, and what a root publishes, for agents of one's own.
  *
- * Each call is proved: it reads and writes what the definitions of the crate rignolda_body say. The
- * rules for pointers and for several calls at once are those of rignolda.h, and none takes memory.
+ * Each call is proved: it does what the definitions of the crates rignolda_body, rignolda_agent and
+ * rignolda_root say. The rules for pointers and for several calls at once are those of rignolda.h, and none takes memory.
  * The calls are those of an archive of their own, librignolda_settings.a, which needs `memmove` of
  * a C library and nothing else.
  *
@@ -20,9 +20,15 @@
  *   - what_is_written_is_read: a head and then its entries, one after the other, are that body.
  *   - entries_are_read_in_turn: in a body that was checked, as many entries as its head says follow
  *     each other from the end of the head to the end of the bytes.
+ * Those of what an agent does with bodies, of the crate rignolda_agent:
+ *   - nothing_older_is_applied: while its floor is that of its files, the number that they are from
+ *     never falls.
+ *   - what_waits_lacks_nothing, a_newer_table_makes_the_files_right: what is applied is the root's.
+ *   - two_rounds_bring_the_roots_settings: from every bit pattern of a taker whose numbers are not
+ *     newer than the root's.
  * Those of what a root publishes, of the crate rignolda_root:
  *   - numbers_rise_by_one, a_round_ends, every_change_is_published: from every bit pattern of a
- *     publisher.
+ *     publisher, unless it is held.
  *   - what_does_not_wait_is_told: a table that was told every body is the root's, beside each key
  *     that does not wait.
  *   - merged_changes_tell_the_same: what waits tells a table the same as all bodies that came.
@@ -89,6 +95,49 @@ size_t rignolda_body_unset(uint8_t *buffer, size_t size, size_t at, const uint8_
                            size_t key_length);
 
 /*
+ * Numbers of bodies are serial numbers, as those of DNS are (RFC 1982): they go round, past 0, which
+ * is none and older than all. A number is newer than another one where it is less than half of them
+ * ahead of it.
+ */
+bool rignolda_number_is_newer(uint64_t than, uint64_t number);
+
+/* The number after this one. */
+uint64_t rignolda_number_next(uint64_t number);
+
+/* Of two numbers the one that is further ahead of `from`, or the first one. */
+uint64_t rignolda_number_further(uint64_t from, uint64_t number, uint64_t other);
+
+/* What an agent remembers of the numbers of bodies, to be made by rignolda_taker_init. */
+typedef struct rignolda_taker {
+    uint64_t number;    /* of the last body that was taken; 0 before the first */
+    uint64_t floor;     /* up to which its files are, or may be */
+    uint8_t whole;      /* not 0 where a table came, and nothing was left out since */
+    uint8_t in_a_round; /* not 0 after a harmless body, until a table comes */
+} rignolda_taker;
+
+/* What is to be done about a body that came: 1 for yes and 0 for no, in each. */
+typedef struct rignolda_taker_heard {
+    uint8_t taken;   /* what it says waits, merged with what waits; else nothing changes */
+    uint8_t drops;   /* what waited before it is dropped first */
+    uint8_t applied; /* what waits is applied now: the disk has the new floor before the files */
+    uint8_t fills;   /* it is a table that makes up for what was left out before it */
+    uint8_t looks;   /* it is a table with which all files are looked at */
+} rignolda_taker_heard;
+
+/*
+ * Makes what an agent remembers at the start of its process, where its disk has this floor, or 0
+ * where that is not known.
+ */
+void rignolda_taker_init(rignolda_taker *taker, uint64_t floor);
+
+/*
+ * A body came that begins with this byte and has this number: writes what is to be done about it.
+ * One that begins with no kind, or is not newer than the last one, changes nothing.
+ */
+void rignolda_taker_hears(rignolda_taker *taker, uint8_t kind, uint64_t number,
+                          rignolda_taker_heard *heard);
+
+/*
  * What a root remembers of what it published, to be made by rignolda_publisher_init. Its settings,
  * and the keys of changes that wait, are kept by the caller: each key once, in the order in which
  * the first change of it came. A body of changes has the first ones of these, each with its value
@@ -112,7 +161,10 @@ typedef struct rignolda_next_body {
     uint8_t kind;     /* 'C', 'T' or 'H', or 0 where nothing is to be published */
 } rignolda_next_body;
 
-/* Makes a publisher whose bodies have the numbers after this one. It begins with a whole table. */
+/*
+ * Makes a publisher whose bodies have the numbers after this one. It begins with a whole table,
+ * unless it is held.
+ */
 void rignolda_publisher_init(rignolda_publisher *publisher, uint64_t number);
 
 /*

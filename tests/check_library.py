@@ -115,6 +115,18 @@ class Library(Cases):
                    declared and sorted(declared) == sorted(compared),
                    str(set(declared) ^ set(compared)))
 
+    def declares_the_calls_of_settings(self):
+        """Whether the header of settings declares what its archive has, in C and in C++."""
+        header = self.include / "rignolda_settings.h"
+        names = ran("nm", "--extern-only", "--defined-only", "release/librignolda_settings.a")[1]
+        declared = re.findall(r"^\w+ (rignolda_\w+)\(", header.read_text(), re.M)
+        there = re.findall(r" T (\w+)$", names, re.M)
+        self.holds("the header of settings declares the calls of its archive",
+                   declared and sorted(declared) == sorted(there), str(set(declared) ^ set(there)))
+        for kind in ["c", "-std=c11", "-pedantic"], ["c++", "-std=c++11"]:
+            self.works(f"the header of settings in {kind[1][5:]}", clang()[0], *WARNED, "-nostdinc",
+                       "-isystem", "tests/library/bare", "-fsyntax-only", "-x", *kind, header)
+
     def by_python(self, *words):
         """What is tested without a compiler."""
         self.works("the checker of reports", "tests/library/try_check_report.py")
@@ -163,6 +175,7 @@ class Library(Cases):
         self.in_c("the kit, inline", "20000 1", 300, [*words, INLINE])
         self.in_both("the kit", "100000", [*words, self.archive])
         self.has_all_calls()
+        self.declares_the_calls_of_settings()
         self.works("the inline calls are those of the archive", "tools/inline_header.py", "--check")
         self.by_python("4", "2")
         for name, part in ("librignolda.a", ""), ("librignolda_settings.a", "-settings"):

@@ -133,7 +133,8 @@ def files_that_differ_are_seen():
         tree.root.tables["root"]["round"] = "500ms"
         tree.write("size", 1)
         tree.start()
-        sure(until(lambda: compared(tree) == {**all, "leaf": "same"}), compared(tree))
+        sure(tree.ready() and until(lambda: compared(tree) == {**all, "leaf": "same"}),
+             compared(tree))
         spoils.touch()
         number = tree.root.ask("publish", "colour", "blue")["sequence"]
         sure(until(lambda: leaf.files().get("colour") == b"glue"), leaf.files())

@@ -50,7 +50,7 @@ pub data ConnectionAct : Type 0 where
   -- an end accepts this connection, and leaves the one that it had
   sender_accepts : ℕ → ConnectionAct
   receiver_accepts : ℕ → ConnectionAct
-  -- an end leaves this connection: it closes it, or message_comes that it broke
+  -- an end leaves this connection: it closes it, or learns that it broke
   sender_leaves : ℕ → ConnectionAct
   receiver_leaves : ℕ → ConnectionAct
   -- an end is asked what to send, and sends it

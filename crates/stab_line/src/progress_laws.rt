@@ -70,8 +70,8 @@ pub fn an_exchange_of_registers_acknowledges_the_item()
         × (after.delivered ≡ with_taken (not (label == r.receiver.label)) r.delivered item) }
 {}
 
-/// Each pass over a path leaves one item less in its backlogs, all taken together, until none is
-/// left.
+/// Each pass over a path leaves at least one item less in its backlogs, all taken together, until
+/// none is left.
 pub fn each_pass_shortens_the_backlogs()
     ensures { (net : Network) (t : SessionTree) (above : ℕ) (path : List PathLink)
         → IsNetwork net → IsPath net.tree.parents above path → AllMaySend t path

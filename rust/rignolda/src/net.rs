@@ -73,7 +73,7 @@ impl Body {
 /// assert_eq!(rignolda::net::checksum(b"123456789"), 0xcbf4_3926);
 /// ```
 pub fn checksum(bytes: &[u8]) -> u32 {
-    crate::calls::checksum(bytes)
+    crate::settings::proved::checksum(bytes)
 }
 
 /// Whether this may be the name of an agent: letters, digits, `.`, `_` and `-`, and no dot or

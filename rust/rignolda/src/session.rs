@@ -110,6 +110,7 @@ impl<End> Session<End> {
     }
 
     /// Whether no number is left for a next connection.
+    #[cfg(feature = "net")]
     pub(crate) fn is_spent(&self) -> bool {
         self.raw.number == u64::MAX
     }

@@ -23,7 +23,6 @@
 //! assert!(table.takes(sequence, &meaning) && table.heard.applies);
 //! assert!(publisher.next(100).is_none());
 //! ```
-use crate::calls;
 use crate::net::{is_plain, Body, BODY_BYTES};
 use std::collections::BTreeMap;
 use std::sync::Arc;
@@ -34,19 +33,19 @@ mod depth;
 mod floor;
 #[cfg(unix)]
 mod folder;
-mod proved;
+pub(crate) mod proved;
 mod publisher;
 #[cfg(unix)]
 mod source;
 mod waiting;
 
-pub use crate::calls::Taker;
 pub use batch::Batch;
 pub use depth::{too_deep, TOO_DEEP};
 #[cfg(unix)]
 pub use floor::{read_floor, write_floor};
 #[cfg(unix)]
 pub use folder::{remove, Folder};
+pub use proved::Taker;
 pub use publisher::{Published, Publisher};
 #[cfg(unix)]
 pub use source::{no_key, read_folder, read_plain, too_many, write_folder, Faults, Found, Kept};
@@ -105,18 +104,18 @@ impl Body {
             Meaning::Harmless => &[],
         };
         let rest: usize = entries.iter().map(entry_bytes).sum();
-        let bytes = calls::body(meaning.kind(), sequence, entries, HEAD + rest);
+        let bytes = proved::body(meaning.kind(), sequence, entries, HEAD + rest);
         Arc::new(Body::of(bytes))
     }
 
     /// The sequence and what the body says, or nothing where it does not fit its item or says
     /// nothing that [`Body::new`] writes.
     pub fn meaning(&self) -> Option<(u64, Meaning<'_>)> {
-        let head = calls::body_head(self.item, &self.bytes)?;
+        let head = proved::body_head(self.item, &self.bytes)?;
         let mut entries = Vec::with_capacity(head.count as usize);
         let mut at = HEAD;
         for _ in 0..head.count {
-            let (entry, end) = calls::body_entry(&self.bytes, at)?;
+            let (entry, end) = proved::body_entry(&self.bytes, at)?;
             entries.push(entry);
             at = end;
         }
@@ -137,7 +136,7 @@ pub fn entry_bytes((key, value): &Entry<'_>) -> usize {
 /// Whether a body with this number is newer than one with that. Numbers go round, past 0, which is
 /// none and older than all: the newer one is less than half of them ahead.
 pub fn is_newer(number: u64, than: u64) -> bool {
-    calls::is_newer(than, number)
+    proved::is_newer(than, number)
 }
 
 /// The older one of two numbers; 0 is older than all.
@@ -151,7 +150,7 @@ pub fn older(one: u64, other: u64) -> u64 {
 
 /// Of these numbers the one that is furthest ahead of this one; itself where none is.
 pub fn furthest(number: u64, others: impl IntoIterator<Item = u64>) -> u64 {
-    let further = |one, other| calls::further(number, one, other);
+    let further = |one, other| proved::further(number, one, other);
     others.into_iter().fold(number, further)
 }
 
@@ -216,7 +215,7 @@ impl Table {
             return false;
         }
         self.heard = heard;
-        let is_gap = before != 0 && sequence != calls::next(before);
+        let is_gap = before != 0 && sequence != proved::next(before);
         self.gaps += u64::from(is_gap && !matches!(meaning, Meaning::Table(_)));
         match meaning {
             Meaning::Table(entries) => {

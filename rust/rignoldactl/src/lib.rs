@@ -74,7 +74,8 @@ pub struct Status {
     /// and the digest that they had when they were written, or looked at in a round.
     pub applies: bool,
     pub files: u64,
-    pub digest: String,
+    #[serde(with = "digits")]
+    pub digest: u64,
     /// The number that is furthest ahead, of its own, that of its files, and those below.
     pub ahead: u64,
     /// That of the last body which changed something.
@@ -157,7 +158,7 @@ impl Status {
             applied: self.applied,
             applies: self.applies,
             files: self.files,
-            digest: self.digest.clone(),
+            digest: self.digest,
             compared: Compared::Nothing,
             ahead: self.ahead,
             changed: self.changed,
@@ -193,7 +194,8 @@ pub struct Seen {
     /// digest; and, where the root shows it, whether that is the digest of what it published.
     pub applies: bool,
     pub files: u64,
-    pub digest: String,
+    #[serde(with = "digits")]
+    pub digest: u64,
     pub compared: Compared,
     /// The number that is furthest ahead, of its own, that of its files, and those below: the root
     /// goes on above it.
@@ -245,6 +247,20 @@ pub fn milliseconds(text: &str) -> Option<u64> {
         _ => return None,
     };
     text[..end].parse::<u64>().ok()?.checked_mul(unit)
+}
+
+/// A digest as 16 hexadecimal digits: as a number it would be too large for many readers of JSON.
+mod digits {
+    use serde::{de::Error, Deserialize, Deserializer, Serializer};
+
+    pub fn serialize<S: Serializer>(digest: &u64, to: S) -> Result<S::Ok, S::Error> {
+        to.collect_str(&format_args!("{digest:016x}"))
+    }
+
+    pub fn deserialize<'de, D: Deserializer<'de>>(from: D) -> Result<u64, D::Error> {
+        let text = std::borrow::Cow::<str>::deserialize(from)?;
+        u64::from_str_radix(&text, 16).map_err(D::Error::custom)
+    }
 }
 
 /// Bytes as hexadecimal digits.

@@ -3,7 +3,7 @@
 use crate::apply::{Applied, Applier, Outcome};
 use crate::config::{plain, Address, Config, Fault};
 use crate::control::{self, Asked, Server};
-use crate::digest::{self, Published};
+use crate::digest::Published;
 use crate::fact;
 use crate::journal;
 use crate::metrics;
@@ -617,7 +617,7 @@ impl Agent {
                 * u64::from(table.taker.is_whole()),
             applies: applier.is_some(),
             files: files.map_or(0, |(number, _)| number),
-            digest: files.map_or(String::new(), |(_, digest)| digest::text(digest)),
+            digest: files.map_or(0, |(_, digest)| digest),
             ahead: furthest(number, self.state.numbers()),
             changed: table.changed,
             round: table.round,

@@ -213,8 +213,8 @@ impl Applier {
         oldest.map_or(sequence, |oldest| older(sequence, oldest.saturating_sub(1)))
     }
 
-    /// The number up to which the files are what bodies said, where those up to `sequence` were handed
-    /// over, and the digest that they have: as they were written, or looked at in a round.
+    /// The number up to which the files are what bodies said, where those up to `sequence` were
+    /// handed over, and the digest that they have: as they were written, or looked at in a round.
     pub fn files(&self, sequence: u64) -> Option<(u64, u64)> {
         let state = self.shared.lock();
         let digest = state.digest.filter(|_| !state.holds)?;
@@ -342,7 +342,7 @@ fn keep_files(shared: &Shared) {
             }
             match (&mut digest, change.value.as_deref()) {
                 (Some(digest), _) if differs => see(digest, &folder, &key),
-                (Some(digest), Some(value)) if !had || !digest.has(&key) => digest.set(&key, value),
+                (Some(digest), Some(value)) if !had => digest.set(&key, Some(value)),
                 (Some(digest), None) => digest.unset(&key),
                 _ => (),
             }
@@ -379,9 +379,9 @@ fn say_others(folder: &Folder, before: &mut Vec<String>) {
 /// Takes up what the file of a key is now that it was written, or could not be.
 fn see(digest: &mut Digest, folder: &Folder, key: &str) {
     match read_plain(&folder.path().join(key), VALUE_BYTES) {
-        Ok(value) => digest.set(key, &value),
+        Ok(value) => digest.set(key, Some(&value)),
         Err(error) if error.kind() == io::ErrorKind::NotFound => digest.unset(key),
-        Err(_) => digest.cannot_read(key),
+        Err(_) => digest.set(key, None),
     }
 }
 

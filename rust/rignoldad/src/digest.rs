@@ -17,36 +17,19 @@ pub struct Digest {
     sum: u64,
 }
 
-/// The part of one setting; without a value, of a file that cannot be read.
-fn part(key: &str, value: Option<&[u8]>) -> u64 {
-    let mut sha = Sha256::new();
-    sha.update(&[key.len() as u8, value.is_some().into()]);
-    sha.update(key.as_bytes());
-    sha.update(value.unwrap_or(&[]));
-    let [a, b, c, d, e, f, g, h, ..] = sha.finish();
-    u64::from_be_bytes([a, b, c, d, e, f, g, h])
-}
-
 impl Digest {
     pub fn sum(&self) -> u64 {
         self.sum
     }
 
-    pub fn has(&self, key: &str) -> bool {
-        self.each.contains_key(key)
-    }
-
-    /// A setting has this value now.
-    pub fn set(&mut self, key: &str, value: &[u8]) {
-        self.put(key, part(key, Some(value)));
-    }
-
-    /// The file of a setting is there and cannot be read.
-    pub fn cannot_read(&mut self, key: &str) {
-        self.put(key, part(key, None));
-    }
-
-    fn put(&mut self, key: &str, part: u64) {
+    /// A setting has this value now; or none, where its file is there and cannot be read.
+    pub fn set(&mut self, key: &str, value: Option<&[u8]>) {
+        let mut sha = Sha256::new();
+        sha.update(&[key.len() as u8, value.is_some().into()]);
+        sha.update(key.as_bytes());
+        sha.update(value.unwrap_or(&[]));
+        let [a, b, c, d, e, f, g, h, ..] = sha.finish();
+        let part = u64::from_be_bytes([a, b, c, d, e, f, g, h]);
         let old = self.each.insert(key.into(), part).unwrap_or(0);
         self.sum = self.sum.wrapping_sub(old).wrapping_add(part);
     }
@@ -68,7 +51,7 @@ impl Digest {
         };
         for (key, value) in entries {
             match value {
-                Some(value) => self.set(key, value),
+                Some(_) => self.set(key, *value),
                 None => self.unset(key),
             }
         }
@@ -115,16 +98,11 @@ impl Published {
     pub fn compared(&self, seen: &Seen) -> Compared {
         match self.at(seen.files) {
             _ if !seen.applies => Compared::Nothing,
-            Some(digest) if text(digest) == seen.digest => Compared::Same,
+            Some(digest) if digest == seen.digest => Compared::Same,
             Some(_) => Compared::Differs,
             None => Compared::NotKnown,
         }
     }
-}
-
-/// A digest as it is shown.
-pub fn text(digest: u64) -> String {
-    format!("{digest:016x}")
 }
 
 #[cfg(test)]
@@ -132,24 +110,24 @@ mod tests {
     use super::*;
 
     fn seen(files: u64, digest: u64) -> Seen {
-        Seen { applies: true, files, digest: text(digest), ..Seen::default() }
+        Seen { applies: true, files, digest, ..Seen::default() }
     }
 
     /// Its value is of another program: `printf '\4\1pathup' | sha256sum`.
     #[test]
     fn one_setting() {
         let mut digest = Digest::default();
-        digest.set("path", b"up");
-        assert_eq!(text(digest.sum()), "36e4557cafcc3106");
+        digest.set("path", Some(b"up"));
+        assert_eq!(digest.sum(), 0x36e4_557c_afcc_3106);
     }
 
     #[test]
     fn the_same_settings_in_any_order() {
         let (mut one, mut other) = (Digest::default(), Digest::default());
-        one.set("a", b"1");
-        one.set("b", b"2");
-        for (key, value) in [("b", "0"), ("c", "3"), ("a", "1"), ("b", "2")] {
-            other.set(key, value.as_bytes());
+        one.set("a", Some(b"1"));
+        one.set("b", Some(b"2"));
+        for (key, value) in [("b", b"0"), ("c", b"3"), ("a", b"1"), ("b", b"2")] {
+            other.set(key, Some(value));
         }
         assert_ne!(one.sum(), other.sum());
         other.unset("c");
@@ -157,10 +135,10 @@ mod tests {
         assert_eq!(one.sum(), other.sum());
         // (no two are of one text)
         other.unset("b");
-        other.set("", b"b2");
+        other.set("", Some(b"b2"));
         assert_ne!(one.sum(), other.sum());
-        other.cannot_read("");
-        one.set("", b"");
+        other.set("", None);
+        one.set("", Some(b""));
         assert_ne!(one.sum(), other.sum());
     }
 
@@ -171,7 +149,7 @@ mod tests {
         let with = |value: &'static [u8]| Meaning::Changes(vec![("key", Some(value))]);
         let of = |value: &[u8]| {
             let mut digest = Digest::default();
-            digest.set("key", value);
+            digest.set("key", Some(value));
             digest.sum()
         };
         let (old, new) = (of(b"old"), of(b"new"));
@@ -198,13 +176,14 @@ mod tests {
     /// Whatever its memory holds, it is right after the next whole table.
     #[test]
     fn right_after_a_table() {
-        for since in [vec![], vec![(900, 1)], vec![(3, 0), (u64::MAX / 2, 7)], vec![(12, 9), (1, 2)]] {
+        let far = u64::MAX / 2;
+        for since in [vec![], vec![(900, 1)], vec![(3, 0), (far, 7)], vec![(12, 9), (1, 2)]] {
             let mut published = Published { number: 77, since: since.into(), ..Default::default() };
-            published.digest.put("none", 5);
+            published.digest.each.insert("none".into(), 5);
             published.digest.sum = 6;
             published.take(20, &Meaning::Table(vec![("key", Some(b"value"))]));
             let mut digest = Digest::default();
-            digest.set("key", b"value");
+            digest.set("key", Some(b"value"));
             assert_eq!(published.compared(&seen(20, digest.sum())), Compared::Same);
             assert_eq!(published.compared(&seen(20, 6)), Compared::Differs);
         }
