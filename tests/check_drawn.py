@@ -34,6 +34,7 @@ DRAWN = {
     "a_clean_round": "links/two_clean_rounds",
     "the_worst_start": "worst_start",
     "labels_enough": "links/why_two_labels_are_too_few",
+    "worst_start_of_capacity_two": "links/worst_start_of_capacity_two",
     "two_links": "trees/two_links_under_one_schedule",
 }
 # The run of the page that no job has: two labels are refused.
