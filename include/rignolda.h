@@ -500,10 +500,10 @@ RIGNOLDA_CALL bool rignolda_session_node_on_frame(rignolda_node *node, rignolda_
  *     have, one new connection and one exchange on it acknowledge the item that waits.
  *   - each_exchange_hands_on_an_item: from there on each exchange acknowledges one item more, and
  *     all are delivered in their order, but for the first if the receiver had its label already.
- *   - a_path_hands_on_everything_from_any_state: on a path that gets new connections, an exchange
- *     on each link, from the upper end down, leaves at least one item less in its backlogs, all
- *     taken together. So as many of these as there are items leave none, if nobody publishes
- *     meanwhile.
+ *   - a_path_hands_on_everything_from_any_state: on a path that gets new connections, and of which
+ *     no end is closed, an exchange on each link, from the upper end down, leaves at least one item
+ *     less in its backlogs, all taken together. So as many of these as there are items leave none,
+ *     if nobody publishes meanwhile.
  */
 
 /* ---- Words: a link in two places of a store ---- */
