@@ -7,7 +7,7 @@ Each draw is a tree with links of their own, items of which many may be equal, a
 received: strays, and then items that are published in its count, with some of the first ones
 missing. Every second one is spoiled: items are swapped, doubled, altered, left out or added, or two
 nodes have one another's list. `rignolda judge` has to print what tests/faults/logs.py says, and to
-refuse what is no log as docs/FORMATS.md says.
+refuse what is no log as man/rignolda.1 says.
 
 The program is the one of check_tables.py. The last line is 'N passed, M failed'.
 """

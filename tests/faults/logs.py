@@ -1,4 +1,4 @@
-"""A plain judge of logs, from its definition in docs/FORMATS.md: every number of strays and every
+"""A plain judge of logs, from its definition in man/rignolda.1: every number of strays and every
 last item is tried. It shares nothing with the program."""
 
 

@@ -1,4 +1,4 @@
-"""scenario.py: what `rignolda scenario` has to print, in plain Python, from docs/FORMATS.md and
+"""scenario.py: what `rignolda scenario` has to print, in plain Python, from man/rignolda.1 and
 from the rules of reference.py beside it, and random scenarios, for tests/check_scenarios.py.
 
 It is an independent program: nothing of it is made from the crates. It takes scenarios that are
