@@ -271,6 +271,7 @@ module _ (p : Parameters) (start : Start) (lawful_params : AreLawful p) (lawful 
       at : ℕ
       no_earlier : acked ≤ at
       no_later : at ≤ acked + 1
+      was_offered : at ≤ length middle.state.offered
       rise : RisesFrom (size + at) more_taken
       none_later : (v : ℕ) → size + at ≤ v → Contains kept_middle.taken v → ⊥
 
@@ -304,6 +305,10 @@ module _ (p : Parameters) (start : Start) (lawful_params : AreLawful p) (lawful 
                 at = acked + 1;
                 no_earlier = omega arith;
                 no_later = omega arith;
+                was_offered =
+                    (let delivery = kept_middle.kept.delivery in
+                    let in_list = delivery.in_list in
+                    omega (arith, member_is_below kept_middle.bound kept_middle.taken (size + acked) delivery.below there));
                 rise =
                     subst (λ n. RisesFrom n more_taken) one_more
                     (rises_after 0 (size + acked) kept_middle.taken more_taken whole_rise there);
@@ -316,6 +321,7 @@ module _ (p : Parameters) (start : Start) (lawful_params : AreLawful p) (lawful 
                 at = acked;
                 no_earlier = omega arith;
                 no_later = omega arith;
+                was_offered = (let offered = kept_middle.kept.sending.acked_were_offered in omega arith);
                 rise = low_rise;
                 none_later =
                     λ v high among.
@@ -378,6 +384,7 @@ module _ (p : Parameters) (start : Start) (lawful_params : AreLawful p) (lawful 
           from = begins.at;
           no_earlier = begins.no_earlier;
           no_later = begins.no_later;
+          was_offered = begins.was_offered;
           in_order =
               subst (λ xs. IsPrefix xs (drop begins.at offered)) (sym delivered_later)
               (subst (λ xs. IsPrefix (map (item_at start offered) more_taken) xs) (drop-past (start_items start) offered begins.at) in_order);
@@ -420,6 +427,7 @@ passes_on_shifted o d m t on =
       from = length o + on.from;
       no_earlier = omega arith;
       no_later = omega arith;
+      was_offered = omega (arith, on.was_offered, length-append o m.offered);
       in_order =
           subst (λ xs. IsPrefix xs (drop (length o + on.from) (o ++ t.offered))) (sym since)
           (subst (λ ys. IsPrefix (delivered_since m t) ys) (sym (drop-past o t.offered on.from)) on.in_order);

@@ -48,5 +48,6 @@ pub record PassesOn (s t : LinkState) : Type 0 where
   pub from : ℕ
   pub no_earlier : s.acked ≤ from
   pub no_later : from ≤ s.acked + 1
+  pub was_offered : from ≤ length s.offered
   pub in_order : IsPrefix (delivered_since s t) (drop from t.offered)
   pub none_missing : t.acked ≤ from + length (delivered_since s t)

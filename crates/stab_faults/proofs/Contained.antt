@@ -21,7 +21,7 @@ use Rattle.stab_faults.proofs.NodesSince.{has_link, root_alone}
 use Rattle.stab_faults.proofs.Kept.{Since, gained_is, path_up, since_at_first, untouched_since, Untouched}
 
 -- from a place behind a front on, a list with another front of the same length is the same
-dropped_behind : (xs ys : List ℕ) (n : ℕ) → length xs ≤ n → length xs ≤ length ys → drop n (xs ++ drop (length xs) ys) ≡ drop n ys
+pub dropped_behind : (xs ys : List ℕ) (n : ℕ) → length xs ≤ n → length xs ≤ length ys → drop n (xs ++ drop (length xs) ys) ≡ drop n ys
 dropped_behind [] ys n late long = refl
 dropped_behind (x ∷ xs) [] n late long = absurd (omega arith)
 dropped_behind (x ∷ xs) (y ∷ ys) zero late long = absurd (omega arith)
@@ -131,6 +131,7 @@ contained exactly tree s before after w parent is is_child first second many =
     let one_waits = bounded.one_waits_at_most in
     let no_earlier = on.no_earlier in
     let no_later = on.no_later in
+    let was_offered = on.was_offered in
     let none_missing = on.none_missing in
     let gained_here : gained m t w ≡ delivered_since state end = gained_is m t (λ v. v ≡ w) _ from_middle w middle refl ran.now went in
     let dropped : drop on.from (link.state.offered ++ drop n list) ≡ drop on.from list =
@@ -139,6 +140,7 @@ contained exactly tree s before after w parent is is_child first second many =
       from = on.from;
       no_earlier = omega arith;
       no_later = omega arith;
+      in_list = omega arith;
       in_order =
           subst (λ xs. IsPrefix xs (drop on.from list)) (sym gained_here)
           (prefix_of_prefix (delivered_since state end) (drop on.from end.offered) (drop on.from list) on.in_order

@@ -72,5 +72,6 @@ pub record PassesList (m t : WholeTree) (w parent : ℕ) : Type 0 where
   pub from : ℕ
   pub no_earlier : acked_at m w ≤ from
   pub no_later : from ≤ acked_at m w + 1
+  pub in_list : from ≤ length (received m parent)
   pub in_order : IsPrefix (gained m t w) (drop from (received t parent))
   pub none_missing : acked_at t w ≤ from + length (gained m t w)
