@@ -4,8 +4,8 @@
 //! They take the tree law of a node with any bounds, be it from the start or since a fault. The
 //! tables that the root and the node had before the first item may be any ones, and need not agree.
 
-ghost use Rattle.std.specs.Prelude.{ℕ, ◌≤◌, List, take};
-ghost use Rattle.stab_settings.specs.Refreshes.{IsRefresh, SameBeside, reached};
+ghost use Rattle.std.specs.Prelude.{ℕ, ◌+◌, ◌≤◌, List, ◌++◌, length, take, Contains};
+ghost use Rattle.stab_settings.specs.Refreshes.{IsRefresh, IsSetBetween, SameBeside, reached};
 ghost use Rattle.stab_settings.specs.Tables.{Reading, Table, apply_items};
 ghost use Rattle.stab_treecore.specs.TreeLaw.{CompleteLaw, HalfTreeLawAt, TreeLaw};
 
@@ -26,13 +26,22 @@ pub fn refreshed_tables_are_the_publishers()
 
 /// Complete tables are the publisher's: where no published item is missing but for the first ones,
 /// as once everything was handed on, one refresh after these is enough for the table that the root
-/// has now.
+/// has now. They stay the same as long as both go on with the same items.
 pub fn complete_tables_are_the_publishers()
     ensures { (reading : Reading) (keys : List ℕ) (most_strays most_missing first after : ℕ)
-        (garbage published received : List ℕ) (at_root at_node : Table)
+        (garbage published received later : List ℕ) (at_root at_node : Table)
         → CompleteLaw most_strays most_missing garbage published received
         → IsRefresh reading keys published first after
         → most_missing ≤ first
-        → SameBeside keys (apply_items reading at_node received)
-        (apply_items reading at_root published) }
+        → SameBeside keys (apply_items reading at_node (received ++ later))
+        (apply_items reading at_root (published ++ later)) }
+{}
+
+/// A table that is published item by item, or in one item, is a refresh, whatever is published
+/// before and after it.
+pub fn a_table_is_a_refresh()
+    ensures { (reading : Reading) (keys before table rest : List ℕ)
+        → ((key : ℕ) → Contains keys key → IsSetBetween reading table 0 (length table) key)
+        → IsRefresh reading keys (before ++ (table ++ rest))
+        (length before) (length before + length table) }
 {}

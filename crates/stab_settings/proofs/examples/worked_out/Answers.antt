@@ -1,6 +1,6 @@
-use Rattle.std.proofs.Common.{◌≡◌, ◌⊎◌, ◌<◌, ◌≤◌, ℕ, zero, suc, slice_index, List, [], ◌∷◌, Some, Contains, refl, ap, sym, ◌∙◌, inl, inr, subst, arith}
-use Rattle.stab_settings.specs.Refreshes.{IsRefresh, IsSetBetween, Sets}
-use Rattle.stab_settings.specs.Tables.{Reading, Setting}
+use Rattle.std.proofs.Common.{◌≡◌, ◌⊎◌, ◌<◌, ◌≤◌, ℕ, zero, suc, slice_index, [], ◌∷◌, Some, Contains, refl, ap, ◌∙◌, inl, inr, subst, arith}
+use Rattle.stab_settings.specs.Refreshes.{IsSetBetween, Sets}
+use Rattle.stab_settings.specs.Tables.{Reading}
 use Rattle.stab_settings.proofs.examples.worked_out.Goals as goal
 
 -- a member of two keys is one of them
