@@ -1,11 +1,11 @@
 -- Once more than M items are published in a node's count, and all is handed on, each link of its
 -- path has acknowledged 2c + 2 of them.
-use Rattle.std.proofs.Common.{◌≡◌, ℕ, zero, suc, ◌+◌, ◌-◌, ◌*◌, ◌<◌, ◌≤◌, List, [], ◌++◌, length, map, slice_index, Some, None, refl, ap, sym, ◌∙◌, subst, inl, inr, arith}
+use Rattle.std.proofs.Common.{◌≡◌, ℕ, zero, suc, ◌+◌, ◌-◌, ◌*◌, ◌<◌, ◌≤◌, List, [], ◌++◌, length, slice_index, Some, None, refl, ap, sym, ◌∙◌, subst, inl, inr, arith}
 use Rattle.std.specs.Option.{option_map_or}
-use Rattle.std.specs.Prelude.{Contains}
 use Rattle.std.proofs.lemmas.Bool.{cases_lt}
 use Rattle.std.proofs.lemmas.List.{length-append, length-map}
 use Rattle.std.proofs.lemmas.Option.{none-some, same_Some}
+use Rattle.stab_core.specs.Link.{LinkValue}
 use Rattle.stab_core.specs.LinkLaw.{LinkLaw, NoneMissingFrom}
 use Rattle.stab_core.specs.Picks.{RisesFrom}
 use Rattle.stab_core.proofs.ForCallers.{member_is_at}
@@ -26,6 +26,8 @@ use Rattle.stab_faults.proofs.Kept.{none_or_some, OnPath, path_up}
 use Rattle.stab_faults.proofs.NodesSince.{complete_since, feed_counts, since_spared}
 use Rattle.stab_faults.proofs.Obeying.{ObeysSince}
 use Rattle.stab_faults.proofs.Beneath.{spare_up}
+use Rattle.stab_convergence.specs.Converged.{HasConverged}
+use Rattle.stab_convergence.specs.Exact.{IsPathClean}
 use Rattle.stab_convergence.proofs.Lags.{path_below}
 
 -- where none below `bound` is missing but among the first `first` ones, there are at least
@@ -190,3 +192,17 @@ module _ (obey : ObeysSince LinkLaw) (tree : Nodes) (s : WholeTree) (changes : L
       → acked_at s w + 2 * capacity_at s w + 2 ≤ acked_at t w
   path_is_clean node is_node spare all many w parent on is_child =
       clean_up on.0 node w parent (record { is_node = is_node; spare = spare; all = all; many = many }) on.1 is_child
+
+-- so each link of the path of a node that has come back
+pub clean_by_then : ObeysSince LinkLaw → (tree : Nodes) (s : WholeTree) (changes : List Change) (node : ℕ) → IsState tree s
+    → node < length s.parents → Spare s.parents node changes → let t = changes_replay s changes in
+    HasConverged s t node → missing_since (moment s) node < length (published_since (moment s) (gained s t) node) → IsPathClean s t node
+clean_by_then obey tree s changes node is is_node spare converged many =
+    let t = changes_replay s changes in
+    let same : t.parents ≡ s.parents = (since_spared tree s changes node is is_node spare).parents_stay in
+    path_is_clean obey tree s changes is node is_node spare
+    (λ w parent on is_child.
+    let (link, there, all, empty) =
+    converged.handed_on w parent (subst (λ ps. Reaches ps node w) (sym same) on) (ap (λ ps. parent_at ps w) same ∙ is_child) in
+    ap (λ o. option_map_or (λ (l : LinkValue). l.state.acked) o 0) there ∙ all)
+    many

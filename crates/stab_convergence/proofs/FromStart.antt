@@ -1,6 +1,6 @@
 -- From the start of a network on, as many reading rounds of a node's path as are counted from its
 -- bounds are enough.
-use Rattle.std.proofs.Common.{◌≡◌, ℕ, zero, suc, ◌+◌, ◌<◌, ◌≤◌, List, [], ◌∷◌, ◌++◌, length, map, get_or, Option, Some, None, option_map, refl, ap, sym, ◌∙◌, subst, length-append, arith}
+use Rattle.std.proofs.Common.{◌≡◌, ℕ, zero, suc, ◌+◌, ◌<◌, ◌≤◌, List, [], ◌∷◌, ◌++◌, length, map, get_or, Option, Some, None, option_map, refl, ap, sym, ◌∙◌, length-append, arith}
 use Rattle.std.specs.Option.{option_map_or}
 use Rattle.stab_core.specs.Link.{LinkValue, link_at}
 use Rattle.stab_core.specs.LinkLaw.{LinkLaw}
@@ -12,23 +12,23 @@ use Rattle.stab_tree.specs.Nodes.{parent_at, root_of}
 use Rattle.stab_tree.specs.Steps.{depth_of}
 use Rattle.stab_tree.proofs.ForCallers.{child_is_node, holds_at_every_depth, map-by_child, one_by_child, openings_fit}
 use Rattle.stab_treecore.specs.Network.{IsNetwork, Network, setup_into}
-use Rattle.stab_treecore.specs.NodeLaws.{capacity_into, held_bound, most_strays, strays_bound}
+use Rattle.stab_treecore.specs.NodeLaws.{capacity_into}
 use Rattle.stab_treecore.specs.Paths.{path_sum, sum_above}
 use Rattle.stab_treecore.specs.TreeReplay.{initial_tree, opened}
-use Rattle.stab_treecore.specs.WholeTree.{WholeTree, link_into, received}
+use Rattle.stab_treecore.specs.WholeTree.{WholeTree, received}
 use Rattle.stab_treecore.proofs.ForChanges.{opening_is_run}
 use Rattle.stab_faults.specs.declared.change.Change.{Change}
 use Rattle.stab_faults.specs.Changes.{changes_replay}
 use Rattle.stab_faults.specs.Hits.{Spare}
 use Rattle.stab_faults.specs.Since.{IsState, backlog, capacity_at, moment}
-use Rattle.stab_faults.proofs.Obeying.{ObeysSince}
+use Rattle.stab_faults.proofs.Obeying.{ObeysSince, PassesOnExactly}
 use Rattle.stab_faults.proofs.States.{opening_fed}
 use Rattle.stab_rounds.proofs.TreeSteps.{At, fixed_of, IsSound, known, linked, of_link, root_has, run_is_sound}
 use Rattle.stab_rounds.specs.TreeReadingRounds.{reading_rounds_below}
 use Rattle.stab_convergence.specs.Arrival.{arrival_reading_rounds}
-use Rattle.stab_convergence.specs.Converged.{HasConverged}
-use Rattle.stab_convergence.specs.PathRounds.{IsPathOpen, PathRounds, PublishesNothing, rounds_since}
-use Rattle.stab_convergence.proofs.Converges.{converges}
+use Rattle.stab_convergence.specs.Meanwhile.{HasAllBefore}
+use Rattle.stab_convergence.specs.PathRounds.{IsPathOpen, PathRounds, rounds_since}
+use Rattle.stab_convergence.proofs.Meanwhile.{has_all_before}
 use Rattle.stab_convergence.proofs.Lags.{backlog_counts, path_below}
 
 module _ (net : Network) (is : IsNetwork net) where
@@ -121,10 +121,11 @@ module _ (net : Network) (is : IsNetwork net) where
       ap (λ o. option_map_or (reading_rounds_below net) o 0) is_child in
       omega (arith, few_at parent is_node, paid_at parent is_node, counts, since, arrives, path_below net.tree s is_state had node parent is_child)
 
-  pub from_start : ObeysSince LinkLaw → (changes : List Change) (rounds node parent : ℕ) → parent_at net.tree.parents node ≡ Some parent
-      → Spare net.tree.parents node changes → PublishesNothing changes → let t = changes_replay (initial_tree net) changes in
-      IsPathOpen t node → PathRounds (initial_tree net) node rounds changes → arrival_reading_rounds net node ≤ rounds
-      → HasConverged (initial_tree net) t node
-  from_start obey changes rounds node parent is_child spare nothing is_open are_rounds many =
-      converges obey net.tree s [] changes rounds node is_state (child_is_node parents node parent is_child) spare is_state nothing is_open are_rounds
-      (omega (arith, many, enough node parent is_child))
+  pub from_start : ObeysSince LinkLaw → PassesOnExactly → (changes later : List Change) (rounds node parent : ℕ)
+      → parent_at net.tree.parents node ≡ Some parent → Spare net.tree.parents node (changes ++ later)
+      → IsPathOpen (changes_replay (initial_tree net) changes) node → PathRounds (initial_tree net) node rounds changes
+      → arrival_reading_rounds net node ≤ rounds
+      → HasAllBefore (initial_tree net) (initial_tree net) (changes_replay (initial_tree net) (changes ++ later)) node
+  from_start obey exactly changes later rounds node parent is_child spare is_open are_rounds many =
+      has_all_before obey exactly net.tree s [] changes later node is_state (child_is_node parents node parent is_child) spare is_state rounds is_open
+      are_rounds (omega (arith, many, enough node parent is_child))

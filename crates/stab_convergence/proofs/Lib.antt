@@ -1,11 +1,13 @@
-pub mod Alike
 pub mod Lags
+pub mod Acts
 pub mod Converges
-pub mod Ready
 pub mod Exactly
 pub mod Played
 pub mod Settled
 pub mod Beneath
 pub mod Clean
-pub mod ForGood
 pub mod FromStart
+pub mod Follows
+pub mod Ahead
+pub mod Meanwhile
+pub mod Onwards

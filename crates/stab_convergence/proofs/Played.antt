@@ -1,12 +1,10 @@
 -- Reading rounds that are made after changes of a network: they are such rounds of every path, so
 -- every node comes back.
-use Rattle.std.proofs.Common.{◌≡◌, ℕ, zero, suc, ◌<◌, ◌≤◌, List, [], ◌∷◌, ◌++◌, length, map, Option, refl, ap, sym, subst}
+use Rattle.std.proofs.Common.{◌≡◌, ℕ, zero, suc, ◌<◌, ◌≤◌, List, [], ◌++◌, length, ap, sym, subst}
 use Rattle.std.proofs.lemmas.List.{map-append}
 use Rattle.stab_core.specs.LinkLaw.{LinkLaw}
-use Rattle.stab_treecore.specs.declared.event.TreeEvent.{TreeEvent}
 use Rattle.stab_treecore.specs.Network.{IsNetwork, Network}
 use Rattle.stab_treecore.specs.TreeReplay.{initial_tree, tree_replay}
-use Rattle.stab_treecore.specs.TreeStep.{tree_step}
 use Rattle.stab_treecore.specs.WholeTree.{WholeTree}
 use Rattle.stab_faults.specs.declared.change.Change.{Change}
 use Rattle.stab_faults.specs.declared.change.Change.TheVariants.{Act}
@@ -22,34 +20,10 @@ use Rattle.stab_rounds.specs.TreeRounds.{acts_on, IsOpen}
 use Rattle.stab_rounds.specs.TreePlayed.{play_reads, reading_round_from}
 use Rattle.stab_rounds.proofs.Plays.{no_close_keeps}
 use Rattle.stab_rounds.proofs.PlaysReads.{reads_close_nothing, reads_of_each}
-use Rattle.stab_convergence.specs.PathRounds.{acts_among, PathRounds, PublishesNothing, rounds_since}
+use Rattle.stab_convergence.specs.PathRounds.{acts_among, PathRounds, rounds_since}
 use Rattle.stab_convergence.specs.Converged.{HasConverged}
+use Rattle.stab_convergence.proofs.Acts.{acts_again, as_changes}
 use Rattle.stab_convergence.proofs.Converges.{converges}
-
--- acts alone, as changes
-abbrev as_changes : List TreeEvent → List Change
-as_changes es = map Act es
-
-acts_again : (es : List TreeEvent) → acts_among (as_changes es) ≡ es
-acts_again [] = refl
-acts_again (e ∷ es) = ap (λ more. e ∷ more) (acts_again es)
-
-acts_publish_nothing : (es : List TreeEvent) → PublishesNothing (as_changes es)
-acts_publish_nothing [] = tt
-acts_publish_nothing (e ∷ es) = acts_publish_nothing es
-
-acts_spare : (parents : List (Option ℕ)) (node : ℕ) (es : List TreeEvent) → Spare parents node (as_changes es)
-acts_spare parents node [] = tt
-acts_spare parents node (e ∷ es) = ((λ hit. hit), acts_spare parents node es)
-
-acts_replayed : (t : WholeTree) (es : List TreeEvent) → changes_replay t (as_changes es) ≡ tree_replay t es
-acts_replayed t [] = refl
-acts_replayed t (e ∷ es) = acts_replayed (tree_step t e) es
-
-spare_both : (parents : List (Option ℕ)) (node : ℕ) (before after : List Change) → Spare parents node before → Spare parents node after
-    → Spare parents node (before ++ after)
-spare_both parents node [] after first second = second
-spare_both parents node (change ∷ changes) after first second = (first.0, spare_both parents node changes after first.1 second)
 
 -- the rounds that are made are rounds of the path
 made_rounds : (m : WholeTree) (node c : ℕ) (rounds : ℕ) → ((w : ℕ) → capacity_at m w ≤ c)
@@ -79,9 +53,8 @@ rounds_converge obey net before after capacity rounds node is fit is_node spare 
     let first : IsState net.tree s = (schedule_state net before is (fit_front t before after fit)).is_state in
     let later : IsState net.tree m =
     subst (λ u. IsState net.tree u) (changes-append t before after) (schedule_state net (before ++ after) is fit).is_state in
-    let done : changes_replay m (as_changes es) ≡ tree_replay m es = acts_replayed m es in
+    let done : tree_replay m (acts_among (as_changes es)) ≡ tree_replay m es = ap (tree_replay m) (acts_again es) in
     let opened : IsOpen (tree_replay m es) = no_close_keeps m es (reads_close_nothing capacity m.parents rounds) is_open in
     subst (λ u. HasConverged s u node) done
-    (converges obey net.tree s after (as_changes es) rounds node first is_node
-    (spare_both s.parents node after (as_changes es) spare (acts_spare s.parents node es)) later (acts_publish_nothing es)
+    (converges obey net.tree s after (as_changes es) [] rounds node first is_node spare later
     (λ w link on there. subst (λ u. IsOpen u) (sym done) opened w link there) (made_rounds m node capacity rounds small) enough)

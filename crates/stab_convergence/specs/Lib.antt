@@ -3,3 +3,4 @@ pub mod Converged
 pub mod Arrival
 pub mod Exact
 pub mod Greatest
+pub mod Meanwhile

@@ -27,14 +27,6 @@ acts_among (Publish items ∷ changes) = acts_among changes
 acts_among (Strike child start ∷ changes) = acts_among changes
 acts_among (Restart node list ∷ changes) = acts_among changes
 
--- nothing is published
-abbrev pub PublishesNothing : List Change → Type 0
-PublishesNothing [] = Unit {0}
-PublishesNothing (Act e ∷ changes) = PublishesNothing changes
-PublishesNothing (Publish items ∷ changes) = ⊥
-PublishesNothing (Strike child start ∷ changes) = PublishesNothing changes
-PublishesNothing (Restart node list ∷ changes) = PublishesNothing changes
-
 -- each link of the node's path completes a reading round
 abbrev pub IsPathRound : WholeTree → ℕ → List Change → Type 0
 IsPathRound s node part =

@@ -150,7 +150,7 @@ replay_append t (x ∷ xs) ys = replay_append (tree_step t x) xs ys
 
 -- ---- what is known of each link of a run
 
-replay_within : (p : Parameters) (s : LinkState) (es : List Event) → IsWithin p s → IsWithin p (replay p s es)
+pub replay_within : (p : Parameters) (s : LinkState) (es : List Event) → IsWithin p s → IsWithin p (replay p s es)
 replay_within p s [] within = within
 replay_within p s (e ∷ es) within = replay_within p (step p s e) es (within_step p s e within)
 
