@@ -140,6 +140,9 @@ for missing, last in ("release.sh", "349 passed, 1 failed"), (
     pages_and_release()
 run()
 holds("another word is refused", run_gate("--other").status == 2)
+holds("--help prints what the words of the gate do, and nothing runs", run_gate("--help").out ==
+      re.search('^"""(.*?)"""', (TOP / "gate").read_text(), re.S | re.M)[1] and ended(0, "as well, "
+      "and Linux.") and not house.ended.err)
 
 # While the first part goes on, others begin: at first none, then those that need nothing of it,
 # and the planted bugs of a crate over crates that are proved; after it what runs that it has built.

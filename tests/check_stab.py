@@ -162,6 +162,11 @@ holds("which gets what rt has left, and the libraries of the kit", re.search(
 holds("and its folder is gone as well", place_is_gone())
 gave(stab(), "the second use builds nothing", "stab_cli; ; in")
 holds("and says nothing", not house.ended.err)
+for word in "--help", "-h":
+    gave(stab(word), f"of stab, which refuses help, it says where that is ({word})",
+         f"stab_cli; {word}; in", 0, f"help is in its manual: man '{top}/man/stab.1'\n")
+gave(stab("link", "--help"), "and only where nothing else is asked", "stab_cli; link --help; in")
+holds("where it says nothing", not house.ended.err)
 for file in top.rglob("*.rt"):
     os.utime(file)
 gave(stab(), "new times of the same sources build nothing", "stab_cli; ; in")
