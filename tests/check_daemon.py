@@ -68,6 +68,7 @@ def main():
             cases.works("the tests of the library for Rust", "cargo", "test", *OFFLINE, *LIBRARY,
                         *APART)
         cases.works("each planted bug fits", "tests/daemon/planted.py", "--fits")
+        cases.works("the demonstration goes as it says", "tests/daemon/demo")
         for script in "check_judge.py", "check.py", "check_validators.py":
             said = ran(f"tests/daemon/{script}")[1]
             print(said, end="", flush=True)
