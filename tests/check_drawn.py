@@ -2,7 +2,8 @@
 """Compares the drawn runs of this repository with those that `rignolda draw` prints.
 
     tests/check_drawn.py            compares the files NAME.run of the examples, the drawn runs of
-                                    docs/PROTOCOL.md, and the pictures of docs/pictures
+                                    docs/PROTOCOL.md, the pictures of docs/pictures, and what the
+                                    README says that ./rignolda and ./stab print
     tests/check_drawn.py --write    writes these pictures anew
 
 A file NAME.run has the words of the printed run of NAME.json, whatever the spaces between them. A
@@ -10,9 +11,10 @@ drawn run of the page is that of the example that is cited last before it. Its c
 cells of the printed run say. Its marks say what the printed run lets one see: v, ^ and x that an
 entry was received or lost, and * what comes from the start, or is a copy of a label from there.
 
-The program is the one that ./rignolda starts. Where none was released or built of these sources, it
-is the one that the gate has left in crates/rignolda/out; PROGRAM_RIGNOLDA in the environment names
-another. The last line is 'N passed, M failed'.
+The programs are those that ./rignolda and ./stab start. Where none was released or built of these
+sources, it is the one that the gate has left in crates/rignolda/out or crates/stab_cli/out;
+PROGRAM_RIGNOLDA and PROGRAM_STAB in the environment name others. The last line is
+'N passed, M failed'.
 """
 
 import json
@@ -25,6 +27,7 @@ TOP = Path(__file__).resolve().parent.parent
 sys.path.insert(0, str(TOP / "tools"))
 
 from programs import counted, run_with
+from tree_picture import drawn
 
 DATA = TOP / "crates/gate_checks/data"
 PAGE = TOP / "docs/PROTOCOL.md"
@@ -37,17 +40,29 @@ DRAWN = {
     "worst_start_of_capacity_two": "links/worst_start_of_capacity_two",
     "two_links": "trees/two_links_under_one_schedule",
 }
+# The picture of a tree, which tools/tree_picture.py draws of what `rignolda scenario` prints.
+TREES = {"seven_machines": "scenarios/seven_machines"}
 # The run of the page that no job has: two labels are refused.
 WITHOUT_JOB = ["What goes wrong with two labels"]
 
 
-def draw(drawer, name, *words):
+def draw(drawer, name, *words, command="draw"):
     """What the program draws of an example, or None and what it said."""
     job = DATA / (name + ".json")
-    done = subprocess.run([drawer, "draw", *words, job], capture_output=True, text=True)
+    done = subprocess.run([drawer, command, *words, job], capture_output=True, text=True)
     if done.returncode == 0:
         return done.stdout, None
     return None, done.stderr.strip() or f"status {done.returncode}"
+
+
+def pictures(drawer):
+    """Each picture: its name, and its text, or None and what the program said."""
+    for name, example in DRAWN.items():
+        yield name, *draw(drawer, example, "--svg")
+    for name, example in TREES.items():
+        text, said = draw(drawer, example, command="scenario")
+        job = json.loads((DATA / (example + ".json")).read_text())
+        yield name, text and drawn(job, text), said
 
 
 def words_of(text):
@@ -198,10 +213,41 @@ def compare_block(drawer, example, lines):
     return None
 
 
+# ---- what the README says that commands print
+
+
+def commands():
+    """The commands of the README's blocks of code: each its line, its words without a comment, and
+    the lines that follow it up to the next one, as what it prints."""
+    found, code = [], False
+    for number, line in enumerate((TOP / "README.md").read_text().splitlines(), 1):
+        if line.startswith("```"):
+            code = not code
+        elif code and line.startswith("$ "):
+            found.append((number, line[2:].partition(" # ")[0].strip(), []))
+        elif code and found:
+            found[-1][2].append(line)
+    return found
+
+
+def compare_command(files, words, lines):
+    """What is wrong with what a command is said to print, or None; `...` is for any lines. Of other
+    commands than ./rignolda and ./stab only the file is looked for."""
+    name, _, rest = words.partition(" ")
+    if name not in files:
+        return None if (TOP / name).is_file() else f"there is no {name}"
+    # (the file comes as a word, since its path may have spaces)
+    done = subprocess.run(["bash", "-c", f'"$0" {rest}', files[name]], cwd=TOP,
+                          capture_output=True, text=True)
+    wanted = "".join(
+        r"(?:.*\n)*?" if line == "..." else re.escape(f"{line}\n") for line in lines)
+    return None if re.fullmatch(wanted, done.stdout) else f"it prints:\n{done.stdout}{done.stderr}"
+
+
 # ---- all of it
 
 
-def check(drawer):
+def check(drawer, replayer):
     """Compares everything: the name of each, and what is wrong, or None."""
     for path in sorted(DATA.glob("**/*.run")):
         name = str(path.relative_to(DATA).with_suffix(""))
@@ -213,35 +259,37 @@ def check(drawer):
             yield f"docs/PROTOCOL.md:{line}, {example}", compare_block(drawer, example, lines)
         elif heading not in WITHOUT_JOB:
             yield f"docs/PROTOCOL.md:{line}", "no example is cited before this run"
-    for name, example in DRAWN.items():
+    for name, text, said in pictures(drawer):
         path = PICTURES / (name + ".svg")
-        text, said = draw(drawer, example, "--svg")
         same = text is not None and path.is_file() and path.read_text() == text
         fault = None if same else said or "tests/check_drawn.py --write draws it anew"
         yield f"docs/pictures/{name}.svg", fault
-    unknown = sorted(path.name for path in PICTURES.glob("*") if path.stem not in DRAWN)
+    known = {**DRAWN, **TREES}
+    unknown = sorted(path.name for path in PICTURES.glob("*") if path.stem not in known)
     yield "docs/pictures has no other files", ", ".join(unknown) or None
+    files = {"./rignolda": drawer, "./stab": replayer}
+    for number, words, lines in commands():
+        yield f"README.md:{number}, {words}", compare_command(files, words, lines)
 
 
 def write(drawer):
     """Writes the pictures."""
     PICTURES.mkdir(exist_ok=True)
-    for name, example in DRAWN.items():
-        text, said = draw(drawer, example, "--svg")
+    for name, text, said in pictures(drawer):
         if text is None:
             sys.exit(f"{name}: {said}")
         (PICTURES / (name + ".svg")).write_text(text)
 
 
-def main(drawer):
+def main(drawer, replayer):
     if sys.argv[1:]:
         write(drawer)
         return 0
     print(f"drawn: by {drawer}; where the sources are newer, run ./release.sh first")
-    return counted(check(drawer))
+    return counted(check(drawer, replayer))
 
 
 if __name__ == "__main__":
     if sys.argv[1:] not in ([], ["--write"]):
         sys.exit("tests/check_drawn.py takes --write, or no words at all")
-    sys.exit(run_with(main, "rignolda"))
+    sys.exit(run_with(main, "rignolda", "stab"))
