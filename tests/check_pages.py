@@ -189,6 +189,12 @@ for name, line, fault in (
          "no heading docs/LAYERS.md#high")):
     make_house({"README.md": f"{README}{line}\n"})
     pages(name, 1, f"README.md:10: {fault}")
+make_house({"README.md": f"{README}{'word ' * 884}\n"})
+pages("a README that is too long is found", 1, "README.md:0: it has 901 words, and may have 900")
+make_house({"README.md": f"{README}By kit-1.\n", "release/MANIFEST": "kit kit-1\nstab sha256\n"})
+pages("it names the kit of the release", 2)
+make_house({"README.md": f"{README}By kit-1.\n", "release/MANIFEST": "kit kit-2\nstab sha256\n"})
+pages("and no other", 1, "README.md:0: it does not name the kit of release/MANIFEST: kit-2")
 
 # What the proof has to say of functions that may be refused.
 WHY, STAYS = "**No clause says why**", "**No clause says what a refusal leaves**"

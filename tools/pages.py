@@ -13,7 +13,8 @@ function has no clause, or none but `⊤`, which says nothing, the page says tha
 
 The check sees that in every page of the repository each link leads to a file and a heading that
 exist. In the pages that speak of these sources each clause that is cited must exist, and so must
-each file and each name that is in backticks. And docs/PROOF.md must name those public functions of
+each file and each name that is in backticks. The README may have 900 words beside its code, and has
+to name the kit that made the release. And docs/PROOF.md must name those public functions of
 which no clause says what it says of all others, in sentences that begin a paragraph with the words
 of GAPS: these functions and no others, by name or with a star at the end. A symbolic link at the
 top, as the one to the examples, must lead somewhere. The last line is 'N passed, M failed'.
@@ -57,6 +58,8 @@ OTHERS = {"conflicts_with", "in_room", "sched_autogroup_enabled", "F_SETPIPE_SZ"
           "O_NONBLOCK"}
 
 
+# The first page, and how many words it may have.
+README, MOST_WORDS = "README.md", 900
 PROOF = "docs/PROOF.md"
 # What docs/PROOF.md says of every public function but those that it names: the words before these
 # names, whether a function is one of them (None where there is nothing to say), and what is wrong
@@ -370,6 +373,19 @@ def bad_links(path):
                 yield number, f"no heading {target}"
 
 
+def faults_of_readme():
+    """What is wrong with the first page as a whole: that it is too long, beside its code, or that
+    it names another kit than the one by which the release was made."""
+    text = (TOP / README).read_text()
+    count = len([it for it in " ".join(without_code(text)).split() if re.search(r"\w", it)])
+    if count > MOST_WORDS:
+        yield 0, f"it has {count} words, and may have {MOST_WORDS}"
+    manifest = TOP / "release/MANIFEST"
+    kit = re.match("kit (.*)", manifest.read_text())[1] if manifest.exists() else ""
+    if kit not in text:
+        yield 0, f"it does not name the kit of release/MANIFEST: {kit}"
+
+
 def gaps():
     """What is wrong with the sentences of docs/PROOF.md that name functions without a clause."""
     page = TOP / PROOF
@@ -489,6 +505,8 @@ def check():
             found += sources.missing(path)
         if name == PROOF:
             found += gaps()
+        if name == README:
+            found += faults_of_readme()
         if not found:
             passed += 1
         wrong += [f"{name}:{number}: {what}" for number, what in sorted(found)]
