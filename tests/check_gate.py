@@ -143,6 +143,9 @@ holds("another word is refused", run_gate("--other").status == 2)
 holds("--help prints what the words of the gate do, and nothing runs", run_gate("--help").out ==
       re.search('^"""(.*?)"""', (TOP / "gate").read_text(), re.S | re.M)[1] and ended(0, "as well, "
       "and Linux.") and not house.ended.err)
+holds("without the kit it says what is missing", (house.run(
+    sys.executable, "-B", house.top / "gate", PATH=str(house.temporary)).status == 2
+    and house.ended.out == "gate: it needs the command rt of the Rattle kit, and finds none\n"))
 
 # While the first part goes on, others begin: at first none, then those that need nothing of it,
 # and the planted bugs of a crate over crates that are proved; after it what runs that it has built.
