@@ -24,6 +24,7 @@ use std::path::{Path, PathBuf};
 use std::process::{Command, Stdio};
 use std::sync::{Arc, Condvar, Mutex, MutexGuard, PoisonError};
 use std::thread::{self, JoinHandle};
+use std::time::Duration;
 
 /// The folder of the hooks that are due, in the folder of the settings.
 const PENDING: &str = ".pending";
@@ -31,6 +32,8 @@ const PENDING: &str = ".pending";
 const MARKER: &str = ".rignolda";
 /// How the name of a hook's input begins, while it has one.
 const INPUT: &str = ".input";
+/// How long the file of a key waits at most while its hook's mark is going.
+const UNMARKS: Duration = Duration::from_secs(5);
 /// How many hooks run at once at most, each of another key.
 const HOOKS: usize = 4;
 /// A folder that is in the way of a file may be deep. (What is not used takes no memory.)
@@ -94,8 +97,6 @@ struct Shared {
     files: Condvar,
     hooks: Condvar,
     wake: Wake,
-    /// Held while the mark of a hook goes, or the key of a file is taken: never by the loop.
-    marks: Mutex<()>,
 }
 
 #[derive(Default)]
@@ -115,8 +116,8 @@ struct State {
     /// The key whose file is being written.
     key: Option<String>,
     hooks: Waiting,
-    /// The first sequence numbers of the changes whose hooks run.
-    running: BTreeMap<String, u64>,
+    /// The changes whose hooks run.
+    running: BTreeMap<String, Running>,
     /// Keys whose file or hook has failed, or whose hook was due when the agent started.
     due: BTreeSet<String>,
     /// Keys whose file or hook failed last, and how.
@@ -124,6 +125,12 @@ struct State {
     failures: u64,
     done: Vec<Applied>,
     closed: bool,
+}
+
+/// A change whose hook runs: its first sequence number, and whether the mark of it is going.
+struct Running {
+    first: u64,
+    unmarks: bool,
 }
 
 impl Applier {
@@ -134,7 +141,7 @@ impl Applier {
         let due = due.into_iter().filter(|name| is_key(name)).collect();
         let state = Mutex::new(State { config: config.clone(), due, ..State::default() });
         let (files, hooks) = (Condvar::new(), Condvar::new());
-        let shared = Arc::new(Shared { folder, state, files, hooks, wake, marks: Mutex::new(()) });
+        let shared = Arc::new(Shared { folder, state, files, hooks, wake });
         let mut applier = Applier { shared, threads: Vec::new(), lost: Cell::new(0) };
         let hooks = [("hooks", run_hooks as fn(&Shared)); HOOKS];
         for (name, work) in hooks.into_iter().chain([("files", keep_files as fn(&Shared))]) {
@@ -208,7 +215,7 @@ impl Applier {
             return 0;
         }
         let waiting = state.files.first().into_iter().chain(state.hooks.first());
-        let running = state.running.values().copied();
+        let running = state.running.values().map(|it| it.first);
         let oldest = waiting.chain(state.writing).chain(running).reduce(older);
         oldest.map_or(sequence, |oldest| older(sequence, oldest.saturating_sub(1)))
     }
@@ -353,7 +360,7 @@ fn keep_files(shared: &Shared) {
         let mut state = shared.lock();
         state.due.append(&mut due);
         state.writing = None;
-        state.digest = digest.as_ref().map(Digest::sum);
+        state.digest = digest.as_ref().map(|it| it.sum);
     }
 }
 
@@ -394,9 +401,9 @@ fn keep_file(
     change: Change,
     differs: bool,
 ) {
-    let marks = shared.marks.lock().unwrap_or_else(PoisonError::into_inner);
-    shared.lock().key = Some(key.into());
-    drop(marks);
+    let is_going = |state: &mut State| state.running.get(key).is_some_and(|it| it.unmarks);
+    let waited = shared.files.wait_timeout_while(shared.lock(), UNMARKS, is_going);
+    waited.unwrap_or_else(PoisonError::into_inner).0.key = Some(key.into());
     let kept = if differs {
         let announced = config.hook.as_ref().map_or(Ok(()), |_| announce(shared, key));
         announced.and_then(|()| folder.put(key, change.value.as_deref(), config.mode))
@@ -439,16 +446,16 @@ fn announce(shared: &Shared, key: &str) -> io::Result<()> {
 fn run_hooks(shared: &Shared) {
     let take = |state: &mut State| {
         let (key, change) = state.hooks.pop_of(|key| !state.running.contains_key(key))?;
-        state.running.insert(key.clone(), change.first);
+        state.running.insert(key.clone(), Running { first: change.first, unmarks: false });
         Some((key, change, state.config.clone()))
     };
     while let Some((key, change, config)) = shared.next(&shared.hooks, take) {
         let status = run_hook(&shared.folder, &config, &key, &change);
         if status.is_ok() {
-            // (the disk may hang: so the lock that the loop takes is not held)
-            let _marks = shared.marks.lock().unwrap_or_else(PoisonError::into_inner);
-            let state = shared.lock();
+            let mut state = shared.lock();
             let again = state.hooks.has(&key) || state.key.as_ref() == Some(&key);
+            state.running.get_mut(&key).into_iter().for_each(|it| it.unmarks = !again);
+            // (the disk may hang: so the lock that the loop takes is not held)
             drop(state);
             if !again {
                 let _ = fs::remove_file(shared.folder.join(PENDING).join(&key));
@@ -456,8 +463,9 @@ fn run_hooks(shared: &Shared) {
         }
         let mut state = shared.lock();
         state.running.remove(&key);
-        // (a change of the same key may have waited for this)
+        // (a change of the same key may have waited for this, and its file)
         shared.hooks.notify_one();
+        shared.files.notify_one();
         let outcome = match status {
             Ok(()) => Outcome::Done,
             Err(error) => {

@@ -14,14 +14,10 @@ const CHANGES: usize = 1 << 12;
 #[derive(Debug, Default)]
 pub struct Digest {
     each: BTreeMap<String, u64>,
-    sum: u64,
+    pub sum: u64,
 }
 
 impl Digest {
-    pub fn sum(&self) -> u64 {
-        self.sum
-    }
-
     /// A setting has this value now; or none, where its file is there and cannot be read.
     pub fn set(&mut self, key: &str, value: Option<&[u8]>) {
         let mut sha = Sha256::new();
@@ -74,7 +70,7 @@ impl Published {
     pub fn take(&mut self, number: u64, meaning: &Meaning<'_>) {
         self.digest.take(meaning);
         self.number = number;
-        let (sum, last) = (self.digest.sum(), self.since.back().copied());
+        let (sum, last) = (self.digest.sum, self.since.back().copied());
         let is_new = last.is_none_or(|(since, digest)| digest != sum || is_newer(since, number));
         if matches!(meaning, Meaning::Table(_)) {
             self.since.clear();
@@ -118,7 +114,7 @@ mod tests {
     fn one_setting() {
         let mut digest = Digest::default();
         digest.set("path", Some(b"up"));
-        assert_eq!(digest.sum(), 0x36e4_557c_afcc_3106);
+        assert_eq!(digest.sum, 0x36e4_557c_afcc_3106);
     }
 
     #[test]
@@ -129,17 +125,17 @@ mod tests {
         for (key, value) in [("b", b"0"), ("c", b"3"), ("a", b"1"), ("b", b"2")] {
             other.set(key, Some(value));
         }
-        assert_ne!(one.sum(), other.sum());
+        assert_ne!(one.sum, other.sum);
         other.unset("c");
         other.unset("c");
-        assert_eq!(one.sum(), other.sum());
+        assert_eq!(one.sum, other.sum);
         // (no two are of one text)
         other.unset("b");
         other.set("", Some(b"b2"));
-        assert_ne!(one.sum(), other.sum());
+        assert_ne!(one.sum, other.sum);
         other.set("", None);
         one.set("", Some(b""));
-        assert_ne!(one.sum(), other.sum());
+        assert_ne!(one.sum, other.sum);
     }
 
     /// An agent is compared with what was published up to its number, and no later one.
@@ -150,7 +146,7 @@ mod tests {
         let of = |value: &[u8]| {
             let mut digest = Digest::default();
             digest.set("key", Some(value));
-            digest.sum()
+            digest.sum
         };
         let (old, new) = (of(b"old"), of(b"new"));
         assert_eq!(published.compared(&seen(5, old)), Compared::NotKnown);
@@ -184,7 +180,7 @@ mod tests {
             published.take(20, &Meaning::Table(vec![("key", Some(b"value"))]));
             let mut digest = Digest::default();
             digest.set("key", Some(b"value"));
-            assert_eq!(published.compared(&seen(20, digest.sum())), Compared::Same);
+            assert_eq!(published.compared(&seen(20, digest.sum)), Compared::Same);
             assert_eq!(published.compared(&seen(20, 6)), Compared::Differs);
         }
     }
