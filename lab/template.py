@@ -1,11 +1,14 @@
 """The two ends of a link, to be written by you: lab/check_ends.py judges them.
 
-All that an end remembers is in its attributes: numbers, None, or tuples of them. Neither end sees
-the line, a clock, or the other end.
+All that an end remembers is in its attributes: numbers, texts, None, items, or tuples of them. An
+item may be kept and handed on, and no more. Neither end sees the line, a clock, or the other end.
 """
 
 
 class Sender:
+    # What an attribute may be at the start, beside all that runs leave in it: {"tired": (0, 1)}
+    MAY_BE = {}
+
     def __init__(self, labels, label):
         """There are `labels` labels, 0 to labels - 1; it happens to begin with this one, which may
         be any number below 65536."""
@@ -21,7 +24,9 @@ class Sender:
 
 
 class Receiver:
-    def __init__(self, label):
+    MAY_BE = {}
+
+    def __init__(self, labels, label):
         """It happens to remember this label, which may be any number below 65536."""
 
     def frame(self, label, item):
