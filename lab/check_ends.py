@@ -42,7 +42,7 @@ from judge.runs import Run  # noqa: E402
 
 
 # With capacity 2 the right ends have 1,136,168 states, and need half a minute.
-MOST_STATES = 2_500_000
+MOST_STATES = 3_000_000
 
 
 def spoilt(ends: dict[End, list[Left]]) -> str:
@@ -52,8 +52,10 @@ def spoilt(ends: dict[End, list[Left]]) -> str:
         for memory, _ in memories:
             for name, value in end.shown(memory).items():
                 seen.setdefault(f"{end.name}.{name}", {})[str(value)] = None
-    several = [f"{name} ({', '.join(values)})" for name, values in seen.items() if len(values) > 1]
-    single = [f"{name} ({', '.join(values)})" for name, values in seen.items() if len(values) == 1]
+    said = {name: f"{name} ({', '.join(list(values)[:8])}{', ..' * (len(values) > 8)})"
+            for name, values in seen.items()}
+    several = [said[name] for name, values in seen.items() if len(values) > 1]
+    single = [said[name] for name, values in seen.items() if len(values) == 1]
     return (f"Spoilt at the start: {', '.join(several) or 'nothing'}.\n"
             f"Never spoilt, so never any other value: {', '.join(single) or 'nothing'}."
             + " List in MAY_BE what else may be." * bool(single))

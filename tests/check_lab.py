@@ -60,7 +60,7 @@ CASES = [
     ("right", "-c 2 --states 200000", 2, "but not all were tried: capacity 2, 6 labels, 200"),
     ("right", "-c 2 --states 200000", 2, "events, and all starts that runs leave; and whether"),
     ("flushes_once", "--states 16000", 2, ", from starts that runs leave; and whether an item"),
-    ("two_labels", "-c 2", 1, "BROKEN after"),
+    ("every_frame", "-c 2", 1, "BROKEN after 2 events: there are more strays than frames"),
     ("../template", "", 2, "offer gives True or False, and not None"),
     ("none", "", 2, "No such file"),
 ]
@@ -127,7 +127,9 @@ SPOILED = [
     ("import random\n" + RECEIVER + MADE + "self.label = random.randrange(1000)", 2,
      "__init__ of the receiver does now this and now that"),
     # one that looks into an item
-    (SENDER + "def send(self): return self.item and (self.item % 4, self.item)", 2,
+    (SENDER + "def send(self): return None if self.item is None else (self.item % 4, self.item)\n"
+     "    def ack(self, label):\n        self.label = self.item % 4 if self.item else 0\n"
+     "        return super().ack(label)", 2,
      "TypeError: unsupported operand type(s) for %: 'Item' and 'int' (mine.py, line 3, in send)"),
     (RECEIVER + MADE + "self.item = None\n    def frame(self, label, item):\n"
      "        fresh, self.item = item != self.item, item\n        return item if fresh else None", 2,

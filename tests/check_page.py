@@ -841,10 +841,13 @@ class Checks(Cases):
         """Runs of wrong ends, as lab/check_ends.py writes them into an address."""
         for ends, events, missing, strays, last in (
                 ("two_labels", 14, 3, 1, "item 3 counts as acknowledged"),
+                ("flushes_once", 14, 3, 1, "item 3 counts as acknowledged"),
                 ("any_acknowledgement", 8, 4, 0, "item 3 counts as acknowledged"),
                 ("every_frame", 2, 0, 2, "90 is delivered")):
-            said = ran(TOP / "lab/check_ends.py", TOP / f"lab/ends/{ends}.py")[1]
-            address = re.search(r"index.html(#run=\S+)", said)[1]
+            with tempfile.TemporaryDirectory() as folder:
+                file = pathlib.Path(folder, "run.html")
+                ran(TOP / "lab/check_ends.py", TOP / f"lab/ends/{ends}.py", "-o", file)
+                address = re.search(r"index.html(#run=[\w-]+)", file.read_text())[1]
             self.go(PAGE.as_uri() + address)
             found = self.run("""for (let k = 0; k <= job.events.length; k++) go(k);
                 return [...texts('fault', 'missing', 'strays', 'happened', 'says'), at,
