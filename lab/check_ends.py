@@ -9,7 +9,8 @@ and repeated, and the garbage of the start are made here. At the start the line 
 labels; one that is not full is one after losses. The ends begin as they are made, with any label;
 and then as any messages may have left them, the sender idle or with an item, and with what they
 list in MAY_BE. Any number of items is offered. Every state that can be reached is visited, the
-nearest first, so a run that is printed is a shortest one that breaks the law of a link:
+nearest first, so a run that is printed is a shortest one that breaks the law of a link (with
+capacity 2, of those that begin with the same memory of the sender):
 
 - first come at most CAPACITY strays, items that lay on the line at the start, in their order;
 - then come items that were offered, in their order, each at most once;
@@ -41,7 +42,7 @@ from judge.link import Link, Search  # noqa: E402
 from judge.runs import Run  # noqa: E402
 
 
-# With capacity 2 the right ends have 1,136,168 states, and need half a minute.
+# (with capacity 2 the right ends have 1,136,168, and need half a minute)
 MOST_STATES = 3_000_000
 
 
@@ -61,18 +62,25 @@ def spoilt(ends: dict[End, list[Left]]) -> str:
             + " List in MAY_BE what else may be." * bool(single))
 
 
+def batches(link: Link, memories: tuple[list[Left], list[Left]]) -> list[tuple[list[Left], ...]]:
+    """The memories that runs begin with, one batch after the other: first as the ends are made.
+    With capacity 2 the sender has one memory in a batch, so that wrong ends are found soon."""
+    made = tuple([(one, False) for one in link.begun[end.name]]
+                 for end in (link.sender, link.receiver))
+    if link.capacity == 1:
+        return [made, memories]
+    return [(made[0][:1], made[1])] + [([one], memories[1]) for one in reversed(memories[0])]
+
+
 def judge(asked: argparse.Namespace, labels: int) -> int:
     apart = Apart(os.path.dirname(os.path.abspath(asked.ends)))
     sender, receiver = loaded(asked.ends, [*range(labels), 65535], apart)
     link = Link(sender, receiver, labels, asked.capacity, not asked.miss_nothing)
     memories = link.memories()
     search = Search(link, asked.states)
-    finding = search.visit(link.starts(*([(one, False) for one in link.begun[end.name]]
-                                         for end in (sender, receiver))))
-    left = ", and all starts that runs leave"
-    if search.whole and not finding:
-        left = ", from starts that runs leave"
-        finding = search.visit(link.starts(*memories))
+    finding, todo = None, batches(link, memories)
+    while todo and search.whole and not finding:
+        finding = search.visit(link.starts(*todo.pop(0)))
     sender.check_again()
     receiver.check_again()
     law = "the law of a link" + " that misses nothing" * asked.miss_nothing
@@ -91,8 +99,10 @@ def judge(asked: argparse.Namespace, labels: int) -> int:
               + (f"only items {early}." if early else "none."))
     else:
         print(f"No run that was tried breaks {law}, but not all were tried: {what}.")
-        print(f"Left out: runs of more than {search.depth} events{left}; and whether an item more "
-              "always counts as acknowledged. Let the ends remember less, or give more --states.")
+        print(f"Left out: runs of more than {search.depth} events from the starts tried last, and "
+              "whether they always bring an item more; and starts from "
+              f"{sum(len(senders) for senders, _ in todo)} of {len(memories[0])} memories of the "
+              "sender. Let the ends remember less, or give more --states.")
     if not finding:
         print(spoilt(dict(zip((sender, receiver), memories))))
     if apart.printed.getvalue():

@@ -58,9 +58,13 @@ CASES = [
     ("misses_nothing", "--miss-nothing -k 5 -c 2", 1, f"item 0 {NOT_DELIVERED}\n"),
     ("flushes_once", "--miss-nothing", 1, f"item 0 {NOT_DELIVERED}\n"),
     ("right", "-c 2 --states 200000", 2, "but not all were tried: capacity 2, 6 labels, 200"),
-    ("right", "-c 2 --states 200000", 2, "events, and all starts that runs leave; and whether"),
-    ("flushes_once", "--states 16000", 2, ", from starts that runs leave; and whether an item"),
+    ("right", "-c 2 --states 200000", 2, " of 14 memories of the sender."),
+    # (it has an item or not, and: 5 labels before it flushes, and 4 at each of 4 counts then)
+    ("flushes_once", "--states 3000", 2, " and starts from 42 of 42 memories of the sender."),
+    ("flushes_once", "--states 16000", 2, " and starts from 0 of 42 memories of the sender."),
     ("every_frame", "-c 2", 1, "BROKEN after 2 events: there are more strays than frames"),
+    ("two_labels", "-c 2", 1, f"BROKEN after 20 events: item 5 {NOT_DELIVERED}, and it is not"),
+    ("flushes_once", "-c 2", 1, f"BROKEN after 20 events: item 5 {NOT_DELIVERED}, and it is not"),
     ("../template", "", 2, "offer gives True or False, and not None"),
     ("none", "", 2, "No such file"),
 ]
