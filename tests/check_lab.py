@@ -136,7 +136,8 @@ SPOILED = [
      "        return super().ack(label)", 2,
      "TypeError: unsupported operand type(s) for %: 'Item' and 'int' (mine.py, line 3, in send)"),
     (RECEIVER + MADE + "self.item = None\n    def frame(self, label, item):\n"
-     "        fresh, self.item = item != self.item, item\n        return item if fresh else None", 2,
+     "        fresh, self.item = item != self.item, item\n"
+     "        return item if fresh else None", 2,
      "TypeError: an end keeps an item or hands it on, and does not compare it"),
     # one that delivers, or sends, what an earlier run left
     (RECEIVER + MADE + "self.held = None\n    def frame(self, label, item):\n"
@@ -241,8 +242,8 @@ def replayed(file, said, page, misses):
             return f"after event {place + 1} are {frames}, {acks}, {delivered}, and not: {line}"
     if broken(delivered, offered, acked, strays, may_miss):
         return None
-    # (then no item more counts in the last rounds, in which each of the five events is, but arrivals
-    # where nothing is)
+    # (then no item more counts in the last rounds, in which each of the five events is, but
+    # arrivals where nothing is)
     rounds = int(re.search(r"in the last (\d+) rounds", said)[1])
     names = [event[0] if isinstance(event, list) else event for event in job["events"]]
     begins = [place for place, name in enumerate(names) if name == "offer"][-rounds]
