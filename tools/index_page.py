@@ -3,8 +3,9 @@
 does so as well, and compares it in the gate.
 
 The module is compressed, and as base64. What the page does not need is left out: empty lines, lines
-of comments, and the spaces before other lines; spaces that a style does not need; and of the script
-spaces beside a sign and semicolons before a brace, but not those in texts and patterns.
+of comments, and the spaces before other lines; spaces and ends of lines that a style does not need;
+and of the script spaces beside a sign, semicolons before a brace, and ends of lines after a sign
+that ends no statement or before one that begins none, but not those in texts and patterns.
 """
 import base64
 import re
@@ -37,12 +38,13 @@ def script(text):
             at = re.compile(" *").match(text, at).end()
             made += " " * bool(re.fullmatch(r"[\w$]{2}|\+\+|--", last + text[at:at + 1], re.A))
             continue
-        if sign == "}" and last == ";":
+        if sign in "}])?:.&|=," and last == "\n" or sign == "}" and last == ";":
             made = made[:-1]
         made += sign
         opens = sign in REST and (
             sign != "/" or last in "\n(,=:[!&|?{};" or made.endswith("return/")) and sign
         if sign == "\n":
+            made = made[:-1] if last in "{[(,;?:&|=" else made
             at = BETWEEN.match(text, at).end()
         elif sign == "{" and depths:
             depths[-1] += 1
@@ -61,7 +63,7 @@ def script(text):
 
 def style(text):
     """A style without what it does not need."""
-    return re.sub(r"([:;,]) | ?([{}]) ?", r"\1\2", text).replace(";}", "}")
+    return re.sub(r"([:;,])[ \n]|[ \n]?([{}])[ \n]?", r"\1\2", text).replace(";}", "}")
 
 
 def page(module):
