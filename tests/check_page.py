@@ -25,6 +25,11 @@ In each browser it looks that
 - a run that the lab writes into an address is drawn as it was, and a spoiled one is refused;
 - the proof steps through states that were worked out by hand, marks what it speaks of, and can be
   played, left, and opened by an address;
+- by keys alone each exercise is played in as many of them as it has events, and the proof from its
+  first step to its last;
+- an address and an exercise bring what they name onto the screen, at three widths, and on a narrow
+  one the circle is seen together with each control that moves it;
+- the circle is drawn with 2c + 2 places, and called the ring that it is;
 - in Chromium's tree for screen readers each control has a role and a name, and each picture and
   list a text; a step is announced once;
 - the runs on the slides of the lesson are those of the page; no slide overflows, keys turn them;
@@ -65,6 +70,7 @@ MOST_MILLISECONDS_OF_A_STEP = 50
 SECONDS = 60
 
 WIDE, NARROW = (1100, 900), (390, 800)
+SCREENS = (1280, 800), (1024, 768), (390, 844)
 CONTROLS = "button, input, select, textarea"
 
 
@@ -135,6 +141,14 @@ class Chromium:
         return [(value(node, "role"), value(node, "name"), value(node, "description"),
                  {one["name"]: one["value"].get("value") for one in node.get("properties", [])})
                 for node in self.ask("Accessibility.getFullAXTree")["nodes"] if not node["ignored"]]
+
+    def key(self, name, shift=False):
+        """Presses Enter or a digit, as a keyboard does."""
+        key, code, number, text = (("Enter", "Enter", 13, "\r") if name == "Enter" else
+            (")!@#$%^&*("[int(name)] if shift else name, f"Digit{name}", 48 + int(name), name))
+        same = {"key": key, "code": code, "windowsVirtualKeyCode": number, "modifiers": 8 * shift}
+        self.ask("Input.dispatchKeyEvent", type="keyDown", text=text, **same)
+        self.ask("Input.dispatchKeyEvent", type="keyUp", **same)
 
     def picture(self):
         said = self.ask("Page.captureScreenshot", captureBeyondViewport=True,
@@ -217,6 +231,14 @@ class Firefox:
         if said["value"] is None:
             raise RuntimeError(f"no answer of {text[:2000]}")
         return json.loads(said["value"])
+
+    def key(self, name, shift=False):
+        """Presses Enter or a digit, as a keyboard does."""
+        keys = ["\ue008"] * shift + ["\ue007" if name == "Enter" else name]
+        steps = ([{"type": "keyDown", "value": key} for key in keys]
+                 + [{"type": "keyUp", "value": key} for key in reversed(keys)])
+        self.ask("WebDriver:PerformActions",
+                 actions=[{"type": "key", "id": "keyboard", "actions": steps}])
 
     def picture(self):
         return base64.b64decode(self.ask("WebDriver:TakeScreenshot", full=True)["value"])
@@ -348,6 +370,11 @@ SOLVED = [one_round(7) + one_round(8), [offered(7), "send_frame", ["lose_frame",
                                         "recv_frame", "send_ack", "recv_ack"], ["recv_frame"],
           WORST, [offered(10), "recv_ack", "send_ack", "recv_frame", *LATE, offered(14),
                   "send_frame", ["lose_frame", 0], "recv_ack"], WORST + one_round(13),]
+
+# the digit that is the key of an event: in the order of a round, then the losses, and then the rest
+DIGITS = {"offer": "1", "send_frame": "2", "recv_frame": "3", "send_ack": "4", "recv_ack": "5",
+          "lose_frame": "6", "lose_ack": "7", "recv_frame_keep": "8", "recv_ack_keep": "9",
+          "close": "0"}
 
 # events that only seem to solve an exercise, by its number, or after which it cannot be solved, and
 # how what the page says of them begins
@@ -633,6 +660,14 @@ class Checks(Cases):
             said = self.run(says, at)
             self.see(f"what is said at {at}", part in said[0] and said[1] == style
                 and told in said[2])
+        for title, capacity in (("The worst start", 1), ("The worst start of capacity two", 2)):
+            said = self.run("show(RUNS[args[0]], 'x', 6); return ["
+                "$('ring').nextSibling.textContent, "
+                "all('#ring .lane li:not(.unseen), #ring .badge').length];", title)
+            self.see(f"the ring of {title}", said == [
+                "When full, this is Dijkstra's ring of 2c + 2 machines, here "
+                f"{2 * capacity + 2}: sender, c frames, receiver, c acknowledgements.",
+                2 * capacity + 2])
         # (the shape of this circle is always good, and the first item is missing all the same)
         said = self.run("show(RUNS['The receiver remembers the first label'], 'x', 4); "
             "return [$('says').textContent, $('missing').textContent];")
@@ -706,6 +741,11 @@ class Checks(Cases):
         announced."""
         self.see("the steps of the proof", sum(count for count, _, _ in PROOF_PARTS)
                  == len(PROOF) == self.run("return PROOF_STEPS.length"))
+        # with 2c + 1 labels the bound holds, and with 2c it does not: `texts` and `labels` try both
+        self.same("what the last parts of the proof are called",
+                  ["With 2c + 1 labels only this proof fails",
+                   "And with 2c labels the bound is broken"],
+                  "return PROOF.slice(5).map(it => it[0])")
         state = """const marked = e => /rgb/.test(getComputedStyle(e).boxShadow),
                 link = linkAt(job, at), marks = words => all(words).map(marked);
             return { is: [at, all('#labels .free').map(e => Number(e.firstChild.data)),
@@ -760,6 +800,125 @@ class Checks(Cases):
             self.see(f"the address {address}", self.run(f"{place}]")[:3] == [*wanted, False])
         said = self.run(f"click('load'); {place}]")
         self.see("another run ends the proof", said[0] == -1 and said[2])
+
+    def keys(self):
+        """The keyboard alone, with as many keys as events."""
+        done = "$(args[0]).querySelector('[role=status]').textContent"
+        for tasks, task, solved, events in (
+                ("tasks", "task", SOLVED, "job.events.map(event => [].concat(event)[0])"),
+                ("t-tasks", "t-task", SOLVED_TREES, "tree.events.map(([at, word]) => [at, word])")):
+            for i, solution in enumerate(solved):
+                self.run("showTree(TREES['A clean tree'], 'x'); click(args[0]); "
+                         "$(args[1]).children[args[2]].focus();",
+                         "see-tree" if tasks == "t-tasks" else "see-link", tasks, i)
+                self.browser.key("Enter")
+                self.same(f"exercise {i + 1} of {tasks} has the focus", True,
+                          "return $(args[0]).contains(document.activeElement)", task)
+                link, wanted = A, []
+                for event in solution:
+                    if tasks == "t-tasks":
+                        node, word = event
+                        wanted.append(event)
+                        self.browser.key(DIGITS[word], node != link)
+                        link = node
+                    else:
+                        wanted.append(event if isinstance(event, str) else event[0])
+                        self.browser.key(DIGITS[wanted[-1]])
+                self.same(f"exercise {i + 1} of {tasks} by {len(solution)} keys",
+                          [wanted, "Done."], f"return [{events}, {done}]", task)
+        kept = ["recv_frame_keep", "recv_ack_keep", "lose_ack", "lose_frame", "close"]
+        words = "return [job.events.map(event => [].concat(event)[0]), $('item').value]"
+        self.run("show(RUNS['The worst start'], 'x'); job = { ...job, events: [] }; go(0); "
+                 "all('[data-event]')[0].focus();")
+        for word in [*kept, "offer"]:
+            self.browser.key(DIGITS[word])
+        self.same("each other event has a key, and one that would do nothing does nothing",
+                  [kept, "10"], words)
+        for place, item in (("load", "10"), ("item", "3")):
+            self.run("show(RUNS['The worst start'], 'x'); job = { ...job, events: [] }; go(0); "
+                     "$(args[0]).focus(); $(args[0]).select?.();", place)
+            self.browser.key("3")
+            self.same(f"a digit at {place} is no event", [[], item], words)
+        # the hint is hidden once the exercise is solved, and the focus stays beside it
+        self.run("$('tasks').children[2].click(); "
+                 "all('#task button').find(b => b.textContent === 'Hint').focus();")
+        self.browser.key("3")
+        self.same("the focus stays in a card", ["task", "Done."],
+                  f"return [document.activeElement.id, {done}]", "task")
+        self.run("$('proof-begin').focus();")
+        for _ in range(len(PROOF)):
+            self.browser.key("Enter")
+        ends = "return [proofAt, document.activeElement.id]"
+        self.same("the proof by Enter", [len(PROOF) - 1, "proof-forth"], ends)
+        self.browser.key("Enter")
+        self.same("the proof by Enter ends", [len(PROOF) - 1, "proof-forth"], ends)
+        self.go(PAGE.as_uri() + "#proof=7")
+        self.browser.key("Enter")
+        self.same("on from an address by Enter", [7, "proof-forth"], ends)
+
+    def seen(self):
+        """What an address or an exercise names is on the screen, and the circle with what moves
+        it."""
+        inside = ("const box = e => e.getBoundingClientRect(), "
+                  "isIn = e => -1 < box(e).top && box(e).bottom < innerHeight + 1;")
+        job = json.dumps({"capacity": 1, "labels": 4, "start": {"send": 0, "recv": 1},
+                          "events": ["send_ack"]})
+        tree = json.dumps({"capacity": 1, "labels": 4, "items": [7], "tree": [
+            {"name": "r"}, {"name": "a", "parent": "r"}], "schedule": [["a", "offer"]]})
+        for width, height in SCREENS:
+            self.browser.size(width, height, False)
+            for address, names in ((f"#job={packed(job)}", ["h-link", "lanes"]),
+                                   (f"#tree={packed(tree)}&at=1", ["h-tree", "t-drawn"]),
+                                   ("#proof=19", ["proof", "lanes"])):
+                self.go(PAGE.as_uri() + address)
+                self.same(f"{address[:7]} is seen at {width}", [True, True],
+                          inside + "return args.map(id => isIn($(id)))", *names)
+            for step in range(len(PROOF)):
+                # (the event that tells the page of its address comes a little later)
+                self.run("scrollTo(0, args[0] % 2 * 1e6); location.hash = '#proof=' + args[0]",
+                         step + 1)
+                end = time.time() + SECONDS
+                while self.run("return proofAt") != step and time.time() < end:
+                    time.sleep(0.01)
+                self.same(f"step {step + 1} of the proof is seen at {width}",
+                          [step, True, True, True], inside + "return [proofAt, isIn($('proof')), "
+                          "box($('proof')).top < 9, isIn($('lanes'))]")
+            for i in range(len(SOLVED)):
+                self.same(f"exercise {i + 1} is seen at {width}", [True, True, True],
+                          inside + "scrollTo(0, 1e6); $('tasks').children[args[0]].click(); "
+                          "return [isIn($('task')), box($('task')).top < 9, isIn($('lanes'))]", i)
+        moves = inside + """
+            const lanes = $(args[0]), isSeen = e => {
+                const { left, right, top, bottom } = box(e);
+                return isIn(e) && e.contains(document.elementFromPoint(
+                    (left + right) / 2, (top + bottom) / 2));
+            };
+            return all(args[1]).filter(e => e.checkVisibility()).map(e => {
+                scrollTo(0, 0);
+                e.scrollIntoView({ block: box(e).top < box(lanes).top ? 'start' : 'end' });
+                const areSeen = isIn(lanes) && isSeen(e);
+                scrollTo(0, 1e6);
+                e.scrollIntoView({ block: 'nearest' });
+                return [e.id || e.textContent, areSeen && isSeen(e)];
+            });"""
+        acts, times = ".acts button", ".time button, .time input"
+        self.same("the narrow form", True, "return matchMedia('(max-width: 44rem)').matches")
+        for view, prefix, controls, count in (
+                ("show(RUNS['The worst start'], 'x', 6);", "",
+                 f"{acts}, #item, {times}, #play, #asks", 14),
+                ("show(RUNS['The worst start of capacity two'], 'x', 8);", "",
+                 f"{acts}, #item, {times}, #play, #asks", 14),
+                ("proofTo(23);", "", "#proof button, #proof select", 5),
+                ("$('asks').checked = true; show(RUNS['The worst start'], 'x', 1); "
+                 "$('forth').click();", "", "#ask button", 2),
+                ("$('asks').checked = false; $('tasks').children[4].click();", "",
+                 f"#task button, {acts}", 12),
+                ("showTree(TREES['Backlogs at two nodes'], 'x', 9);", "t-",
+                 f"{acts}, {times}, #t-link, #t-rest, #t-strike, #t-restart", 15)):
+            said = self.run(view + moves, f"{prefix}lanes", controls)
+            self.see(f"the circle and what moves it after {view}",
+                     len(said) == count and all(is_seen for _, is_seen in said), said)
+        self.browser.size(*WIDE, False)
 
     def announced(self):
         """A step of a run is announced once, and not again when it is drawn again."""
@@ -1076,11 +1235,11 @@ class Checks(Cases):
             return texts('missing', 'missing-say', 'happened').concat(
                 all('#offered > *').map(item => item.className));"""
         for labels, capacity, missing, why in [
-                (4, 1, "of at most 3", "only among the first 3 items"),
+                (4, 1, "of at most 3", "only among the first 3 acknowledged"),
                 (3, 1, "of at most 3",
                     "The bound holds with 3 labels; the program asks for one more"),
                 (2, 1, "Missing: ", "with 2 labels there is no bound: with capacity 1 it needs 3"),
-                (6, 2, "of at most 5", "only among the first 5 items"),
+                (6, 2, "of at most 5", "only among the first 5 acknowledged"),
                 (5, 2, "of at most 5", "The bound holds with 5 labels"),
                 (4, 2, "Missing: ", "with 4 labels there is no bound: with capacity 2 it needs 5")]:
             said = self.run(body, labels, capacity, 23)
@@ -1181,7 +1340,7 @@ def main():
                     browser.size(*WIDE, dark)
                     for part in () if dark else (
                             "ready", "texts", "exercises", "labels", "hands", "drawn_rows",
-                            "lesson", "proof", "announced",
+                            "lesson", "proof", "keys", "seen", "announced",
                             *["spoken"] * (name == "chromium"), "lab", "slides", "time", "trees",
                             "tree_exercises", "tree_hands", "faults", "backlogs", "narrow"):
                         getattr(checks, part)()
