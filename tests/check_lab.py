@@ -113,10 +113,10 @@ SPOILED = [
     (SENDER + "def __init__(self): pass", 2, "TypeError: "),
     # one that remembers without end, or elsewhere, or draws lots
     (SENDER + MADE + "self.count = 0\n    def send(self):\n        self.count += 1\n"
-     "        return super().send()", 2, "the sender comes to remember more than 2000 different"),
+     "        return super().send()", 2, "the sender comes to remember more than 1000 different"),
     (RECEIVER + MADE + "self.all = ()\n    def frame(self, label, item):\n"
      "        self.all += (item,)\n        return super().frame(label, item)", 2,
-     "the receiver comes to remember more than 2000 different things"),
+     "the receiver comes to remember more than 1000 different things"),
     ("COUNT = 0\n" + SENDER + "def send(self):\n        global COUNT\n        COUNT += 1\n"
      "        return super().send()", 2, "send changes COUNT, from 0 to 1: all that an end"),
     ("ALL = []\n" + SENDER + "def send(self):\n        ALL.append(1)\n"

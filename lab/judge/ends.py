@@ -15,7 +15,7 @@ from typing import Any, Callable, Iterable, Iterator, Tuple
 
 # More steps of code are not run in one call, and more memories of an end not tried.
 MOST_STEPS = 1_000_000
-MOST_MEMORIES = 2_000
+MOST_MEMORIES = 1_000
 
 METHODS = {"Sender": ("offer", "send", "ack"), "Receiver": ("frame", "acknowledge")}
 # what each method answers, in words
@@ -237,8 +237,8 @@ class End:
                     todo.append(one)
             if len(found) > MOST_MEMORIES:
                 raise Unfit(f"the {self.name} comes to remember more than {MOST_MEMORIES} "
-                            f"different things, as {self.shown(memory)}: what it remembers must "
-                            "not grow, nor MAY_BE list so much")
+                            f"different things, as {str(self.shown(memory))[:80]}..: what it "
+                            "remembers must not grow, nor MAY_BE list so much")
         return list(found)
 
 
