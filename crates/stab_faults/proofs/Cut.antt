@@ -1,6 +1,6 @@
 -- Faults in one subtree alone: what its nodes receive since, by the older count of the node above
 -- it.
-use Rattle.std.proofs.Common.{◌≡◌, ℕ, ◌+◌, ◌-◌, ◌*◌, ◌<◌, ◌≤◌, List, [], ◌∷◌, ◌++◌, length, option_and_then, Option, Some, ap, sym, ◌∙◌, subst, inl, inr, arith}
+use Rattle.std.proofs.Common.{◌≡◌, ℕ, ◌+◌, ◌-◌, ◌*◌, ◌<◌, ◌≤◌, List, [], ◌∷◌, ◌++◌, length, option_and_then, Option, Some, ap, sym, ◌∙◌, subst, inl, inr}
 use Rattle.stab_core.specs.LinkLaw.{LinkLaw}
 use Rattle.stab_tree.specs.Nodes.{Nodes, parent_at}
 use Rattle.stab_tree.specs.Steps.{ancestor}

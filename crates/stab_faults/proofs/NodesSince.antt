@@ -18,10 +18,10 @@ use Rattle.stab_faults.proofs.Obeying.{ObeysSince}
 use Rattle.stab_core.specs.Since.{start_at, offered_since, acked_since, delivered_since}
 use Rattle.stab_faults.specs.Changes.{Change, changes_replay}
 use Rattle.stab_faults.specs.Hits.{Spare}
-use Rattle.stab_faults.specs.Moment.{LawSince, SharperLawSince}
+use Rattle.stab_faults.specs.Moment.{LawSince, SharperCompleteSince, SharperLawSince}
 use Rattle.stab_faults.specs.Moment.{strays_since, missing_since, garbage_since, published_since}
 use Rattle.stab_faults.specs.Since.{IsState, acked_at, backlog, gained, moment, capacity_at, queued_at}
-use Rattle.stab_faults.proofs.PathLaws.{complete_of_path, law_of_path, sharper_law_of_path}
+use Rattle.stab_faults.proofs.PathLaws.{LinksHandOn, complete_of_path, law_of_path, sharper_complete_of_path, sharper_law_of_path}
 use Rattle.stab_faults.proofs.Grown.{prefix_dropped, prefix_no_longer, dropped_front, front_and_rest}
 use Rattle.stab_faults.proofs.Kept.{none_or_some, Since, gained_is, since_at_first, untouched_since, spared, OnPath, path_up}
 
@@ -165,16 +165,27 @@ module _ (tree : Nodes) (s : WholeTree) (changes : List Change) (node : ℕ) (is
       sharper_law_of_path tree is.is_tree (moment s) is.parents (gained s end) (OnPath s node) (path_up s node)
       (link_since tree s is end (OnPath s node) (OnPath s node) (path_up s node) since_spared SharperLinkLaw obey) node is_node (0, refl)
 
-  -- and the complete law, where all that the nodes above it have is acknowledged
-  pub complete_since : ObeysSince LinkLaw
-      → ((w parent : ℕ) → OnPath s node w → parent_at s.parents w ≡ Some parent → acked_at end w ≡ length (received end parent))
+  -- ---- and the complete laws, where all that the nodes above it have is acknowledged
+
+  abbrev AllAcked : Type 0
+  AllAcked = (w parent : ℕ) → OnPath s node w → parent_at s.parents w ≡ Some parent → acked_at end w ≡ length (received end parent)
+
+  links_hand_on : (Law : ℕ → List ℕ → List ℕ → ℕ → List ℕ → Type 0) → ObeysSince Law → AllAcked
+      → LinksHandOn tree is.is_tree (moment s) is.parents (gained s end) (OnPath s node) (path_up s node) Law
+  links_hand_on Law obey all w parent on child =
+      let (offered, acked, begins, law, count) = link_went tree s is end (OnPath s node) (OnPath s node) (path_up s node) since_spared Law obey w parent on child in
+      let fed = feed_counts tree s is end (OnPath s node) (OnPath s node) (path_up s node) since_spared w parent on child in
+      let same = all w parent on child in
+      (offered, acked, begins, law, omega (arith, count))
+
+  pub complete_since : ObeysSince LinkLaw → AllAcked
       → CompleteLaw (strays_since (moment s) node) (missing_since (moment s) node) (garbage_since (moment s) node)
       (published_since (moment s) (gained s end) node) (gained s end node)
   complete_since obey all =
       complete_of_path tree is.is_tree (moment s) is.parents (gained s end) (OnPath s node) (path_up s node)
-      (λ w parent on child.
-      let (offered, acked, begins, law, count) = link_went tree s is end (OnPath s node) (OnPath s node) (path_up s node) since_spared LinkLaw obey w parent on child in
-      let fed = feed_counts tree s is end (OnPath s node) (OnPath s node) (path_up s node) since_spared w parent on child in
-      let same = all w parent on child in
-      (offered, acked, begins, law, omega (arith, count)))
-      node is_node (0, refl)
+      (links_hand_on LinkLaw obey all) node is_node (0, refl)
+
+  pub sharper_complete_since : ObeysSince SharperLinkLaw → AllAcked → SharperCompleteSince (moment s) (gained s end) node
+  sharper_complete_since obey all =
+      sharper_complete_of_path tree is.is_tree (moment s) is.parents (gained s end) (OnPath s node) (path_up s node)
+      (links_hand_on SharperLinkLaw obey all) node is_node (0, refl)

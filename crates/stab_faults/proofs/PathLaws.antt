@@ -10,11 +10,11 @@ use Rattle.stab_tree.specs.Steps.{depth_of}
 use Rattle.stab_tree.proofs.ForCallers.{holds_at_every_depth}
 use Rattle.stab_treecore.specs.NodeLaws.{LawBetween}
 use Rattle.stab_treecore.specs.Paths.{sum_above, lists_above}
-use Rattle.stab_treecore.specs.SharperLaw.{SharperTreeLaw, peak_above}
+use Rattle.stab_treecore.specs.SharperLaw.{SharperCompleteLaw, SharperTreeLaw, peak_above}
 use Rattle.stab_treecore.specs.TreeLaw.{CompleteLaw, TreeLaw}
 use Rattle.stab_treecore.proofs.ForChanges.{larger_bounds, law_below, law_past_opening, root_law, sharper_below, sharper_larger, sharper_past_opening, sharper_root}
-use Rattle.stab_treecore.proofs.Upwards.{complete_below, complete_past_opening, root_has_all, larger_complete}
-use Rattle.stab_faults.specs.Moment.{Moment, old_backlog, published_above, LawSince, SharperLawSince}
+use Rattle.stab_treecore.proofs.Upwards.{complete_below, complete_past_opening, root_has_all, larger_complete, sharper_complete_below, sharper_complete_past_opening, sharper_larger_complete, sharper_root_has_all}
+use Rattle.stab_faults.specs.Moment.{Moment, old_backlog, published_above, LawSince, SharperCompleteSince, SharperLawSince}
 use Rattle.stab_faults.specs.Moment.{strays_since, missing_since, garbage_since, published_since}
 
 module _ (tree : Nodes) (is_tree : IsRooted tree.parents) (m : Moment) (same : m.parents ≡ tree.parents) (gained : ℕ → List ℕ)
@@ -137,15 +137,16 @@ module _ (tree : Nodes) (is_tree : IsRooted tree.parents) (m : Moment) (same : m
       SharperTreeLaw (sum_above m.parents strays_of depth w) (sum_above m.parents paid_of depth w) (peak_above m.parents m.capacity depth w)
       (lists_above m.parents garbage_of depth w) (published_above m gained depth w) (gained w)
 
-  -- the law with equal bounds
-  same_sharper : (strays paid paid_too peak peak_too : ℕ) (garbage garbage_too published published_too list : List ℕ) → paid ≡ paid_too → peak ≡ peak_too
-      → garbage ≡ garbage_too → published ≡ published_too → SharperTreeLaw strays paid peak garbage published list
-      → SharperTreeLaw strays paid_too peak_too garbage_too published_too list
-  same_sharper strays paid paid_too peak peak_too garbage garbage_too published published_too list first second third fourth law =
-      subst (λ n. SharperTreeLaw strays n peak_too garbage_too published_too list) first
-      (subst (λ n. SharperTreeLaw strays paid n garbage_too published_too list) second
-      (subst (λ xs. SharperTreeLaw strays paid peak xs published_too list) third
-      (subst (λ xs. SharperTreeLaw strays paid peak garbage xs list) fourth law)))
+  -- a law with equal bounds
+  same_sharper : (Law : ℕ → ℕ → ℕ → List ℕ → List ℕ → List ℕ → Type 0) (strays paid paid_too peak peak_too : ℕ)
+      (garbage garbage_too published published_too list : List ℕ) → paid ≡ paid_too → peak ≡ peak_too
+      → garbage ≡ garbage_too → published ≡ published_too → Law strays paid peak garbage published list
+      → Law strays paid_too peak_too garbage_too published_too list
+  same_sharper Law strays paid paid_too peak peak_too garbage garbage_too published published_too list first second third fourth law =
+      subst (λ n. Law strays n peak_too garbage_too published_too list) first
+      (subst (λ n. Law strays paid n garbage_too published_too list) second
+      (subst (λ xs. Law strays paid peak xs published_too list) third
+      (subst (λ xs. Law strays paid peak garbage xs list) fourth law)))
 
   sharper_below_root : LinksObey SharperLinkLaw → (child : ℕ) → OnPath child → parent_at m.parents child ≡ Some (root_of m.parents)
       → SharperAt 1 child
@@ -156,7 +157,7 @@ module _ (tree : Nodes) (is_tree : IsRooted tree.parents) (m : Moment) (same : m
       let strays = sum_is 0 child (root_of m.parents) is_child strays_of in
       let paid = sum_is 0 child (root_of m.parents) is_child paid_of in
       let peak = peak_is 0 child (root_of m.parents) is_child in
-      same_sharper (sum_above m.parents strays_of 1 child) (0 + (capacity + 1)) (sum_above m.parents paid_of 1 child)
+      same_sharper SharperTreeLaw (sum_above m.parents strays_of 1 child) (0 + (capacity + 1)) (sum_above m.parents paid_of 1 child)
       (max 0 (0 + (2 * capacity + 1))) (peak_above m.parents m.capacity 1 child) (m.queued child ++ []) (lists_above m.parents garbage_of 1 child)
       published published (gained child) (omega arith) (sym peak) (first_garbage child is_child) refl
       (sharper_larger (0 + capacity) (sum_above m.parents strays_of 1 child) (0 + (capacity + 1)) (max 0 (0 + (2 * capacity + 1)))
@@ -178,7 +179,7 @@ module _ (tree : Nodes) (is_tree : IsRooted tree.parents) (m : Moment) (same : m
       let strays_are = sum_is (suc depth) child parent is_child strays_of in
       let paid_are = sum_is (suc depth) child parent is_child paid_of in
       let as_long = ap (λ xs. length xs) (old_is child parent grandparent is_child has_parent) in
-      same_sharper (sum_above m.parents strays_of (suc (suc depth)) child) (paid + (capacity + 1)) (sum_above m.parents paid_of (suc (suc depth)) child)
+      same_sharper SharperTreeLaw (sum_above m.parents strays_of (suc (suc depth)) child) (paid + (capacity + 1)) (sum_above m.parents paid_of (suc (suc depth)) child)
       after (peak_above m.parents m.capacity (suc (suc depth)) child) (m.queued child ++ (old ++ garbage))
       (lists_above m.parents garbage_of (suc (suc depth)) child) published (published_above m gained (suc (suc depth)) child) (gained child)
       (omega arith) (sym (peak_is (suc depth) child parent is_child)) (more_garbage (suc depth) child parent grandparent is_child has_parent)
@@ -191,18 +192,18 @@ module _ (tree : Nodes) (is_tree : IsRooted tree.parents) (m : Moment) (same : m
   -- ---- the complete law, where each link has all that its parent has acknowledged
 
   -- such a link on the path, by what was offered to it since
-  abbrev pub LinksHandOn : Type 0
-  LinksHandOn =
+  abbrev pub LinksHandOn : (ℕ → List ℕ → List ℕ → ℕ → List ℕ → Type 0) → Type 0
+  LinksHandOn Law =
       (w parent : ℕ) → OnPath w → parent_at m.parents w ≡ Some parent
       → (offered : List ℕ) × (acked : ℕ) × IsPrefix offered (m.backlog w ++ gained parent)
-      × LinkLaw (m.capacity w) (m.queued w) offered acked (gained w) × (acked ≡ length (m.backlog w ++ gained parent))
+      × Law (m.capacity w) (m.queued w) offered acked (gained w) × (acked ≡ length (m.backlog w ++ gained parent))
 
   abbrev CompleteAt : ℕ → ℕ → Type 0
   CompleteAt depth w =
       CompleteLaw (sum_above m.parents strays_of depth w) (sum_above m.parents missing_of depth w) (lists_above m.parents garbage_of depth w)
       (published_above m gained depth w) (gained w)
 
-  complete_below_root : LinksHandOn → (child : ℕ) → OnPath child → parent_at m.parents child ≡ Some (root_of m.parents) → CompleteAt 1 child
+  complete_below_root : LinksHandOn LinkLaw → (child : ℕ) → OnPath child → parent_at m.parents child ≡ Some (root_of m.parents) → CompleteAt 1 child
   complete_below_root obey child on is_child =
       let (offered, acked, begins, law, all) = obey child (root_of m.parents) on is_child in
       let published : List ℕ = m.backlog child ++ gained (root_of m.parents) in
@@ -214,7 +215,7 @@ module _ (tree : Nodes) (is_tree : IsRooted tree.parents) (m : Moment) (same : m
       (subst (λ xs. CompleteLaw (0 + capacity) (0 + (2 * capacity + 1)) xs published (gained child)) (first_garbage child is_child)
       (complete_below capacity 0 acked (m.queued child) [] published published offered (gained child) begins 0 all (root_has_all published) law))
 
-  complete_below_inner : LinksHandOn → (depth child parent grandparent : ℕ) → OnPath child → parent_at m.parents child ≡ Some parent
+  complete_below_inner : LinksHandOn LinkLaw → (depth child parent grandparent : ℕ) → OnPath child → parent_at m.parents child ≡ Some parent
       → parent_at m.parents parent ≡ Some grandparent → CompleteAt (suc depth) parent → CompleteAt (suc (suc depth)) child
   complete_below_inner obey depth child parent grandparent on is_child has_parent above =
       let (offered, acked, begins, law, all) = obey child parent on is_child in
@@ -236,6 +237,56 @@ module _ (tree : Nodes) (is_tree : IsRooted tree.parents) (m : Moment) (same : m
       (gained child)) (published_is depth child parent is_child)
       (complete_below capacity (strays + length old) acked (m.queued child) (old ++ garbage) published (old ++ gained parent) offered (gained child)
       begins missing all (complete_past_opening strays old garbage published (gained parent) missing above) law)))
+
+  -- ---- and the sharper one
+
+  abbrev SharperCompleteAt : ℕ → ℕ → Type 0
+  SharperCompleteAt depth w =
+      SharperCompleteLaw (sum_above m.parents strays_of depth w) (sum_above m.parents paid_of depth w) (peak_above m.parents m.capacity depth w)
+      (lists_above m.parents garbage_of depth w) (published_above m gained depth w) (gained w)
+
+  all_below_root : LinksHandOn SharperLinkLaw → (child : ℕ) → OnPath child → parent_at m.parents child ≡ Some (root_of m.parents)
+      → SharperCompleteAt 1 child
+  all_below_root obey child on is_child =
+      let (offered, acked, begins, law, all) = obey child (root_of m.parents) on is_child in
+      let published : List ℕ = m.backlog child ++ gained (root_of m.parents) in
+      let capacity : ℕ = m.capacity child in
+      let strays = sum_is 0 child (root_of m.parents) is_child strays_of in
+      let paid = sum_is 0 child (root_of m.parents) is_child paid_of in
+      let peak = peak_is 0 child (root_of m.parents) is_child in
+      same_sharper SharperCompleteLaw (sum_above m.parents strays_of 1 child) (0 + (capacity + 1)) (sum_above m.parents paid_of 1 child)
+      (max 0 (0 + (2 * capacity + 1))) (peak_above m.parents m.capacity 1 child) (m.queued child ++ []) (lists_above m.parents garbage_of 1 child)
+      published published (gained child) (omega arith) (sym peak) (first_garbage child is_child) refl
+      (sharper_larger_complete (0 + capacity) (sum_above m.parents strays_of 1 child) (0 + (capacity + 1)) (max 0 (0 + (2 * capacity + 1)))
+      (m.queued child ++ []) published (gained child) (omega arith)
+      (sharper_complete_below capacity 0 acked (m.queued child) [] published published offered (gained child) begins 0 0 all
+      (sharper_root_has_all published) law))
+
+  all_below_inner : LinksHandOn SharperLinkLaw → (depth child parent grandparent : ℕ) → OnPath child → parent_at m.parents child ≡ Some parent
+      → parent_at m.parents parent ≡ Some grandparent → SharperCompleteAt (suc depth) parent → SharperCompleteAt (suc (suc depth)) child
+  all_below_inner obey depth child parent grandparent on is_child has_parent above =
+      let (offered, acked, begins, law, all) = obey child parent on is_child in
+      let capacity : ℕ = m.capacity child in
+      let strays : ℕ = sum_above m.parents strays_of (suc depth) parent in
+      let paid : ℕ = sum_above m.parents paid_of (suc depth) parent in
+      let peak : ℕ = peak_above m.parents m.capacity (suc depth) parent in
+      let garbage : List ℕ = lists_above m.parents garbage_of (suc depth) parent in
+      let published : List ℕ = published_above m gained (suc depth) parent in
+      let old : List ℕ = m.backlog child in
+      let after : ℕ = max peak (paid + (2 * capacity + 1)) in
+      let strays_are = sum_is (suc depth) child parent is_child strays_of in
+      let paid_are = sum_is (suc depth) child parent is_child paid_of in
+      let as_long = ap (λ xs. length xs) (old_is child parent grandparent is_child has_parent) in
+      same_sharper SharperCompleteLaw (sum_above m.parents strays_of (suc (suc depth)) child) (paid + (capacity + 1))
+      (sum_above m.parents paid_of (suc (suc depth)) child) after (peak_above m.parents m.capacity (suc (suc depth)) child)
+      (m.queued child ++ (old ++ garbage)) (lists_above m.parents garbage_of (suc (suc depth)) child) published
+      (published_above m gained (suc (suc depth)) child) (gained child)
+      (omega arith) (sym (peak_is (suc depth) child parent is_child)) (more_garbage (suc depth) child parent grandparent is_child has_parent)
+      (published_is depth child parent is_child)
+      (sharper_larger_complete (strays + length old + capacity) (sum_above m.parents strays_of (suc (suc depth)) child) (paid + (capacity + 1)) after
+      (m.queued child ++ (old ++ garbage)) published (gained child) (omega arith)
+      (sharper_complete_below capacity (strays + length old) acked (m.queued child) (old ++ garbage) published (old ++ gained parent) offered
+      (gained child) begins paid peak all (sharper_complete_past_opening strays paid peak old garbage published (gained parent) above) law))
 
   -- ---- down the path
 
@@ -271,7 +322,12 @@ module _ (tree : Nodes) (is_tree : IsRooted tree.parents) (m : Moment) (same : m
   sharper_law_of_path obey =
       down_the_path SharperAt (sharper_root (gained (root_of m.parents))) (sharper_below_root obey) (sharper_below_inner obey)
 
-  pub complete_of_path : LinksHandOn → (node : ℕ) → node < length m.parents → OnPath node
+  pub complete_of_path : LinksHandOn LinkLaw → (node : ℕ) → node < length m.parents → OnPath node
       → CompleteLaw (strays_since m node) (missing_since m node) (garbage_since m node) (published_since m gained node) (gained node)
   complete_of_path obey =
       down_the_path CompleteAt (root_has_all (gained (root_of m.parents))) (complete_below_root obey) (complete_below_inner obey)
+
+  pub sharper_complete_of_path : LinksHandOn SharperLinkLaw → (node : ℕ) → node < length m.parents → OnPath node
+      → SharperCompleteSince m gained node
+  sharper_complete_of_path obey =
+      down_the_path SharperCompleteAt (sharper_root_has_all (gained (root_of m.parents))) (all_below_root obey) (all_below_inner obey)

@@ -10,7 +10,7 @@ use Rattle.std.specs.Option.{option_map_or}
 use Rattle.stab_tree.specs.Nodes.{parent_at, root_of}
 use Rattle.stab_tree.specs.Steps.{depth_of}
 use Rattle.stab_treecore.specs.Paths.{path_lists, path_sum}
-use Rattle.stab_treecore.specs.SharperLaw.{SharperTreeLaw, peak_above}
+use Rattle.stab_treecore.specs.SharperLaw.{SharperCompleteLaw, SharperTreeLaw, peak_above}
 use Rattle.stab_treecore.specs.TreeLaw.{TreeLaw}
 
 pub record Moment : Type 0 where
@@ -38,6 +38,10 @@ strays_since m node = path_sum m.parents (λ w. m.capacity w + length (old_backl
 abbrev pub missing_since : Moment → ℕ → ℕ
 missing_since m node = path_sum m.parents (λ w. 2 * m.capacity w + 1) node
 
+-- and by the sharper law: 2c + 1 for one link, and c + 1 for each above it, where that is most
+abbrev pub fewest_since : Moment → ℕ → ℕ
+fewest_since m node = peak_above m.parents m.capacity (depth_of m.parents node) node
+
 -- what the strays are of
 abbrev pub garbage_since : Moment → ℕ → List ℕ
 garbage_since m node = path_lists m.parents (λ w. m.queued w ++ old_backlog m w) node
@@ -63,5 +67,10 @@ LawSince m gained node =
 abbrev pub SharperLawSince : Moment → (ℕ → List ℕ) → ℕ → Type 0
 SharperLawSince m gained node =
     SharperTreeLaw (strays_since m node) (path_sum m.parents (λ w. m.capacity w + 1) node)
-    (peak_above m.parents m.capacity (depth_of m.parents node) node) (garbage_since m node)
-    (published_since m gained node) (gained node)
+    (fewest_since m node) (garbage_since m node) (published_since m gained node) (gained node)
+
+-- the complete law, where no more than the sharper one allows are missing
+abbrev pub SharperCompleteSince : Moment → (ℕ → List ℕ) → ℕ → Type 0
+SharperCompleteSince m gained node =
+    SharperCompleteLaw (strays_since m node) (path_sum m.parents (λ w. m.capacity w + 1) node)
+    (fewest_since m node) (garbage_since m node) (published_since m gained node) (gained node)

@@ -154,7 +154,7 @@ without_and_strays net node =
     (λ w. omega arith)
 
 -- one link that adds 2c + 1 adds no more than if all do
-peak_no_more : (parents : List (Option ℕ)) (capacity : ℕ → ℕ) (count node : ℕ)
+pub peak_no_more : (parents : List (Option ℕ)) (capacity : ℕ → ℕ) (count node : ℕ)
     → peak_above parents capacity count node ≤ sum_above parents (λ w. 2 * capacity w + 1) count node
 peak_no_more parents capacity zero node = omega arith
 peak_no_more parents capacity (suc count) node =

@@ -9,7 +9,7 @@ use Rattle.std.proofs.lemmas.List.Elements.{Contains-get_or, Contains-append_cas
 use Rattle.stab_core.specs.Picks.{AllBelow, Picks}
 use Rattle.stab_core.specs.LinkLaw.{HalfLawAt, NoneMissing, NoneMissingFrom, HalfLaw, LinkLaw, LinkLawWithin, SharperLinkLaw}
 use Rattle.stab_core.proofs.ForCallers.{below_bound, few_picked, at_places, picks_chosen, picks_of_prefix, length_picked, raised, picks_joined, Parted, parted, items_parted, member_is_at, at_is_member, lower_is_earlier, member_is_raised, member_is_chosen, chosen_is_member, raised_is_member, member_is_below, IsAt}
-use Rattle.stab_treecore.specs.SharperLaw.{SharperTreeLaw}
+use Rattle.stab_treecore.specs.SharperLaw.{SharperCompleteLaw, SharperTreeLaw}
 use Rattle.stab_treecore.specs.TreeLaw.{HalfTreeLawAt, NoneMissingBefore, HalfTreeLaw, TreeLaw, CompleteLaw}
 use Rattle.stab_treecore.proofs.Members.{enough_before, enough_up_to}
 use Rattle.stab_treecore.proofs.Root.{all_places, all_picked, all_lower, all_there}
@@ -186,25 +186,90 @@ module _ (capacity most_strays acked : ℕ) (start_items garbage published recei
         child_has first i q m on_link before last there
         (far_enough without first i q m at_parent last_above (omega arith) before there)
 
-    -- where no published item is missing at the parent, and the link has all of the parent's list
-    -- acknowledged, none is missing at the child
+    -- ---- where the link has all of the parent's list acknowledged
+
+    -- the child has a published item that the parent has so far on
+    child_has_acked : (first i m : ℕ) → acked ≡ length received → NoneMissingFrom first acked places → IsAt above i m
+        → first ≤ length up.strays + m → Contains (at_places above parts.high) i
+    child_has_acked first i m all_acked on_link there enough =
+        let low = parts.low in
+        let high = parts.high in
+        let strays = length up.strays in
+        let as_many : length up.taken ≡ length above = length_picked published above up.taken up.taken_picked in
+        let in_all : length received ≡ strays + length up.taken = ap (λ xs. length xs) up.parts ∙ length-append up.strays up.taken in
+        let acked_before : strays + m < acked = omega (arith, there.within) in
+        let taken_here : Contains places (strays + m) = on_link (strays + m) enough acked_before in
+        let chosen : Contains high m =
+        member_is_raised strays m low high parts.low_below (subst (λ ps. Contains ps (strays + m)) parts.both taken_here) in
+        subst (λ x. Contains (at_places above high) x) there.is_there (chosen_is_member above high m chosen)
+
+    -- where no published item is missing at the parent, none is missing at the child
     child_has_all : (most_missing : ℕ) → acked ≡ length received → NoneMissingFrom most_missing (length published) above
         → NoneMissing capacity acked places
         → NoneMissingFrom (most_missing + (2 * capacity + 1)) (length published) (at_places above parts.high)
     child_has_all most_missing all_acked at_parent on_link i enough before =
-        let low = parts.low in
-        let high = parts.high in
-        let strays = length up.strays in
         let (m, there) = member_is_at above i (at_parent i (omega arith) before) in
         let far_enough : 2 * capacity + 1 ≤ m =
         enough_up_to most_missing (2 * capacity + 1) (length published) i m above at_parent up.taken_picked.rising enough before there in
-        let as_many : length up.taken ≡ length above = length_picked published above up.taken up.taken_picked in
+        child_has_acked (2 * capacity + 1) i m all_acked on_link there (omega arith)
+
+    -- the child has each of the parent's strays but those that were missing on the link
+    strays_acked : (first : ℕ) → acked ≡ length received → NoneMissingFrom first acked places → length up.strays ≤ first + length parts.low
+    strays_acked first all_acked on_link =
+        let low = parts.low in
+        let strays = length up.strays in
         let in_all : length received ≡ strays + length up.taken = ap (λ xs. length xs) up.parts ∙ length-append up.strays up.taken in
-        let acked_before : strays + m < acked = omega (arith, there.within) in
-        let taken_here : Contains places (strays + m) = on_link (strays + m) (omega arith) acked_before in
-        let chosen : Contains high m =
-        member_is_raised strays m low high parts.low_below (subst (λ ps. Contains ps (strays + m)) parts.both taken_here) in
-        subst (λ x. Contains (at_places above high) x) there.is_there (chosen_is_member above high m chosen)
+        elim (cases_lt first strays) [
+          | inl more ↦
+              let kept : NoneMissingFrom first strays low =
+              λ v from below. member_is_low strays v low parts.high below
+              (subst (λ ps. Contains ps v) parts.both (on_link v from (omega arith))) in
+              let (m, there) = member_is_at low (strays - 1) (kept (strays - 1) (omega arith) (omega arith)) in
+              let enough : strays - 1 - first ≤ m =
+              enough_up_to first (strays - 1 - first) strays (strays - 1) m low kept parts.low_rise (omega arith) (omega arith) there in
+              omega (arith, there.within)
+          | inr few ↦ omega arith
+        ]
+
+    -- how far an item is in the parent's list that comes so much after those that strays were in
+    -- the place of
+    far_among_all : (without first i m : ℕ) → NoneMissingFrom (without + length up.strays) (length published) above → without + first ≤ i
+        → i < length published → IsAt above i m → first ≤ length up.strays + m
+    far_among_all without first i m at_parent enough before there =
+        let strays = length up.strays in
+        elim (cases_lt strays first) [
+          | inl few ↦
+              let counted : first - strays ≤ m =
+              enough_up_to (without + strays) (first - strays) (length published) i m above at_parent up.taken_picked.rising (omega arith) before there in
+              omega arith
+          | inr many ↦ omega arith
+        ]
+
+    -- the sharper bounds of the complete law
+    child_has_all_but_few : (without : ℕ) → acked ≡ length received → NoneMissingFrom (without + length up.strays) (length published) above
+        → NoneMissingFrom (capacity + 1 + length link.strays) acked places
+        → NoneMissingFrom (without + (capacity + 1) + length (link.strays ++ at_places up.strays parts.low)) (length published)
+        (at_places above parts.high)
+    child_has_all_but_few without all_acked at_parent on_link i enough before =
+        let first : ℕ = capacity + 1 + length link.strays in
+        let strays : length (link.strays ++ at_places up.strays parts.low) ≡ length link.strays + length parts.low =
+        length-append link.strays (at_places up.strays parts.low)
+        ∙ ap (λ n. length link.strays + n) (length-map parts.low (slice_index up.strays)) in
+        let kept = strays_acked first all_acked on_link in
+        let (m, there) = member_is_at above i (at_parent i (omega arith) before) in
+        child_has_acked first i m all_acked on_link there (far_among_all without first i m at_parent (omega arith) before there)
+
+    child_has_all_but_most : (without most_missing : ℕ) → acked ≡ length received
+        → NoneMissingFrom (without + length up.strays) (length published) above → NoneMissingFrom most_missing (length published) above
+        → NoneMissingFrom (capacity + 1 + length link.strays) acked places
+        → NoneMissingFrom (max most_missing (without + (2 * capacity + 1))) (length published) (at_places above parts.high)
+    child_has_all_but_most without most_missing all_acked at_parent at_most on_link i enough before =
+        let first : ℕ = capacity + 1 + length link.strays in
+        let few = link.few_strays in
+        let more = le-max_left most_missing (without + (2 * capacity + 1)) in
+        let later = le-max_right most_missing (without + (2 * capacity + 1)) in
+        let (m, there) = member_is_at above i (at_most i (omega arith) before) in
+        child_has_acked first i m all_acked on_link there (far_among_all without first i m at_parent (omega arith) before there)
 
   -- the half tree law of the child
   pub half_below : HalfTreeLaw most_strays garbage published received → HalfLaw capacity start_items offered acked delivered
@@ -250,6 +315,20 @@ module _ (capacity most_strays acked : ℕ) (start_items garbage published recei
     child_has_all above places up link most_missing all_acked at_parent on_link,
   )
 
+  -- and the sharper one
+  pub sharper_complete_below : (without most_missing : ℕ) → acked ≡ length received
+      → SharperCompleteLaw most_strays without most_missing garbage published received
+      → SharperLinkLaw capacity start_items offered acked delivered
+      → SharperCompleteLaw (most_strays + capacity) (without + (capacity + 1)) (max most_missing (without + (2 * capacity + 1)))
+      (start_items ++ garbage) published delivered
+  unfolding child_half
+  sharper_complete_below without most_missing all_acked (above, up, at_parent, at_most) (places, link, on_link) = (
+    at_places above (parts above places up link).high,
+    child_half above places up link,
+    child_has_all_but_few above places up link without all_acked at_parent on_link,
+    child_has_all_but_most above places up link without most_missing all_acked at_parent at_most on_link,
+  )
+
 -- ---- a list that begins with an opening
 
 module _ (most_strays : ℕ) (opening garbage published delivered : List ℕ) where
@@ -293,6 +372,18 @@ sharper_past_opening most_strays without most_missing opening garbage published 
   at_most,
 )
 
+-- and the sharper complete one
+pub sharper_complete_past_opening : (most_strays without most_missing : ℕ) (opening garbage published delivered : List ℕ)
+    → SharperCompleteLaw most_strays without most_missing garbage published delivered
+    → SharperCompleteLaw (most_strays + length opening) without most_missing (opening ++ garbage) published (opening ++ delivered)
+unfolding half_past_opening
+sharper_complete_past_opening most_strays without most_missing opening garbage published delivered (places, half, few, at_most) = (
+  places,
+  half_past_opening most_strays opening garbage published delivered places half,
+  λ i enough before. few i (omega (arith, length-append opening half.strays)) before,
+  at_most,
+)
+
 -- ---- the root, and larger bounds
 
 -- the root has every published item and no stray
@@ -323,6 +414,15 @@ sharper_root published = (
   root_half published,
   λ i q enough before last. all_lower published i q before last,
   λ i q enough before last. all_lower published i q before last,
+)
+
+pub sharper_root_has_all : (published : List ℕ) → SharperCompleteLaw 0 0 0 [] published published
+unfolding root_half
+sharper_root_has_all published = (
+  all_places published,
+  root_half published,
+  λ i enough before. all_there published i before,
+  λ i enough before. all_there published i before,
 )
 
 -- larger bounds hold where smaller ones do
@@ -358,6 +458,13 @@ sharper_larger few most_strays without first most_missing garbage published rece
   paid,
   λ i q enough before last. at_most i q (omega arith) before last,
 )
+
+pub sharper_larger_complete : (few most_strays without most_missing : ℕ) (garbage published received : List ℕ)
+    → few ≤ most_strays → SharperCompleteLaw few without most_missing garbage published received
+    → SharperCompleteLaw most_strays without most_missing garbage published received
+unfolding more_strays
+sharper_larger_complete few most_strays without most_missing garbage published received more (places, half, paid, at_most) =
+    (places, more_strays few most_strays garbage published received places more half, paid, at_most)
 
 pub larger_complete : (few most_strays first most_missing : ℕ) (garbage published received : List ℕ)
     → few ≤ most_strays → first ≤ most_missing

@@ -10,6 +10,7 @@
 use Rattle.std.specs.Prelude.{ℕ, zero, suc, ◌+◌, ◌*◌, ◌<◌, List, length}
 use Rattle.std.specs.Prelude.{Option, max}
 use Rattle.std.specs.Option.{option_map_or}
+use Rattle.stab_core.specs.LinkLaw.{NoneMissingFrom}
 use Rattle.stab_tree.specs.Nodes.{parent_at}
 use Rattle.stab_tree.specs.Steps.{depth_of}
 use Rattle.stab_treecore.specs.Network.{Network}
@@ -25,6 +26,14 @@ SharperTreeLaw most_strays without_strays most_missing garbage published receive
     (places : List ℕ) × (half : HalfTreeLawAt most_strays garbage published received places)
     × NoneMissingBefore (without_strays + length half.strays) places
     × NoneMissingBefore most_missing places
+
+-- the sharper complete law: the half tree law, and no published item is missing but among as many
+-- of the first ones
+abbrev pub SharperCompleteLaw : ℕ → ℕ → ℕ → List ℕ → List ℕ → List ℕ → Type 0
+SharperCompleteLaw most_strays without_strays most_missing garbage published received =
+    (places : List ℕ) × (half : HalfTreeLawAt most_strays garbage published received places)
+    × NoneMissingFrom (without_strays + length half.strays) (length published) places
+    × NoneMissingFrom most_missing (length published) places
 
 -- how many may be missing at a node that has received no stray: c + 1 for each link on its path
 abbrev pub missing_without_strays : Network → ℕ → ℕ
