@@ -1,12 +1,12 @@
--- Once more than M items are published in a node's count, and all is handed on, each link of its
--- path has acknowledged 2c + 2 of them.
+-- Once enough items are published in a node's count, and all is handed on, each link of its path has
+-- acknowledged 2c + 2 of them.
 use Rattle.std.proofs.Common.{◌≡◌, ℕ, zero, suc, ◌+◌, ◌-◌, ◌*◌, ◌<◌, ◌≤◌, List, [], ◌++◌, length, slice_index, Some, None, refl, ap, sym, ◌∙◌, subst, inl, inr, arith}
 use Rattle.std.specs.Option.{option_map_or}
 use Rattle.std.proofs.lemmas.Bool.{cases_lt}
 use Rattle.std.proofs.lemmas.List.{length-append, length-map}
 use Rattle.std.proofs.lemmas.Option.{none-some, same_Some}
 use Rattle.stab_core.specs.Link.{LinkValue}
-use Rattle.stab_core.specs.LinkLaw.{LinkLaw, NoneMissingFrom}
+use Rattle.stab_core.specs.LinkLaw.{NoneMissingFrom, SharperLinkLaw}
 use Rattle.stab_core.specs.Picks.{RisesFrom}
 use Rattle.stab_core.proofs.ForCallers.{member_is_at}
 use Rattle.stab_tree.specs.Nodes.{Nodes, parent_at, root_of}
@@ -17,17 +17,19 @@ use Rattle.stab_tree.proofs.Trees.{tree_depths}
 use Rattle.stab_treecore.specs.TreeLaw.{CompleteLaw}
 use Rattle.stab_treecore.specs.WholeTree.{WholeTree, received}
 use Rattle.stab_treecore.proofs.Members.{enough_up_to}
+use Rattle.stab_treecore.proofs.SharperNodes.{peak_no_more}
 use Rattle.stab_faults.specs.declared.change.Change.{Change}
 use Rattle.stab_faults.specs.Changes.{changes_replay}
 use Rattle.stab_faults.specs.Hits.{Spare}
-use Rattle.stab_faults.specs.Moment.{missing_since, published_above, published_since}
+use Rattle.stab_faults.specs.Moment.{fewest_since, missing_since, published_above, published_since}
 use Rattle.stab_faults.specs.Since.{IsState, acked_at, backlog, capacity_at, gained, moment}
 use Rattle.stab_faults.proofs.Kept.{none_or_some, OnPath, path_up}
-use Rattle.stab_faults.proofs.NodesSince.{complete_since, feed_counts, since_spared}
+use Rattle.stab_faults.proofs.NodesSince.{feed_counts, sharper_complete_since, since_spared}
 use Rattle.stab_faults.proofs.Obeying.{ObeysSince}
 use Rattle.stab_faults.proofs.Beneath.{spare_up}
 use Rattle.stab_convergence.specs.Converged.{HasConverged}
 use Rattle.stab_convergence.specs.Exact.{IsPathClean}
+use Rattle.stab_convergence.specs.Meanwhile.{IsEnough}
 use Rattle.stab_convergence.proofs.Lags.{path_below}
 
 -- where none below `bound` is missing but among the first `first` ones, there are at least
@@ -56,12 +58,12 @@ has_most strays missing garbage published list (places, half, all) =
       length-map places (λ place. slice_index published place),
     )
 
-module _ (obey : ObeysSince LinkLaw) (tree : Nodes) (s : WholeTree) (changes : List Change) (is : IsState tree s) where
+module _ (obey : ObeysSince SharperLinkLaw) (tree : Nodes) (s : WholeTree) (changes : List Change) (is : IsState tree s) where
   abbrev t : WholeTree
   t = changes_replay s changes
 
-  abbrev missing_of : ℕ → ℕ
-  missing_of w = missing_since (moment s) w
+  abbrev fewest_of : ℕ → ℕ
+  fewest_of w = fewest_since (moment s) w
 
   abbrev published_of : ℕ → List ℕ
   published_of w = published_since (moment s) (gained s t) w
@@ -71,7 +73,7 @@ module _ (obey : ObeysSince LinkLaw) (tree : Nodes) (s : WholeTree) (changes : L
     is_node : node < length s.parents
     spare : Spare s.parents node changes
     all : (w parent : ℕ) → OnPath s node w → parent_at s.parents w ≡ Some parent → acked_at t w ≡ length (received t parent)
-    many : missing_of node < length (published_of node)
+    many : IsEnough s t node
 
   depth_below : (child parent : ℕ) → parent_at s.parents child ≡ Some parent → depth_of s.parents child ≡ suc (depth_of s.parents parent)
   depth_below child parent is_child =
@@ -88,9 +90,6 @@ module _ (obey : ObeysSince LinkLaw) (tree : Nodes) (s : WholeTree) (changes : L
       ∙ (ap (λ o. option_map_or (published_above (moment s) (gained s t) (suc (depth_of s.parents above))) o []) is_child
       ∙ ap (λ d. published_above (moment s) (gained s t) d parent) (sym deep))
 
-  more_missing : (child parent : ℕ) → parent_at s.parents child ≡ Some parent → missing_of child ≡ 2 * capacity_at s child + 1 + missing_of parent
-  more_missing child parent is_child = path_below tree s is (λ w. 2 * capacity_at s w + 1) child parent is_child
-
   is_known : (child parent : ℕ) → parent_at s.parents child ≡ Some parent → parent < length s.parents
   is_known child parent is_child =
       subst (λ ps. parent_at ps child ≡ Some parent → parent < length ps) (sym is.parents) (is.is_tree.known_parents child parent) is_child
@@ -104,17 +103,17 @@ module _ (obey : ObeysSince LinkLaw) (tree : Nodes) (s : WholeTree) (changes : L
     spare = spare_up s.parents child parent is_child changes asked.spare;
     all = λ w up on. asked.all w up (on_path_above child parent w is_child on);
     many =
+        λ w up on at.
         omega (
           arith,
-          asked.many,
-          more_missing child parent is_child,
+          asked.many w up (on_path_above child parent w is_child on) at,
           ap (λ xs. length xs) (same_published child parent above is_child has_parent),
         );
   }
 
   -- so much is offered to a child as is published, but for the first items
   feed_is_long : (child parent : ℕ) → parent_at s.parents child ≡ Some parent → Asked child
-      → length (published_of child) ≤ missing_of parent + length (backlog s child ++ gained s t parent)
+      → length (published_of child) ≤ fewest_of parent + length (backlog s child ++ gained s t parent)
   feed_is_long child parent is_child asked =
       elim (none_or_some (parent_at s.parents parent)) [
         | inl none ↦
@@ -128,10 +127,10 @@ module _ (obey : ObeysSince LinkLaw) (tree : Nodes) (s : WholeTree) (changes : L
             omega (arith, ap (λ xs. length xs) feed)
         | inr (above, has_parent) ↦
             let up = asked_above child parent above is_child has_parent asked in
-            let law = complete_since tree s changes parent is up.is_node up.spare obey up.all in
+            let (places, half, few, at_most) = sharper_complete_since tree s changes parent is up.is_node up.spare obey up.all in
             omega (
               arith,
-              has_most _ (missing_of parent) _ (published_of parent) (gained s t parent) law,
+              has_most _ (fewest_of parent) _ (published_of parent) (gained s t parent) (places, half, at_most),
               ap (λ xs. length xs) (same_published child parent above is_child has_parent),
               length-append (backlog s child) (gained s t parent),
             )
@@ -148,8 +147,7 @@ module _ (obey : ObeysSince LinkLaw) (tree : Nodes) (s : WholeTree) (changes : L
       let since = since_spared tree s changes child is asked.is_node asked.spare in
       omega (
         arith,
-        asked.many,
-        more_missing child parent is_child,
+        asked.many child parent (0, refl) is_child,
         feed_is_long child parent is_child asked,
         feed_counts tree s is t (OnPath s child) (OnPath s child) (path_up s child) since child parent (0, refl) is_child,
         asked.all child parent (0, refl) is_child,
@@ -187,16 +185,15 @@ module _ (obey : ObeysSince LinkLaw) (tree : Nodes) (s : WholeTree) (changes : L
   -- each link of the path of such a node
   pub path_is_clean : (node : ℕ) → node < length s.parents → Spare s.parents node changes
       → ((w parent : ℕ) → OnPath s node w → parent_at s.parents w ≡ Some parent → acked_at t w ≡ length (received t parent))
-      → missing_since (moment s) node < length (published_since (moment s) (gained s t) node)
-      → (w parent : ℕ) → Reaches s.parents node w → parent_at s.parents w ≡ Some parent
+      → IsEnough s t node → (w parent : ℕ) → Reaches s.parents node w → parent_at s.parents w ≡ Some parent
       → acked_at s w + 2 * capacity_at s w + 2 ≤ acked_at t w
   path_is_clean node is_node spare all many w parent on is_child =
       clean_up on.0 node w parent (record { is_node = is_node; spare = spare; all = all; many = many }) on.1 is_child
 
 -- so each link of the path of a node that has come back
-pub clean_by_then : ObeysSince LinkLaw → (tree : Nodes) (s : WholeTree) (changes : List Change) (node : ℕ) → IsState tree s
+pub clean_by_then : ObeysSince SharperLinkLaw → (tree : Nodes) (s : WholeTree) (changes : List Change) (node : ℕ) → IsState tree s
     → node < length s.parents → Spare s.parents node changes → let t = changes_replay s changes in
-    HasConverged s t node → missing_since (moment s) node < length (published_since (moment s) (gained s t) node) → IsPathClean s t node
+    HasConverged s t node → IsEnough s t node → IsPathClean s t node
 clean_by_then obey tree s changes node is is_node spare converged many =
     let t = changes_replay s changes in
     let same : t.parents ≡ s.parents = (since_spared tree s changes node is is_node spare).parents_stay in
@@ -206,3 +203,26 @@ clean_by_then obey tree s changes node is is_node spare converged many =
     converged.handed_on w parent (subst (λ ps. Reaches ps node w) (sym same) on) (ap (λ ps. parent_at ps w) same ∙ is_child) in
     ap (λ o. option_map_or (λ (l : LinkValue). l.state.acked) o 0) there ∙ all)
     many
+
+-- more items than may be missing at the node are enough
+pub more_than_missing : (tree : Nodes) (s m : WholeTree) (node : ℕ) → IsState tree s
+    → missing_since (moment s) node < length (published_since (moment s) (gained s m) node) → IsEnough s m node
+more_than_missing tree s m node is many w parent (steps, leads) is_child =
+    omega (arith, many, no_fewer steps node leads, more_missing w parent is_child, no_more_above)
+  where
+    more_missing : (child above : ℕ) → parent_at s.parents child ≡ Some above
+        → missing_since (moment s) child ≡ 2 * capacity_at s child + 1 + missing_since (moment s) above
+    more_missing child above is_child = path_below tree s is (λ v. 2 * capacity_at s v + 1) child above is_child
+
+    no_more_above : fewest_since (moment s) parent ≤ missing_since (moment s) parent
+    no_more_above = peak_no_more s.parents (capacity_at s) (depth_of s.parents parent) parent
+
+    -- no more may be missing above
+    no_fewer : (k v : ℕ) → ancestor s.parents k v ≡ Some w → missing_since (moment s) w ≤ missing_since (moment s) v
+    no_fewer zero v here = subst (λ u. missing_since (moment s) w ≤ missing_since (moment s) u) (sym (same_Some v w here)) (omega arith)
+    no_fewer (suc k) v up =
+        elim (none_or_some (parent_at s.parents v)) [
+          | inl none ↦ absurd (none-some w (sym (ancestor-none s.parents k v none) ∙ up))
+          | inr (u, has_parent) ↦
+              omega (arith, no_fewer k u (sym (ancestor-suc s.parents k v u has_parent) ∙ up), more_missing v u has_parent)
+        ]

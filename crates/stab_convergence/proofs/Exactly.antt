@@ -109,7 +109,7 @@ module _ (tree : Nodes) (s : WholeTree) (is : IsState tree s) (node : ℕ) (is_n
               let held : List ℕ = drop link.from (received middle parent) in
               record {
                 waiting = held ++ above.waiting;
-                on_path = (parent, link.from, above.waiting, is_child, link.no_earlier, link.no_later, refl, above.on_path);
+                on_path = (parent, link.from, above.waiting, is_child, omega (arith, link.no_earlier), omega (arith, link.no_later), refl, above.on_path);
                 at_rest =
                     λ rest.
                     let acked : acked_at middle w ≡ length (received middle parent) = all_acked middle w parent (rest w parent on is_child) in

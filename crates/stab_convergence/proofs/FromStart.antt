@@ -3,7 +3,7 @@
 use Rattle.std.proofs.Common.{◌≡◌, ℕ, zero, suc, ◌+◌, ◌<◌, ◌≤◌, List, [], ◌∷◌, ◌++◌, length, map, get_or, Option, Some, None, option_map, refl, ap, sym, ◌∙◌, length-append, arith}
 use Rattle.std.specs.Option.{option_map_or}
 use Rattle.stab_core.specs.Link.{LinkValue, link_at}
-use Rattle.stab_core.specs.LinkLaw.{LinkLaw}
+use Rattle.stab_core.specs.LinkLaw.{LinkLaw, SharperLinkLaw}
 use Rattle.stab_core.specs.LinkSetup.{LinkSetup}
 use Rattle.stab_core.specs.Replay.{initial}
 use Rattle.stab_tree.specs.ByChild.{by_child}
@@ -121,11 +121,11 @@ module _ (net : Network) (is : IsNetwork net) where
       ap (λ o. option_map_or (reading_rounds_below net) o 0) is_child in
       omega (arith, few_at parent is_node, paid_at parent is_node, counts, since, arrives, path_below net.tree s is_state had node parent is_child)
 
-  pub from_start : ObeysSince LinkLaw → PassesOnExactly → (changes later : List Change) (rounds node parent : ℕ)
+  pub from_start : ObeysSince LinkLaw → ObeysSince SharperLinkLaw → PassesOnExactly → (changes later : List Change) (rounds node parent : ℕ)
       → parent_at net.tree.parents node ≡ Some parent → Spare net.tree.parents node (changes ++ later)
       → IsPathOpen (changes_replay (initial_tree net) changes) node → PathRounds (initial_tree net) node rounds changes
       → arrival_reading_rounds net node ≤ rounds
       → HasAllBefore (initial_tree net) (initial_tree net) (changes_replay (initial_tree net) (changes ++ later)) node
-  from_start obey exactly changes later rounds node parent is_child spare is_open are_rounds many =
-      has_all_before obey exactly net.tree s [] changes later node is_state (child_is_node parents node parent is_child) spare is_state rounds is_open
+  from_start obey sharper exactly changes later rounds node parent is_child spare is_open are_rounds many =
+      has_all_before obey sharper exactly net.tree s [] changes later node is_state (child_is_node parents node parent is_child) spare is_state rounds is_open
       are_rounds (omega (arith, many, enough node parent is_child))

@@ -11,3 +11,4 @@ pub mod Follows
 pub mod Ahead
 pub mod Meanwhile
 pub mod Onwards
+pub mod ByDepth

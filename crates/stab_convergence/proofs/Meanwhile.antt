@@ -1,13 +1,13 @@
 -- After `rounds_since` reading rounds of a node's path, counted at a moment, the node has all that
 -- was published before, whatever is published meanwhile: it has what it would have after the acts
 -- alone, and more behind.
-use Rattle.std.proofs.Common.{◌≡◌, ℕ, zero, suc, ◌<◌, ◌≤◌, inl, inr, List, [], ◌++◌, length, drop, Option, Some, None, refl, ap, sym, ◌∙◌, subst, arith}
+use Rattle.std.proofs.Common.{◌≡◌, ℕ, zero, suc, ◌+◌, ◌<◌, ◌≤◌, inl, inr, List, [], ◌++◌, length, drop, Option, Some, None, refl, ap, sym, ◌∙◌, subst, arith}
 use mathlib.Core.List.{IsPrefix}
 use Rattle.std.specs.Option.{option_map_or}
 use Rattle.std.proofs.lemmas.List.{length-append, length-drop, nil_from_length}
 use Rattle.std.proofs.lemmas.Option.{same_Some}
 use Rattle.stab_core.specs.Link.{LinkValue, link_at}
-use Rattle.stab_core.specs.LinkLaw.{LinkLaw}
+use Rattle.stab_core.specs.LinkLaw.{LinkLaw, SharperLinkLaw}
 use Rattle.stab_core.proofs.Shifted.{after_all}
 use Rattle.stab_tree.specs.Nodes.{Nodes, parent_at, root_of}
 use Rattle.stab_tree.specs.Steps.{Reaches, depth_of}
@@ -17,18 +17,20 @@ use Rattle.stab_treecore.specs.WholeTree.{WholeTree, received}
 use Rattle.stab_faults.specs.declared.change.Change.{Change}
 use Rattle.stab_faults.specs.Changes.{changes_replay}
 use Rattle.stab_faults.specs.Hits.{Spare}
-use Rattle.stab_faults.specs.Moment.{Moment, garbage_since, missing_since, published_above, published_since, strays_since}
-use Rattle.stab_faults.specs.Since.{IsState, gained, moment}
+use Rattle.stab_faults.specs.Moment.{Moment, SharperCompleteSince, fewest_since, garbage_since, missing_since, published_above, published_since, strays_since}
+use Rattle.stab_faults.specs.Since.{IsState, acked_at, capacity_at, gained, moment}
 use Rattle.stab_faults.proofs.Contained.{changes-append}
 use Rattle.stab_faults.proofs.Grown.{dropped_front, prefix_no_longer}
 use Rattle.stab_faults.proofs.Kept.{none_or_some, OnPath, path_up}
-use Rattle.stab_faults.proofs.NodesSince.{since_spared}
+use Rattle.stab_faults.proofs.NodesSince.{sharper_complete_since, since_spared}
 use Rattle.stab_faults.proofs.Obeying.{ObeysSince, PassesOnExactly}
+use Rattle.stab_treecore.specs.Paths.{path_sum}
+use Rattle.stab_treecore.specs.SharperLaw.{SharperCompleteLaw}
 use Rattle.stab_treecore.specs.TreeLaw.{CompleteLaw}
 use Rattle.stab_rounds.proofs.TreeSteps.{replay_append, root_has}
 use Rattle.stab_convergence.specs.Converged.{HasConverged, IsPathHandedOn}
 use Rattle.stab_convergence.specs.Exact.{IsPathClean}
-use Rattle.stab_convergence.specs.Meanwhile.{HasAllBefore}
+use Rattle.stab_convergence.specs.Meanwhile.{HasAllBefore, IsEnough}
 use Rattle.stab_convergence.specs.PathRounds.{acts_among, IsPathOpen, PathRounds, rounds_since}
 use Rattle.stab_convergence.proofs.Ahead.{Ahead, acked_no_less, ahead_of_acts, front, links_stay, lists_stay, past, root_list, same}
 use Rattle.stab_convergence.proofs.Converges.{converges}
@@ -51,7 +53,7 @@ published_alike m g h equal (suc (suc count)) w at_root =
     same_above (published_above m g (suc count)) (published_above m h (suc count))
     (λ parent. published_alike m g h equal (suc count) parent (λ never. absurd (omega (arith, never)))) (parent_at m.parents w)
 
-module _ (obey : ObeysSince LinkLaw) (exactly : PassesOnExactly) (tree : Nodes) (s : WholeTree) (before after later : List Change) (node : ℕ)
+module _ (obey : ObeysSince LinkLaw) (sharper : ObeysSince SharperLinkLaw) (exactly : PassesOnExactly) (tree : Nodes) (s : WholeTree) (before after later : List Change) (node : ℕ)
     (is : IsState tree s) (is_node : node < length s.parents) (spare : Spare s.parents node (before ++ (after ++ later)))
     (is_middle : IsState tree (changes_replay s before)) where
   abbrev m : WholeTree
@@ -156,13 +158,25 @@ module _ (obey : ObeysSince LinkLaw) (exactly : PassesOnExactly) (tree : Nodes) 
         ap (λ xs. drop (length xs) (received t (root_of m.parents))) root_same
         ∙ ap (λ ps. gained m t (root_of ps)) (sym ahead.first_parents)
 
-    -- if more than M items were published, the path was clean by then
-    module _ (many : missing_since (moment s) node < length (published_since (moment s) (gained s m) node)) where
+    -- the acts alone leave no more missing than the sharper law allows
+    acted_sharper : SharperCompleteSince (moment s) (gained s acted) node
+    acted_sharper =
+        subst (λ u. ((w parent : ℕ) → OnPath s node w → parent_at s.parents w ≡ Some parent → acked_at u w ≡ length (received u parent))
+        → SharperCompleteSince (moment s) (gained s u) node) whole
+        (sharper_complete_since tree s (before ++ acts) node is is_node acts_spared sharper)
+        (λ w parent on is_child.
+        let parents_stay : acted.parents ≡ s.parents = ahead.sound.parents_stay ∙ same_parents in
+        let (link, there, all, empty) =
+        converged.handed_on w parent (subst (λ ps. Reaches ps node w) (sym parents_stay) on) (ap (λ ps. parent_at ps w) parents_stay ∙ is_child) in
+        ap (λ o. option_map_or (λ (l : LinkValue). l.state.acked) o 0) there ∙ all)
+
+    -- if enough was published, the path was clean by then
+    module _ (many : IsEnough s m node) where
       acted_clean : IsPathClean s acted node
       acted_clean =
-          subst (λ u. HasConverged s u node → missing_since (moment s) node < length (published_since (moment s) (gained s u) node) → IsPathClean s u node)
-          whole (clean_by_then obey tree s (before ++ acts) node is is_node acts_spared) converged
-          (subst (λ xs. missing_since (moment s) node < length xs) (sym published_same) many)
+          subst (λ u. HasConverged s u node → IsEnough s u node → IsPathClean s u node) whole
+          (clean_by_then sharper tree s (before ++ acts) node is is_node acts_spared) converged
+          (λ w parent on is_child. omega (arith, many w parent on is_child, ap (λ xs. length xs) published_same))
 
       is_clean : IsPathClean s t node
       is_clean w parent on is_child =
@@ -231,6 +245,9 @@ module _ (obey : ObeysSince LinkLaw) (exactly : PassesOnExactly) (tree : Nodes) 
           complete =
               subst (λ xs. CompleteLaw (strays_since (moment s) node) (missing_since (moment s) node) (garbage_since (moment s) node) xs (gained s acted node))
               published_same converged.complete;
+          sharper =
+              subst (λ xs. SharperCompleteLaw (strays_since (moment s) node) (path_sum s.parents (λ w. capacity_at s w + 1) node)
+              (fewest_since (moment s) node) (garbage_since (moment s) node) xs (gained s acted node)) published_same acted_sharper;
           exact = λ many. subst (λ xs. IsPrefix xs (gained m t (root_of t.parents))) rest_is (from_root many);
           all = λ many full. sym rest_is ∙ all_from_root many full;
           clean = is_clean;

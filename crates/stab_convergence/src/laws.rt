@@ -4,14 +4,14 @@ ghost use Rattle.std.specs.Prelude.{◌≡◌, ℕ, ◌+◌, ◌*◌, ◌<◌, �
 ghost use Rattle.stab_convergence.specs.Arrival.{arrival_reading_rounds};
 ghost use Rattle.stab_convergence.specs.Converged.{HasConverged};
 ghost use Rattle.stab_convergence.specs.Exact.{IsExact, IsPathClean, PassesAll};
-ghost use Rattle.stab_convergence.specs.Meanwhile.{HasAllBefore};
+ghost use Rattle.stab_convergence.specs.Meanwhile.{HasAllBefore, IsEnough};
 ghost use Rattle.stab_convergence.specs.PathRounds.{IsPathOpen, PathRounds};
 ghost use Rattle.stab_convergence.specs.PathRounds.{acts_among, rounds_since};
 ghost use mathlib.Core.List.{IsPrefix};
 ghost use Rattle.stab_faults.specs.declared.change.Change.{Change};
 ghost use Rattle.stab_faults.specs.Changes.{Fit, changes_replay};
 ghost use Rattle.stab_faults.specs.Hits.{Spare, SpareLink};
-ghost use Rattle.stab_faults.specs.Moment.{missing_since, published_since};
+ghost use Rattle.stab_faults.specs.Moment.{fewest_since, missing_since, published_since};
 ghost use Rattle.stab_faults.specs.Since.{IsState, acked_at, backlog, capacity_at, gained, moment};
 ghost use Rattle.stab_faults.specs.Since.{queued_at};
 ghost use Rattle.stab_rounds.specs.TreePlayed.{play_reads};
@@ -19,7 +19,7 @@ ghost use Rattle.stab_rounds.specs.TreeRounds.{IsOpen};
 ghost use Rattle.stab_settings.specs.Refreshes.{IsRefresh, SameBeside};
 ghost use Rattle.stab_settings.specs.Tables.{Reading, Table, apply_items};
 ghost use Rattle.stab_tree.specs.Nodes.{Nodes, parent_at, root_of};
-ghost use Rattle.stab_tree.specs.Steps.{ancestor};
+ghost use Rattle.stab_tree.specs.Steps.{ancestor, depth_of};
 ghost use Rattle.stab_treecore.specs.Network.{IsNetwork, Network};
 ghost use Rattle.stab_treecore.specs.Paths.{lists_above, sum_above};
 ghost use Rattle.stab_treecore.specs.TreeLaw.{TreeLaw};
@@ -40,8 +40,8 @@ pub fn later_items_disturb_nothing()
 /// that is no fault on the node's path; and let there then be `rounds_since` reading rounds of the
 /// path, counted at their beginning, in which no link of it is closed, and whatever is published.
 /// Then the node has all that was published before these rounds, but for some of the first M. If
-/// more than M items were, it receives exactly what is published from the beginning of the rounds
-/// on, for good: whatever comes later without a fault on the path.
+/// that was enough, it receives exactly what is published from the beginning of the rounds on, for
+/// good: whatever comes later without a fault on the path.
 pub fn nodes_converge()
     ensures { (tree : Nodes) (s : WholeTree) (before after later : List Change) (rounds node : ℕ)
         → IsState tree s → node < length s.parents
@@ -52,11 +52,33 @@ pub fn nodes_converge()
         → HasAllBefore s m (changes_replay m (after ++ later)) node }
 {
     stab_core::laws::link_law_from_any_state();
+    stab_core::laws::sharper_link_law_from_any_state();
     stab_core::laws::links_pass_on_exactly();
 }
 
+/// More items than may be missing at the node, M, are enough.
+pub fn more_than_missing_is_enough()
+    ensures { (tree : Nodes) (s m : WholeTree) (node : ℕ)
+        → IsState tree s
+        → missing_since (moment s) node < length (published_since (moment s) (gained s m) node)
+        → IsEnough s m node }
+{}
+
+/// Where no capacity is more than `c`, at most the first `d(c + 1) + c` items may be missing at a
+/// node at depth `d`, and `c + 1` more are enough. With capacity 1 these are `2d + 1` and `2d + 3`.
+pub fn items_enough_by_depth()
+    ensures missing { (s : WholeTree) (node capacity : ℕ)
+        → ((w : ℕ) → capacity_at s w ≤ capacity)
+        → fewest_since (moment s) node ≤ depth_of s.parents node * (capacity + 1) + capacity }
+    ensures enough { (tree : Nodes) (s m : WholeTree) (node capacity : ℕ)
+        → IsState tree s → ((w : ℕ) → capacity_at s w ≤ capacity)
+        → depth_of s.parents node * (capacity + 1) + 2 * capacity + 1
+        ≤ length (published_since (moment s) (gained s m) node)
+        → IsEnough s m node }
+{}
+
 /// So tables come back. Where each item is read as settings, let a stretch of what was published
-/// before the rounds, after its first M items, set each key in use. Then the node's table is one
+/// before the rounds, after its first items, set each key in use. Then the node's table is one
 /// that the root had after the beginning of the rounds: it has the same at each key in use,
 /// whatever the two tables were before.
 pub fn tables_come_back()
@@ -65,7 +87,7 @@ pub fn tables_come_back()
         → HasAllBefore s m t node
         → let published = published_since (moment s) (gained s m) node in
         IsRefresh reading keys published first after
-        → missing_since (moment s) node ≤ first → first < length published
+        → fewest_since (moment s) node ≤ first → IsEnough s m node
         → (later : List ℕ) × IsPrefix later (gained m t (root_of t.parents))
         × SameBeside keys (apply_items reading at_node (gained s t node))
         (apply_items reading at_root (published ++ later)) }
@@ -114,6 +136,7 @@ pub fn rounds_of_the_path_are_enough()
         → HasAllBefore s s (changes_replay s (changes ++ later)) node }
 {
     stab_core::laws::link_law_from_any_state();
+    stab_core::laws::sharper_link_law_from_any_state();
     stab_core::laws::links_pass_on_exactly();
 }
 

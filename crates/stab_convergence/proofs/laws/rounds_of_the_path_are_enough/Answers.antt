@@ -3,4 +3,4 @@ use Rattle.stab_convergence.proofs.laws.rounds_of_the_path_are_enough.Goals as g
 
 pub returns : goal.returns
 returns c net changes later rounds node parent is =
-    from_start net is c.link_law_from_any_state.ensures c.links_pass_on_exactly.ensures changes later rounds node parent
+    from_start net is c.link_law_from_any_state.ensures c.sharper_link_law_from_any_state.ensures c.links_pass_on_exactly.ensures changes later rounds node parent
