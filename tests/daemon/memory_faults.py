@@ -36,6 +36,8 @@ from runner import sure, test
 
 ROUND = 0.5
 PATIENCE = 40 * ROUND
+# What may be the name of a setting.
+KEY = re.compile(r"[A-Za-z0-9_][A-Za-z0-9._-]{0,127}")
 # An agent that says no sign for so long hangs.
 HANGS = 6.0
 SHAPE = {"hub": "root", "one": "hub", "two": "hub"}
@@ -245,14 +247,14 @@ class Trials:
     def make(self):
         """A new tree that is right."""
         self.end()
-        self.tree, self.what = Tree(SHAPE), []
+        self.tree, self.what, self.litter = Tree(SHAPE), [], set()
         self.units = [Unit(agent) for agent in self.tree]
         self.tree.root.tables["root"].update(round=f"{int(ROUND * 1_000)}ms", harmless=7)
         for at in range(6):
             self.tree.write(f"key{at}", f"value {at}")
         for unit in self.units:
             unit.start()
-        if not self.holds(lambda: not self.tree.wrong() and self.says_right(), 60):
+        if not self.holds(lambda: not self.wrong() and self.says_right(), 60):
             raise RuntimeError("a new tree does not come to be right")
 
     def end(self):
@@ -297,6 +299,18 @@ class Trials:
                     for it in seen)
         return is_up and shape == {"root": "", **SHAPE}
 
+    def wrong(self):
+        """The agents whose settings are wrong. A file that has no key for its name, as a spoiled path
+        may make one, is no setting: an agent says that it is there, and leaves it alone."""
+        truth, wrong = self.tree.truth(), []
+        for agent in self.tree:
+            files = agent.files()
+            settings = {name: value for name, value in files.items() if KEY.fullmatch(name)}
+            wrong += [agent.name] if settings != truth else []
+            if len(settings) < len(files):
+                self.litter.add(agent.name)
+        return wrong
+
     def waits(self, seconds):
         """Whether `wait` says that all have applied what the root's folder has."""
         command = [self.tree.bin / "rignoldactl", "--socket", self.tree.root.socket, "wait",
@@ -334,19 +348,19 @@ class Trials:
         begun, self.ends = time.monotonic(), []
         self.change()
         self.holds(lambda: time.monotonic() >= begun + 2 * ROUND, PATIENCE)
-        self.holds(lambda: not self.tree.wrong(), 0.1)
-        late = bool(self.tree.wrong())
-        if late and self.waits(0.1) and self.tree.wrong():
+        self.holds(lambda: not self.wrong(), 0.1)
+        late = bool(self.wrong())
+        if late and self.waits(0.1) and self.wrong():
             # (what `wait` says is so at once)
             self.counts[kind]["lied"] += 1
         if self.draw.random() < 0.25:
             # (what is wrong may be needed by those alone who connect anew)
             self.draw.choice(self.units).kill()
         self.change()
-        is_right = self.holds(lambda: not self.tree.wrong(), PATIENCE)
+        is_right = self.holds(lambda: not self.wrong(), PATIENCE)
         says = is_right and self.holds(self.says_right, PATIENCE)
         says = says and self.holds(lambda: self.waits(1), PATIENCE)
-        if says and self.tree.wrong():
+        if says and self.wrong():
             self.counts[kind]["lied"] += 1
         count = self.counts[kind]
         count["trials"] += 1
@@ -370,7 +384,7 @@ class Trials:
                 end = "again"
             if end in ("stuck", "wrong"):
                 self.counts[kind][end] += 1
-                wrong = self.tree.wrong()
+                wrong = self.wrong()
                 print(f"{end}: {self.what[-1]}; {wrong}; {self.ends}", flush=True)
                 if self.keep:
                     self.store(end)
@@ -382,7 +396,7 @@ class Trials:
         """Keeps the logs and what agents say of themselves."""
         home = pathlib.Path(self.keep) / f"{end}-{self.tree.home.name}-{self.made}"
         home.mkdir(parents=True)
-        lines = [*self.what, str(self.ends), str(self.tree.wrong())]
+        lines = [*self.what, str(self.ends), str(self.wrong())]
         (home / "what").write_text("\n".join(lines) + "\n")
         for agent in self.tree:
             (home / f"{agent.name}.json").write_text(json.dumps(self.asked(agent, "status")))

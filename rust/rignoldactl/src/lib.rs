@@ -5,6 +5,7 @@
 //! Who may connect is decided by the permissions of the socket's file.
 #![forbid(unsafe_code)]
 use serde::{Deserialize, Serialize};
+use serde_json::Value;
 
 pub mod ask;
 
@@ -221,6 +222,24 @@ pub struct Seen {
     pub age: u64,
 }
 
+/// A list as an agent sends it up: as JSON without what is 0, false or empty, since whoever reads it
+/// takes what is lacking for that, and reports have little room.
+pub fn report(list: &[Seen]) -> Vec<u8> {
+    let is_nothing = |value: &Value| match value {
+        Value::Bool(it) => !it,
+        Value::Number(it) => it.as_u64() == Some(0),
+        Value::String(it) => it.is_empty() || it == "nothing",
+        _ => false,
+    };
+    let entry = |seen: &Seen| {
+        let mut entry = serde_json::to_value(seen).expect("texts and numbers are JSON");
+        let members = entry.as_object_mut().expect("an agent has names for what is known of it");
+        members.retain(|name, value| name == "name" || !is_nothing(value));
+        entry
+    };
+    serde_json::to_vec(&list.iter().map(entry).collect::<Vec<_>>()).expect("all of it is JSON")
+}
+
 /// What the root knows of an agent's files.
 #[derive(Clone, Copy, Debug, Default, Deserialize, Eq, PartialEq, Serialize)]
 #[serde(rename_all = "kebab-case")]
@@ -249,17 +268,24 @@ pub fn milliseconds(text: &str) -> Option<u64> {
     text[..end].parse::<u64>().ok()?.checked_mul(unit)
 }
 
-/// A digest as 16 hexadecimal digits: as a number it would be too large for many readers of JSON.
+/// A digest as 16 hexadecimal digits, or as none where it is 0: as a number it would be too large
+/// for many readers of JSON.
 mod digits {
     use serde::{de::Error, Deserialize, Deserializer, Serializer};
 
     pub fn serialize<S: Serializer>(digest: &u64, to: S) -> Result<S::Ok, S::Error> {
-        to.collect_str(&format_args!("{digest:016x}"))
+        match digest {
+            0 => to.serialize_str(""),
+            _ => to.collect_str(&format_args!("{digest:016x}")),
+        }
     }
 
     pub fn deserialize<'de, D: Deserializer<'de>>(from: D) -> Result<u64, D::Error> {
         let text = std::borrow::Cow::<str>::deserialize(from)?;
-        u64::from_str_radix(&text, 16).map_err(D::Error::custom)
+        match &*text {
+            "" => Ok(0),
+            digits => u64::from_str_radix(digits, 16).map_err(D::Error::custom),
+        }
     }
 }
 

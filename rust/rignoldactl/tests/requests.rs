@@ -1,5 +1,5 @@
 //! What is said to an agent, and how it is written.
-use rignoldactl::{milliseconds, Request, Response};
+use rignoldactl::{milliseconds, report, Compared, Request, Response, Seen};
 
 #[test]
 fn requests_and_answers_are_json() {
@@ -24,5 +24,31 @@ fn times_have_units() {
     }
     for text in ["", "s", "5", "5 s", "-5s", "5.5s", "18446744073709551615h", "5d"] {
         assert_eq!(milliseconds(text), None, "{text}");
+    }
+}
+
+/// What an agent sends up has nothing that its reader takes for said.
+#[test]
+fn a_report_leaves_out_what_is_nothing() {
+    let names = [("a", ""), ("b", "a")].map(|(name, parent)| (name.into(), parent.into()));
+    let list = names.map(|(name, parent)| Seen { name, parent, ..Seen::default() });
+    assert_eq!(report(&list), br#"[{"name":"a"},{"name":"b","parent":"a"}]"#);
+    let seen = Seen {
+        connected: true,
+        applied: u64::MAX,
+        applies: true,
+        files: 7,
+        digest: 0x0123_4567_89ab_cdef,
+        compared: Compared::Differs,
+        ..list[0].clone()
+    };
+    let bytes = report(std::slice::from_ref(&seen));
+    let text = String::from_utf8_lossy(&bytes);
+    assert!(text.contains(r#""digest":"0123456789abcdef""#), "{text}");
+    assert_eq!(serde_json::from_slice::<Vec<Seen>>(&bytes).unwrap(), [seen]);
+    // (an empty one is none, and what is no digest is no list)
+    for (digest, is_one) in [("", true), ("ff", true), ("x", false), ("1ffffffffffffffff", false)] {
+        let text = format!(r#"[{{"name":"a","digest":"{digest}"}}]"#);
+        assert_eq!(serde_json::from_str::<Vec<Seen>>(&text).is_ok(), is_one, "{text}");
     }
 }

@@ -249,12 +249,12 @@ impl Handler for State {
             }
             return false;
         };
-        if self.is_root {
-            self.published.take(sequence, &meaning);
-        }
         let (was_full, strays) = (self.table.full, self.table.strays);
         let takes = self.table.takes(sequence, &meaning);
         let is_table = matches!(meaning, Meaning::Table(_));
+        if self.is_root {
+            self.published.take(sequence, &meaning, is_table && self.table.heard.looks);
+        }
         // (before a line is written, so that the files wait for nothing)
         if let (true, Some(applier)) = (takes, &mut self.applier) {
             self.applying = true;
@@ -588,8 +588,11 @@ impl Agent {
         let number = table.taker.number;
         let (relay, parent) = (self.peers.relay(), self.peers.parent());
         let faults = self.root.as_ref().map(Root::faults);
-        let files = applier.as_ref().and_then(|it| it.files(number));
-        let files = files.filter(|_| table.taker.is_whole());
+        // (the table that is lacking may bring changes of any number; and what is applied is asked
+        // for first, so that the digest is of that or of something newer)
+        let is_whole = table.taker.is_whole();
+        let applied = applier.as_ref().map_or(number, |it| it.applied(number));
+        let files = applier.as_ref().filter(|_| is_whole).and_then(|it| it.files(number));
         let children = relay.children().map(|(name, link)| ChildStatus {
             name: name.clone(),
             connected: link.is_connected(),
@@ -612,9 +615,7 @@ impl Agent {
             way: self.peers.way().names.clone(),
             connected_since: parent.map_or(0, |(_, since)| millis(since) / 1_000),
             sequence: number,
-            // (the table that is lacking may bring changes of any number)
-            applied: applier.as_ref().map_or(number, |it| it.applied(number))
-                * u64::from(table.taker.is_whole()),
+            applied: applied * u64::from(is_whole),
             applies: applier.is_some(),
             files: files.map_or(0, |(number, _)| number),
             digest: files.map_or(0, |(_, digest)| digest),
@@ -622,7 +623,7 @@ impl Agent {
             changed: table.changed,
             round: table.round,
             round_age: self.state.round_at.map_or(0, millis),
-            whole: table.taker.is_whole(),
+            whole: is_whole,
             settings: table.keys.len() as u64,
             draining: self.root.as_ref().is_some_and(Root::is_draining),
             harmless: self.config.root.as_ref().map_or(0, |root| root.harmless.into()),

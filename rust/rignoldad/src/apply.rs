@@ -328,7 +328,8 @@ fn keep_files(shared: &Shared) {
             shared.report(&mut state, MARKER, sequence, outcome);
             if !is_taken {
                 state.due.append(&mut due);
-                (state.looks, state.writing) = (true, None);
+                // (and it is looked at as a whole before a digest is known again)
+                (state.looks, state.writing, state.digest) = (true, None, None);
                 continue;
             }
         }
@@ -368,7 +369,9 @@ fn keep_files(shared: &Shared) {
 fn mark(folder: &Folder, floor: u64) -> Outcome {
     let _ = folder.mend();
     let marked = write_floor(&folder.path().join(MARKER), floor);
-    marked.map_or_else(|error| Outcome::File(error.to_string()), |()| Outcome::Done)
+    // (one that cannot be listed may have what no table names)
+    let marked = marked.and_then(|()| fs::read_dir(folder.path()));
+    marked.map_or_else(|error| Outcome::File(error.to_string()), |_| Outcome::Done)
 }
 
 /// Names once what is in the folder and is nothing of the agent's, and not removed either.

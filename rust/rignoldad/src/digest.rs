@@ -4,8 +4,9 @@ use rignolda::settings::{is_newer, Meaning};
 use rignoldactl::{Compared, Seen};
 use std::collections::{BTreeMap, VecDeque};
 
-/// For how many of its last changes a root remembers the digest.
+/// For how many of its last changes a root remembers the digest, and for how many rounds.
 const CHANGES: usize = 1 << 12;
+const ROUNDS: u8 = 32;
 
 /// A digest of settings: the same ones have the same digest, in whatever order they came.
 ///
@@ -60,33 +61,32 @@ pub struct Published {
     digest: Digest,
     /// The number of its last body.
     number: u64,
-    /// Its last digests, each with the number from which on it is that.
-    since: VecDeque<(u64, u64)>,
+    /// Its digests, the last one first, each with the number from which on it was that, and how many
+    /// rounds ended since.
+    since: VecDeque<(u64, u64, u8)>,
 }
 
 impl Published {
-    /// Takes a body that is published with this number. With a whole table nothing has to have been
-    /// right before.
-    pub fn take(&mut self, number: u64, meaning: &Meaning<'_>) {
+    /// Takes a body that is published with this number, and may end a `round`. Nothing has to have
+    /// been right before: of agents that are at a round's table or later all is known from it.
+    pub fn take(&mut self, number: u64, meaning: &Meaning<'_>, round: bool) {
         self.digest.take(meaning);
         self.number = number;
-        let (sum, last) = (self.digest.sum, self.since.back().copied());
-        let is_new = last.is_none_or(|(since, digest)| digest != sum || is_newer(since, number));
-        if matches!(meaning, Meaning::Table(_)) {
-            self.since.clear();
-            self.since.extend(last.filter(|_| !is_new));
+        if round {
+            self.since.iter_mut().for_each(|(.., rounds)| *rounds = rounds.saturating_add(1));
+            self.since.retain(|(at, _, rounds)| *rounds <= ROUNDS && !is_newer(*at, number));
         }
-        if is_new {
-            self.since.push_back((number, sum));
-            let more = self.since.len().saturating_sub(CHANGES);
-            self.since.drain(..more);
+        if round || self.since.front().is_none_or(|(_, digest, _)| *digest != self.digest.sum) {
+            self.since.push_front((number, self.digest.sum, 0));
+            self.since.truncate(CHANGES);
         }
     }
 
     /// The digest as of this number, unless that is not known.
     fn at(&self, number: u64) -> Option<u64> {
-        let mut since = self.since.iter().rev();
-        let at = || since.find(|(since, _)| !is_newer(*since, number)).map(|(_, digest)| *digest);
+        let mut since = self.since.iter();
+        let at =
+            || since.find(|(since, ..)| !is_newer(*since, number)).map(|(_, digest, _)| *digest);
         (number != 0 && !is_newer(number, self.number)).then(at)?
     }
 
@@ -143,6 +143,7 @@ mod tests {
     fn compared_as_of_a_number() {
         let mut published = Published::default();
         let with = |value: &'static [u8]| Meaning::Changes(vec![("key", Some(value))]);
+        let table = |value: &'static [u8]| Meaning::Table(vec![("key", Some(value))]);
         let of = |value: &[u8]| {
             let mut digest = Digest::default();
             digest.set("key", Some(value));
@@ -150,10 +151,10 @@ mod tests {
         };
         let (old, new) = (of(b"old"), of(b"new"));
         assert_eq!(published.compared(&seen(5, old)), Compared::NotKnown);
-        published.take(10, &Meaning::Table(vec![("key", Some(b"old"))]));
-        published.take(11, &Meaning::Harmless);
-        published.take(12, &with(b"new"));
-        published.take(13, &Meaning::Harmless);
+        published.take(10, &table(b"old"), true);
+        published.take(11, &Meaning::Harmless, false);
+        published.take(12, &with(b"new"), false);
+        published.take(13, &Meaning::Harmless, false);
         let is = |at, digest| published.compared(&seen(at, digest));
         assert_eq!([is(10, old), is(11, old), is(12, new), is(13, new)], [Compared::Same; 4]);
         assert_eq!([is(10, new), is(11, new), is(12, old), is(13, old)], [Compared::Differs; 4]);
@@ -161,27 +162,39 @@ mod tests {
         assert_eq!([is(9, old), is(14, new), is(0, new)], [Compared::NotKnown; 3]);
         let none = Seen { applies: false, ..seen(13, old) };
         assert_eq!(published.compared(&none), Compared::Nothing);
-        // a table that changes nothing is as of before; after one that does, that alone is known
-        published.take(14, &Meaning::Table(vec![("key", Some(b"new"))]));
-        assert_eq!(published.compared(&seen(12, new)), Compared::Same);
-        published.take(15, &Meaning::Table(vec![]));
-        assert_eq!(published.compared(&seen(14, new)), Compared::NotKnown);
-        assert_eq!(published.compared(&seen(15, 0)), Compared::Same);
+        // a table between rounds takes nothing away, and those of rounds do after a while
+        published.take(14, &table(b"old"), false);
+        for number in 15..15 + u64::from(ROUNDS) {
+            published.take(number, &table(b"new"), true);
+            assert_eq!(published.compared(&seen(14, old)), Compared::Same);
+            assert_eq!(published.compared(&seen(14, new)), Compared::Differs);
+            assert_eq!(published.compared(&seen(number, new)), Compared::Same);
+        }
+        published.take(90, &table(b"new"), true);
+        assert_eq!(published.compared(&seen(14, old)), Compared::NotKnown);
+        published.take(91, &Meaning::Table(vec![]), false);
+        assert_eq!(published.compared(&seen(91, 0)), Compared::Same);
+        assert_eq!(published.compared(&seen(90, new)), Compared::Same);
     }
 
-    /// Whatever its memory holds, it is right after the next whole table.
+    /// Whatever its memory holds, it is right from the next round on.
     #[test]
-    fn right_after_a_table() {
+    fn right_after_a_round() {
         let far = u64::MAX / 2;
-        for since in [vec![], vec![(900, 1)], vec![(3, 0), (far, 7)], vec![(12, 9), (1, 2)]] {
+        for since in
+            [vec![], vec![(900, 1, 0)], vec![(3, 0, 9), (far, 7, 255)], vec![(12, 9, 1); 9]]
+        {
             let mut published = Published { number: 77, since: since.into(), ..Default::default() };
             published.digest.each.insert("none".into(), 5);
             published.digest.sum = 6;
-            published.take(20, &Meaning::Table(vec![("key", Some(b"value"))]));
+            published.take(20, &Meaning::Table(vec![("key", Some(b"value"))]), true);
+            published.take(21, &Meaning::Harmless, false);
             let mut digest = Digest::default();
             digest.set("key", Some(b"value"));
-            assert_eq!(published.compared(&seen(20, digest.sum)), Compared::Same);
-            assert_eq!(published.compared(&seen(20, 6)), Compared::Differs);
+            for at in 20..=21 {
+                assert_eq!(published.compared(&seen(at, digest.sum)), Compared::Same);
+                assert_eq!(published.compared(&seen(at, 6)), Compared::Differs);
+            }
         }
     }
 
@@ -190,7 +203,7 @@ mod tests {
         let mut published = Published::default();
         for number in 1..=2 * CHANGES as u64 {
             let value = number.to_be_bytes();
-            published.take(number, &Meaning::Changes(vec![("key", Some(&value))]));
+            published.take(number, &Meaning::Changes(vec![("key", Some(&value))]), false);
         }
         assert_eq!(published.since.len(), CHANGES);
         assert_eq!(published.at(CHANGES as u64), None);

@@ -131,7 +131,7 @@ impl Below {
         let (mut list, mut most) = (self.tree(status, now), AGENTS);
         loop {
             list = share(list, most);
-            let bytes = serde_json::to_vec(&list).expect("texts, numbers and lists are JSON");
+            let bytes = rignoldactl::report(&list);
             if bytes.len() <= REPORT_BYTES {
                 return bytes;
             }

@@ -220,12 +220,13 @@ fn a_report_is_never_too_long() {
     let now = Instant::now();
     let names: Vec<String> = (0..9_000).map(|at| format!("{at:064}")).collect();
     let names: Vec<&str> = names.iter().map(String::as_str).collect();
-    let bytes = Below::default().report(&status("a", &names), now);
+    let long = "a".repeat(64);
+    let bytes = Below::default().report(&status(&long, &names), now);
     assert!(bytes.len() <= REPORT_BYTES);
     let mut root = Below::default();
-    assert!(root.heard("a", &bytes, now));
+    assert!(root.heard(&long, &bytes, now));
     // (of those that are left out nobody knows whether they have it, and so of the others)
-    let list = root.tree(&status("root", &["a"]), now);
+    let list = root.tree(&status("root", &[&long]), now);
     assert!(list.len() < 9_000 && list[1].connected);
     assert_eq!(lacks(&list[1], 5), Some("has more agents below it than it can report"));
     assert!(!tree(now).iter().any(|seen| seen.cut));
