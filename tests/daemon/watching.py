@@ -154,6 +154,24 @@ def files_that_differ_are_seen():
 
 
 @test
+def of_a_folder_that_is_gone_nothing_is_known():
+    """A file lies in its place, which the agent does not take away."""
+    with Tree({"leaf": "root"}) as tree:
+        leaf = tree["leaf"]
+        tree.root.tables["root"]["round"] = "500ms"
+        tree.write("colour", "blue")
+        tree.start()
+        sure(tree.ready() and until(lambda: compared(tree)["leaf"] == "same"), compared(tree))
+        shutil.rmtree(leaf.settings)
+        leaf.settings.write_text("somebody's")
+        sure(until(lambda: compared(tree)["leaf"] == "not-known"), compared(tree))
+        sure(leaf.status()["failing"] and waits(tree.root, "--everywhere"), leaf.status())
+        leaf.settings.unlink()
+        tree.root.ask("wait", "--everywhere")
+        sure(tree.right() and compared(tree)["leaf"] == "same", compared(tree))
+
+
+@test
 def what_a_gap_left_out_is_waited_for():
     with Tree({}) as tree:
         leaf = tree.add("leaf", "root")
