@@ -8,7 +8,8 @@ one of them is stopped, something is written into its memory; then the root's fo
 agent that ends, or hangs, is started again as systemd would. Two rounds later, and for 40 rounds at
 most, it is asked for: whether each agent has applied what the root's folder has, also after one
 more change, and whether `tree` and `wait` say so. What never comes to be so is stuck, or, where
-the folders alone are right, wrong that lasts.
+the folders alone are right, wrong that lasts. A file whose name is no key is litter: a spoiled
+path may leave one, and an agent names it and leaves it alone.
 
 A fault is a bit, a byte, a word or 64 bytes anywhere in the heap, something in the data or on a
 stack, or it is aimed: at the agent itself, at what lies about an end of a link, about a name, at a
@@ -345,7 +346,7 @@ class Trials:
                 return None
             os.pwrite(memory, new, place)
         self.what.append(f"{kind} {number}: {agent.name} at {place:x}: {old.hex()} is {new.hex()} now")
-        begun, self.ends = time.monotonic(), []
+        begun, self.ends, litter = time.monotonic(), [], len(self.litter)
         self.change()
         self.holds(lambda: time.monotonic() >= begun + 2 * ROUND, PATIENCE)
         self.holds(lambda: not self.wrong(), 0.1)
@@ -365,6 +366,7 @@ class Trials:
         count = self.counts[kind]
         count["trials"] += 1
         count["late"] += late
+        count["litter"] += len(self.litter) - litter
         for how in set(self.ends):
             count[how] += 1
         if not is_right:
@@ -406,7 +408,7 @@ class Trials:
 KINDS = ["bit", "byte", "word", "run", "data", "stack", "agent", "links", "names", "times", "numbers"]
 # Those that take all places in their turn, of the hub and of the root.
 EACH = {"each-link": each_link, "each-time": each_time}
-COLUMNS = ["trials", "late", "ended", "crashed", "hung", "wrong", "lied", "stuck"]
+COLUMNS = ["trials", "late", "ended", "crashed", "hung", "litter", "wrong", "lied", "stuck"]
 
 
 def table(counts):
