@@ -7,7 +7,7 @@ Of each scenario `rignolda scenario` has to print what tests/faults/scenario.py 
 draw` what tests/faults/drawn.py prints, its picture has to have the rows of that text in their
 order, and `rignolda explain` has to find nothing. Then one value of a step is spoiled: where
 `rignolda scenario` refuses a step, the first thing that `explain` finds has to be at that step, and
-else nothing.
+else nothing. One in twenty is continued to 1,000,000 changes, or to one more, which is refused.
 
 The program is the one of check_tables.py. The last line is 'N passed, M failed'.
 """
@@ -98,6 +98,30 @@ def fault_of_spoiled(file, draw, job):
     return None
 
 
+def changes_of(job, steps):
+    """How many changes these steps of a job are, as docs/FORMATS.md counts them."""
+    own = job.get("links") or [None] * (len(job["tree"]) - 1)
+    reading = sum(2 * (numbers or job)["capacity"] + 5 for numbers in own)
+    each = {"rounds": 5 * len(own), "reading_rounds": reading}
+    return sum(each[step[0]] * step[1] if isinstance(step[-1], int) and len(step) == 2 else 1
+               for step in steps)
+
+
+def fault_of_count(file, draw, job):
+    """Whether the most changes are refused, or one more is not, or None."""
+    kind, more = draw.choice(["rounds", "reading_rounds"]), draw.randrange(2)
+    each = changes_of(job, [[kind, 1]])
+    if each == 0:
+        return None
+    count, rest = divmod(1_000_000 - changes_of(job, job["steps"]), each)
+    steps = [*[[kind, 65535]] * (count // 65535), [kind, count % 65535]]
+    job = dict(job, steps=[*job["steps"], *steps, *[["publish", []]] * (rest + more)])
+    status, _, err = answered(file, "scenario", given=job, timeout=60)
+    wanted = (1, "rignolda: scenario: too many events\n") if more else (0, "")
+    said = f"scenario says {err!r} with {more} more changes than the most, of {json.dumps(job)}"
+    return None if (status, err) == wanted else said
+
+
 def fault_of(file, seed):
     """What is wrong with what is printed of a random scenario, or None."""
     draw = random.Random(seed)
@@ -112,7 +136,8 @@ def fault_of(file, seed):
     names = [node["name"] for node in job["tree"]]
     if status != 0 or rows_of_picture(svg, names) != rows_of_text(wanted):
         return f"the picture has other rows, of {json.dumps(job)}"
-    return fault_of_spoiled(file, draw, job)
+    fault = fault_of_spoiled(file, draw, job)
+    return fault or (fault_of_count(file, draw, job) if seed % 20 == 0 else None)
 
 
 def main(file):
