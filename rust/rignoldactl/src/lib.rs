@@ -222,8 +222,8 @@ pub struct Seen {
     pub age: u64,
 }
 
-/// A list as an agent sends it up: as JSON without what is 0, false or empty, since whoever reads it
-/// takes what is lacking for that, and reports have little room.
+/// A list as an agent sends it up: as JSON without what is 0, false or empty, since whoever reads
+/// it takes what is lacking for that, and reports have little room.
 pub fn report(list: &[Seen]) -> Vec<u8> {
     let is_nothing = |value: &Value| match value {
         Value::Bool(it) => !it,

@@ -61,8 +61,8 @@ pub struct Published {
     digest: Digest,
     /// The number of its last body.
     number: u64,
-    /// Its digests, the last one first, each with the number from which on it was that, and how many
-    /// rounds ended since.
+    /// Its digests, the last one first, each with the number from which on it was that, and how
+    /// many rounds ended since.
     since: VecDeque<(u64, u64, u8)>,
 }
 
