@@ -29,20 +29,19 @@ def longest_prefix_within(items, whole):
 
 
 def obeys_link_law(parent, delivered, acked, capacity, frames):
-    """Whether the link law allows these lists of a link."""
+    """Whether the link law, with its sharper bound, allows these lists of a link."""
     if acked > len(parent):
         return False
-    early = min(2 * capacity + 1, acked)
+    # (each stray lets one more of the first items be missing, and takes one delivered item away)
+    strays = longest_prefix_within(delivered, frames[:capacity])
+    delivered = delivered[strays:]
+    early = min(capacity + 1 + strays, acked)
     for last in (acked, acked + 1):
         sure = parent[early:last]
         if last > len(parent) or len(delivered) < len(sure):
             continue
         cut = len(delivered) - len(sure)
-        if delivered[cut:] != sure:
-            continue
-        # (the more of the items are taken for strays, the fewer remain for the early ones)
-        strays = longest_prefix_within(delivered[:cut], frames[:capacity])
-        if is_subsequence(delivered[strays:cut], parent[:early]):
+        if delivered[cut:] == sure and is_subsequence(delivered[:cut], parent[:early]):
             return True
     return False
 
@@ -106,16 +105,16 @@ def fault(job, report):
     return None
 
 
-def obeys_tree_law(strays, missing, published, received):
-    """Whether the tree law allows a node this list: at most so many strays, and then published
-    items, of which none is missing before the last but for some of so many at the front."""
-    first, rest = published[:missing], published[missing:]
-    ends = [count for count in range(min(len(rest), len(received)) + 1)
-            if received[len(received) - count:] == rest[:count]]
+def obeys_tree_law(strays, without, missing, published, received):
+    """Whether the sharper tree law allows a node this list: at most so many strays, and then
+    published items, of which none is missing before the last but for some of those at the front:
+    of `without` and one more for each stray, and at most of `missing`."""
     for count in range(min(strays, len(received)) + 1):
-        early = longest_prefix_within(received[count:], first)
-        left = len(received) - count
-        if any(end <= left <= end + early for end in ends):
+        cut = min(without + count, missing)
+        first, rest, tail = published[:cut], published[cut:], received[count:]
+        early = longest_prefix_within(tail, first)
+        if any(tail[len(tail) - end:] == rest[:end] and len(tail) <= end + early
+               for end in range(min(len(rest), len(tail)) + 1)):
             return True
     return False
 
@@ -133,21 +132,27 @@ def tree_fault(job, report):
         openings = job.get("openings", openings)
     openings = dict(zip(parents, openings))
     for name, line in zip(parents, report.split("\n")[1::2]):
-        strays = missing = 0
+        strays = without = 0
+        capacities = []
         published = job["items"]
         above = name
         while parents[above] is not None:
             capacity = (own[above] or job)["capacity"]
-            strays, missing = strays + capacity + len(openings[above]), missing + 2 * capacity + 1
+            strays, without = strays + capacity + len(openings[above]), without + capacity + 1
+            capacities.append(capacity)
             if parents[parents[above]] is None:
                 published = backlogs[above] + published
             else:
                 strays += len(backlogs[above])
             above = parents[above]
         received = [int(word) for word in line.split()[1:]]
-        if not obeys_tree_law(strays, missing, published, received):
+        # (one link may miss 2c + 1, each above it c + 1, and those beneath it none)
+        missing = max((2 * capacity + 1 + sum(it + 1 for it in capacities[at + 1:])
+                       for at, capacity in enumerate(capacities)), default=0)
+        if not obeys_tree_law(strays, without, missing, published, received):
             return (f"{name}: the tree law is broken, with at most {strays} strays, and none "
-                    f"missing but among the first {missing}")
+                    f"missing but among the first {without}, one more for each stray, and at most "
+                    f"the first {missing}")
     return None
 
 

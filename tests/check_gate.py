@@ -106,6 +106,12 @@ said = run().out
 holds("what a part writes is shown", "\n300 passed, 0 failed\n" in said)
 holds("what the first part took is said", re.search(
     "^gate: .*: rt ci has ended, after [0-9.]+ processor minutes$", said, re.M))
+script(2, "echo a program is NOT COMPARED; echo 0 passed, 0 failed")
+said = run().out
+holds("what was not compared or tried is said once more at the end, and counts for nothing",
+      said.endswith("gate: 1 things were not compared or tried, which is no success:\n"
+                    "a program is NOT COMPARED\n352 passed, 0 failed\n"))
+script(2)
 page = house.top / "out/gate.md"
 holds("and in a table", all(
     re.search(fr"^\| `{it}` \| [0-9.]+ \| [0-9.]+ \|$", page.read_text(), re.M)

@@ -7,9 +7,9 @@ It looks in random trees for
 
 - a node that breaks the law counted from the last fault that hit it;
 - a fault, after a rest, that costs more than `rignolda bounds` says;
-- a node that has not come back after as many reading rounds of its path as are said to be enough,
-  once no fault hits it, though faults go on elsewhere; or that receives anything but what is
-  published then, where each link of its path had acknowledged 2c + 2 items since;
+- a node that has not come back after as many rounds, or reading rounds, of its path as are said to
+  be enough, once no fault hits it, though faults go on elsewhere; or that receives anything but
+  what is published then, where each link of its path had acknowledged 2c + 2 items since;
 - a tree, from any start, that has not handed on everything after as many rounds, or reading rounds,
   as are said to be enough;
 
@@ -102,7 +102,8 @@ def costs(rng):
 
 
 class Reading:
-    """What a reading round of a link waits for, and whether one is complete."""
+    """What a reading round of a link waits for, and whether one is complete. With capacity 0 it is
+    any round."""
 
     def __init__(self, capacity):
         self.capacity, self.left, self.is_complete = capacity, 0, False
@@ -129,9 +130,9 @@ class Reading:
             self.left = self.capacity
 
 
-def read_round(rng, tree, way, new):
-    """Each link of a path completes a reading round; faults hit other nodes alone."""
-    reads = {n: Reading(tree.links[n].capacity) for n in way}
+def path_round(rng, tree, way, new, is_reading):
+    """Each link of a path completes a round; faults hit other nodes alone."""
+    reads = {n: Reading(tree.links[n].capacity * is_reading) for n in way}
     others = [n for n in range(1, len(tree.parents)) if n not in way]
     while not all(it.is_complete for it in reads.values()):
         draw = rng.random()
@@ -139,7 +140,7 @@ def read_round(rng, tree, way, new):
             hit(rng, tree, rng.choice(others), new)
             continue
         if draw < 0.2:
-            node, act = rng.randrange(1, len(tree.parents)), rng.choice(ACTS)
+            node, act = rng.randrange(1, len(tree.parents)), rng.choice(ACTS + EXTRA)
         else:
             node = rng.choice([n for n in way if not reads[n].is_complete])
             act = reads[node].awaited()
@@ -148,10 +149,11 @@ def read_round(rng, tree, way, new):
             reads[node].see(act)
 
 
-def enough(tree, way):
-    """How many reading rounds of a path are said to be enough."""
-    return (sum(len(tree.backlog(n)) for n in way)
-            + sum(tree.links[n].capacity + 1 for n in way[1:]) + 1)
+def enough(tree, way, is_reading):
+    """How many rounds of a path are said to be enough."""
+    each = 1 if is_reading else 2 * max(tree.links[n].capacity for n in way) + 1
+    return each * (sum(len(tree.backlog(n)) for n in way)
+                   + sum(tree.links[n].capacity for n in way[1:]) + 1) + len(way[1:])
 
 
 def is_handed_on(tree, way):
@@ -170,7 +172,7 @@ def is_complete(count, tree, node):
     return False
 
 
-def comes_back(rng):
+def comes_back(rng, is_reading):
     """How many rounds too many were said to be enough for one node to come back."""
     tree, new = random_tree(rng), itertools.count()
     nodes = range(1, len(tree.parents))
@@ -180,10 +182,10 @@ def comes_back(rng):
     for place in happen(rng, tree, new, rng.randint(20, 300), 0.06, rng.randint(0, 6), nodes):
         if place in way:
             count, acked = Count(tree), {n: tree.links[n].acked for n in way}
-    rounds = enough(tree, way)
+    rounds = enough(tree, way, is_reading)
     handed_on = []
     for _ in range(rounds):
-        read_round(rng, tree, way, new)
+        path_round(rng, tree, way, new, is_reading)
         handed_on.append(is_handed_on(tree, way))
     assert handed_on[-1] and is_complete(count, tree, node), (node, count.of(tree, node))
     if all(tree.links[n].acked >= acked[n] + 2 * tree.links[n].capacity + 2 for n in way):
@@ -192,8 +194,8 @@ def comes_back(rng):
         list(happen(rng, tree, new, rng.randint(20, 200), 0.1, 1000, others))
         later, published = tree.list_of(node)[had:], tree.published[root_had:]
         assert later == published[:len(later)], (node, later, published)
-        for _ in range(enough(tree, way)):
-            read_round(rng, tree, way, new)
+        for _ in range(enough(tree, way, is_reading)):
+            path_round(rng, tree, way, new, is_reading)
         assert tree.list_of(node)[had:] == published, node
     return [(rounds - 1 - handed_on.index(True),)]
 
@@ -324,7 +326,8 @@ def main():
     count, cases = int((sys.argv + [200])[1]), Cases()
     for name, search in (
             ("nodes since their last fault", from_last_fault), ("what a fault costs", costs),
-            ("a node comes back", comes_back),
+            ("a node comes back by rounds", lambda rng: comes_back(rng, False)),
+            ("a node comes back by reading rounds", lambda rng: comes_back(rng, True)),
             ("rounds", lambda rng: rounds_from_start(rng, False)),
             ("reading rounds", lambda rng: rounds_from_start(rng, True))):
         found, fault = [], None

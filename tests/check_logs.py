@@ -1,17 +1,20 @@
 #!/usr/bin/env -S python3 -B
 """Gives drawn logs to `rignolda judge`, and compares what it says with a plain judge.
 
-    tests/check_logs.py [COUNT [SEED]]     2,000 logs by default, the same each time
+    tests/check_logs.py [COUNT [SEED]]     1,500 logs by default, the same each time
 
 Each draw is a tree with links of their own, items of which many may be equal, and what each node
-received: strays, and then items that are published in its count, with some of the first ones
-missing. Every second one is spoiled: items are swapped, doubled, altered, left out or added, or two
-nodes have one another's list. `rignolda judge` has to print what tests/faults/logs.py says, and to
-refuse what is no log as man/rignolda.1 says.
+received: strays, and then items of its parent, with some of the first ones missing. Every second one
+is spoiled: items are swapped, doubled, altered, left out or added, or two nodes have one another's
+list. `rignolda judge` has to print what tests/faults/logs.py says, and to refuse what is no log as
+man/rignolda.1 says. Beside these there are all runs of a chain of two links of capacity 1, found by
+a search through all states of a link: it has to accept what two items come to, and of what three
+come to, drawn ones; and of one link and three items it has to accept exactly what a run gives.
 
 The program is the one of check_tables.py. The last line is 'N passed, M failed'.
 """
 
+import itertools
 import json
 import random
 import sys
@@ -21,20 +24,25 @@ from pathlib import Path
 TOP = Path(__file__).resolve().parent.parent
 sys.path[:0] = [str(TOP / "tests/faults"), str(TOP / "tools")]
 
-from logs import sums, text_of
+from logs import delivered, kept, path_of, text_of
 from programs import answered, counted, run_with
 
 TREE = [{"name": "r"}, {"name": "a", "parent": "r"}]
 JOB = {"capacity": 1, "labels": 4, "tree": TREE, "items": [10, 11]}
 SHAPE, LISTS, PLACES = (f"rignolda: logs: wrong {what}\n"
                         for what in ("shape", "number of lists", "number of places"))
+PLACE = "rignolda: logs: a place past the end of the items\n"
 REFUSED = [
     ({}, SHAPE), ({"received": None}, SHAPE), ({"received": [[], 1]}, SHAPE),
     ({"received": [[], ["x"]]}, SHAPE), ({"received": [[], [4294967296]]}, SHAPE),
     ({"received": [[], []], "from": 1}, SHAPE), ({"received": [[], []], "from": [0, -1]}, SHAPE),
     ({"received": [[]], "from": ["x"]}, SHAPE), ({"received": []}, LISTS),
     ({"received": [[], [], []]}, LISTS), ({"received": [[]], "from": [0]}, LISTS),
-    ({"received": [[], []], "from": [0]}, PLACES),
+    ({"received": [[], []], "from": [0]}, PLACES), ({"received": [[], []], "from": []}, PLACES),
+    ({"received": [[], []], "from": [0, 3]}, PLACE), ({"received": [[], []], "from": [3, 0]}, PLACE),
+    ({"received": [[], []], "from": [0, 65536]}, PLACE),
+    ({"received": [[], []], "from": [4294967295, 0]}, PLACE),
+    ({"received": [[], []], "from": [0, 4294967296]}, SHAPE),
     ({"received": [[], []], "capacity": 65}, "rignolda: job: capacity out of range\n"),
 ]
 
@@ -91,41 +99,77 @@ def drawn(draw, is_spoiled):
         capacities = [most] * nodes
     if hold or draw.random() < 0.5:
         made.update(version=2, h=hold)
+    # A count begins with that of the parent, or later; in some draws anywhere.
     places = []
     if draw.random() < 0.7:
-        places = [draw.randrange(len(items) + 3) for _ in names]
-    received = []
-    for node in range(nodes):
-        strays, missing = sums(parents, capacities, hold, node)
-        counted = items[places[node]:] if places else items
-        end = draw.choice([0, len(counted), draw.randrange(len(counted) + 1)])
-        front = [item for item in counted[:min(missing, end)] if draw.random() < 0.5]
-        few = draw.choice([0, strays, draw.randrange(strays + 1)])
-        received.append([draw.randrange(top) for _ in range(few)] + front + counted[missing:end])
+        branch = draw.randrange(len(items) + 1)
+        places = [branch if draw.random() < 0.9 else draw.randrange(len(items) + 1) for _ in names]
+    received = [[] for _ in names]
+    for node in sorted(range(nodes), key=lambda it: len(path_of(parents, it))):
+        parent = parents[node]
+        above = items[places[node] if places else 0:]
+        if parent is None:
+            received[node] = above[:draw.randrange(len(above) + 1)]
+            continue
+        few = capacities[node]
+        if parents[parent] is not None:
+            above, few = received[parent], few + kept(parents, hold, node)
+        few = draw.choice([0, 0, few, draw.randrange(few + 1)])
+        missing = capacities[node] + 1 + min(few, capacities[node])
+        end = draw.choice([len(above), len(above), draw.randrange(len(above) + 1)])
+        front = [item for item in above[:min(missing, end)] if draw.random() < 0.5]
+        received[node] = [draw.randrange(top) for _ in range(few)] + front + above[missing:end]
     if is_spoiled:
         for _ in range(draw.choice([1, 2, 4])):
             received = spoiled(draw, received, top)
     made["received"] = received
-    if places or draw.random() < 0.5:
+    if places:
         made["from"] = places
     return made, text_of(names, parents, capacities, hold, items, received, places)
 
 
+def filled(places, source, any_item):
+    """The lists with these places, where a stray may be any item."""
+    return itertools.product(*(any_item if place is None else [source[place]] for place in places))
+
+
+def of_runs(draw):
+    """Logs of runs of a chain of two links, and every list of a link, with whether it is of one."""
+    tree = [*TREE, {"name": "b", "parent": "a"}]
+    for count, most in [(2, None), (3, 300)]:
+        items = list(range(10, 10 + count))
+        found = sorted({(upper, lower) for places in delivered(count)
+                        for upper in filled(places, items, [*items, 98])
+                        for below in delivered(len(upper))
+                        for lower in filled(below, upper, [*items, 98])})
+        for upper, lower in draw.sample(found, most) if most else found:
+            yield {**JOB, "tree": tree, "items": items, "received": [items, upper, lower]}, True
+    any_item = [*items, 98]
+    right = {has for places in delivered(3) for has in filled(places, items, any_item)}
+    for length in range(5):
+        for has in itertools.product(any_item, repeat=length):
+            yield {**JOB, "items": items, "received": [[], has]}, has in right
+
+
 def tried(file):
     """Tries all logs with this program."""
-    count = int(sys.argv[1]) if len(sys.argv) > 1 else 2000
+    count = int(sys.argv[1]) if len(sys.argv) > 1 else 1500
     draw = random.Random(int(sys.argv[2]) if len(sys.argv) > 2 else 1)
     cases = [drawn(draw, at % 2) for at in range(count)]
+    runs = list(of_runs(draw))
     wanted = [(0 if text == "obeys\n" else 1, text, "") for _, text in cases]
     cases += [({**JOB, **members}, text) for members, text in REFUSED]
     wanted += [(1, "", text) for _, text in REFUSED]
     with ThreadPoolExecutor(2) as pool:
         judged = lambda case: answered(file, "judge", given=case[0], timeout=60)
         said = list(pool.map(judged, cases))
+        said += [(status, "", "") for status, _, _ in pool.map(judged, runs)]
+    wanted += [(0 if is_run else 1, "", "") for _, is_run in runs]
     broken = sum(text != "obeys\n" for _, text in cases[:count])
-    print(f"logs: {count} drawn, of which {broken} do not obey, and {len(REFUSED)} refused")
+    print(f"logs: {count} drawn, of which {broken} do not obey, {len(REFUSED)} refused, and "
+          f"{len(runs)} of all that runs give")
     return counted(((json.dumps(job), None if has == want else f"{has}\nwanted {want}")
-                    for (job, _), has, want in zip(cases, said, wanted)), quiet=True)
+                    for (job, _), has, want in zip(cases + runs, said, wanted)), quiet=True)
 
 
 if __name__ == "__main__":

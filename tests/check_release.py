@@ -115,6 +115,7 @@ def of(name):
 
 
 SOURCES, BESIDE, EQUAL = of("stab")
+SAME_OBJECT = "stab: the object in the file is what was just built, byte for byte"
 checked("without a release the check fails", 0, WHOLE, MANIFEST, SOURCES, BESIDE, EQUAL, KIT)
 holds("and says what to do", "run ./release.sh and commit" in house.ended.out)
 refused("nor is there an archive", "there is no release: run ./release.sh first", "--archive")
@@ -123,8 +124,12 @@ lines = manifest.read_text().splitlines()
 holds("and is one", sorted(it.name for it in release.iterdir()) == ["MANIFEST", "stab.gz"]
       and gzip.decompress((release / "stab.gz").read_bytes()) == program.read_bytes()
       and lines[0] == "kit kit-1 logic 1" and len(lines) == 2
-      and re.fullmatch(f"stab sha256 {digest(program)} sources [0-9a-f]{{64}} "
-                       "compared with kit-1 logic 1", lines[1]))
+      and re.fullmatch(f"stab sha256 {digest(program)} sources [0-9a-f]{{64}} compared with "
+                       f"kit-1 logic 1 and musl {digest(b'musl' * 4)}", lines[1]))
+linked = house.read("linked")
+holds("whose program can be placed anywhere, needs nothing, and has its object's digest inside",
+      all(f" {it} " in f" {linked}" for it in (
+          "-static", "-pie", "--no-dynamic-linker", "--wrap=main", f"--build-id=0x{digest(program)}")))
 keep()
 write("release/notes", "more\n")
 released("a second one takes what was built", 0)
@@ -137,6 +142,30 @@ checked("a release that is the program that was built passes", 6)
 write(made, "proved 1\nx")
 checked("another program fails", 5, EQUAL)
 write(made, "proved 1\n")
+checked("where rt ci has taken it from an earlier run, its object is made anew", 6)
+remove(made.with_name(f"{made.name}.o"))
+checked("and where that is not proved, it fails", 5, EQUAL, NOT_PROVED="1")
+for text in "another", "":
+    house.musl(text)
+    checked(f"of another C library or none a program fails that is not of its object ({text})", 5,
+            SAME_OBJECT)
+    holds("which is said", "stab is NOT COMPARED as a whole" in house.ended.out)
+    write(made, "proved 1\nx")
+    checked(f"and so does one that was not built ({text})", 5, EQUAL)
+    write(made, "proved 1\n")
+    run("--prove")
+house.musl("")
+refused("without a C library there is no release", "Debian's package musl-dev is needed", "--prove")
+house.musl("musl")
+run("--prove", IDENTIFIED="1")
+house.musl("another")
+checked("of another C library a program passes that is of the object", 6)
+holds("which is said as well", "stab is NOT COMPARED as a whole" in house.ended.out)
+house.musl("musl")
+run("--prove")
+add("tools/shims.c", "more\n")
+checked("other sources of what it calls fail", 5, SOURCES)
+house.bring("tools/shims.c")
 add("crates/low/src/lib.rt", "more\n")
 checked("other sources fail, also where the program is the same", 5, SOURCES)
 refused("and are not packed", "the release of stab was made from other sources", "--archive")

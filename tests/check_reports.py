@@ -68,15 +68,15 @@ def link_law(above, acked, capacity, frames, delivered):
     """Whether the delivered list can be cut into strays, early items, sure items and one more."""
     if acked > len(above):
         return False
-    first = 2 * capacity + 1
-    for more in (above[acked:acked + 1], []):
-        sure = above[first:acked] + more
-        if sure and delivered[-len(sure):] != sure:
-            continue
-        rest = delivered[:len(delivered) - len(sure)]
-        for strays in range(min(capacity, len(rest)) + 1):
-            if is_subsequence(rest[:strays], frames) and is_subsequence(rest[strays:],
-                above[:min(first, acked)]):
+    for strays in range(min(capacity, len(delivered)) + 1):
+        first, tail = capacity + 1 + strays, delivered[strays:]
+        if not is_subsequence(delivered[:strays], frames):
+            break
+        for more in (above[acked:acked + 1], []):
+            sure = above[first:acked] + more
+            if sure and tail[-len(sure):] != sure:
+                continue
+            if is_subsequence(tail[:len(tail) - len(sure)], above[:min(first, acked)]):
                 return True
     return False
 

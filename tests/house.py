@@ -58,12 +58,13 @@ do_as "$(cat "$at"/crates/*/src/*)"
 name=${PWD##*/}
 mkdir -p out
 case $1 in
-    run) make run "out/$name" && echo 'rt: running it' ;;
+    run) make run "out/$name.o" && cp "out/$name.o" "out/$name" && echo 'rt: running it' ;;
     lib) make lib "out/lib$name.a" ;;
     ci)
         for file in crates/*/src/main.rt; do
             [ ! -e "$file" ] || (
-                cd "${file%/src*}" && mkdir -p out && make ci "out/${PWD##*/}.by-rattle"
+                cd "${file%/src*}" && mkdir -p out && made=out/${PWD##*/}.by-rattle &&
+                    make ci "$made" && { [ -n "${TAKEN-}" ] || cp "$made" "$made.o"; }
             )
         done
         ;;
@@ -79,12 +80,22 @@ while [ "$1" != -o ]; do
 done
 make build "$2"
 [ -z "${OTHER-}" ] || echo other >>"$2" """
+# What is linked is its first object, or else the third one, between those of the C library.
 LINKER = """
 while [ "$1" != -o ]; do
     shift
 done
 [ -z "${NOT_LINKED-}" ] || exit 1
 cp "$3" "$2" """
+STATIC_LINKER = """
+printf '%s\\n' "$*" >>"$WORK/linked"
+identifier=$*
+identifier=${identifier##*=0x}
+while [ "$1" != -o ]; do
+    shift
+done
+cp "$5" "$2"
+[ -z "${IDENTIFIED-}" ] || printf "$(printf %s "${identifier%% *}" | sed 's/../\\\\x&/g')" >>"$2" """
 
 # What could change what a script does.
 UNSET = ("CDPATH", "TMPDIR", "RT_JOBS", "RT_BACKEND")
@@ -151,11 +162,21 @@ class House(Cases):
 
     def bring_kit(self):
         """Brings what builds the programs, over a kit of small commands."""
-        self.bring("release.sh", "tools/launch", *(
-            f"tools/{it}.py" for it in ("release", "crates", "programs", "running", "index_page")))
+        self.bring("release.sh", "tools/launch", "tools/shims.c", *(f"tools/{it}.py" for it in (
+            "release", "crates", "programs", "running", "index_page", "static", "debian")))
         self.command(self.bin / "rt", RT)
         self.command(self.work / "a kit/bin/rattle", COMPILER)
         self.command(self.work / "a kit/bin/rattle-link", LINKER)
+        self.command(self.work / "a kit/toolchain/bin/ld.lld", STATIC_LINKER)
+        self.command(self.work / "a kit/toolchain/bin/clang", 'touch "${@: -1}"')
+        self.env["RIGNOLDA_MUSL"] = str(self.work / "musl")
+        self.musl("musl")
+
+    def musl(self, text):
+        """Says which C library there is for programs: one whose files have this text, or none."""
+        remove(self.work / "musl")
+        for name in ("rcrt1.o", "crti.o", "libc.a", "crtn.o") if text else ():
+            self.write(self.work / "musl/x86_64/lib" / name, text)
 
     def kit(self, name):
         """Says which kit there is."""

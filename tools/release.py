@@ -18,8 +18,11 @@
 
 What release/ has is in the table of tools/launch; a program is compressed. The file MANIFEST has
 the line of the kit, and a line for each of these files: its name, the digest of what it holds,
-unpacked if it is a program, the digest of its sources, and what it was compared with: the kit or
-the compiler that gave the same bytes from these sources. The programs of the daemon are made by
+unpacked if it is a program, the digest of its sources, and what it was compared with: the kit, with
+the C library that is inside a program, or the compiler that gave the same bytes from these sources.
+A program is linked by tools/static.py, of the object of which rt ci has linked its own; where there
+is no such C library here, or another one, --check compares that object. The programs of the daemon
+are made by
 tools/build_daemon --keep, which takes a minute, and stay as they are here, with what their lines
 say; what --check says of them is that they and their sources are those of their lines.
 
@@ -31,6 +34,7 @@ needs Python 3.8.
 """
 import contextlib
 import fcntl
+import functools
 import glob
 import hashlib
 import os
@@ -47,6 +51,7 @@ from collections import namedtuple
 from pathlib import Path
 
 import index_page
+import static
 from crates import anew, below, compiler, kit, listed, read, tasks
 from programs import Cases
 from running import Commands, Interrupted
@@ -62,6 +67,8 @@ TESTS = re.compile(r"^#\[cfg\(test\)\]\nmod ([a-z0-9_]*);\n", re.M)
 TARGET, WASM = "x86_64-unknown-linux-gnu", "wasm64-unknown-unknown"
 # The bytes of a module's stack: the lists of all links of a tree are on it, and copies of them.
 STACK = "16777216"
+# What a program names that the C library of the system loads.
+LOADER = b"/lib64/ld-linux-x86-64.so.2\0"
 
 # What release/ has: its kind, its crate, the digest of its sources, the beginning of the name of
 # what is built of them, and the file that was built, or an empty text.
@@ -80,12 +87,24 @@ def output(*words, **options):
 class Release(Commands):
     """The release and the present sources, and what runs."""
 
+    # The folder of the release, and the processor that it is for.
+    folder, processor = RELEASE, "x86_64"
+    # What has the digests of its archives.
+    sums = "SHA256SUMS"
+
     def __init__(self, speaker, *names):
         super().__init__()
         self.speaker, self.names, self.room, self.fresh = speaker, names, None, {}
+        # The digests of the objects of which programs were linked, by their names.
+        self.objects = {}
         # (the programs of the daemon, where the daemon is here)
         self.daemon = ("rignoldad", "rignoldactl") if (TOP / "rust/rignoldad").is_dir() else ()
         self.look()
+
+    @functools.cached_property
+    def library(self):
+        """The C library that goes into programs, or None."""
+        return static.musl(self.processor)
 
     def say(self, text):
         print(f"{self.speaker}: {text}", file=sys.stderr, flush=True)
@@ -97,7 +116,8 @@ class Release(Commands):
     def look(self):
         """Asks tools/launch what is here."""
         self.artefacts, self.released = {}, {}
-        said = subprocess.run(["bash", "-c", '. "$0/tools/launch"; tell "$@"', TOP, self.speaker,
+        ask = '. "$1/tools/launch"; release=$2; tell "${@:3}"'
+        said = subprocess.run(["bash", "-c", ask, "bash", TOP, self.folder, self.speaker,
                                *self.names], stdout=subprocess.PIPE, text=True)
         if said.returncode:
             sys.exit(said.returncode)
@@ -120,7 +140,7 @@ class Release(Commands):
     def file(self, name):
         """The file of an artefact in release/."""
         is_program = name in self.daemon or self.artefacts[name].kind == "program"
-        return RELEASE / (f"{name}.gz" if is_program else name)
+        return self.folder / (f"{name}.gz" if is_program else name)
 
     def contents(self, name):
         """What the file of an artefact holds, and whether it is whole and nothing follows it."""
@@ -218,14 +238,52 @@ class Release(Commands):
     def compile(self, tree, crate, source, to, *words):
         """Has the compiler prove and compile a crate over what rt ci has left of the libraries
         below it: the first file, the file to make, and what else the compiler is to be told."""
-        words = [*compiler("build", crate, source, tree), "-o", str(to), *words]
-        return self.does(words, f"{tree}/crates/{crate}")
+        return self.does([*compiler("build", crate, source, tree), "-o", str(to), *words],
+                         f"{tree}/crates/{crate}")
 
     def link(self, target, made, *files, options=()):
         """Has the linker of the kit make a file for this target, and answers whether it does."""
         home = kit()
         return self.does([f"{home}/bin/rattle-link", "--target", target, "--toolchain",
                           f"{home}/toolchain", *options, "-o", str(made), *files], made.parent)
+
+    def link_as_rt(self, made, to):
+        """Links a program as rt does: over the C library glibc, which it then needs where it runs.
+        """
+        home = kit()
+        return self.link(TARGET, to, made, f"{home}/c/libos_c.a", f"{home}/c/liblibc_c.a")
+
+    def make_object(self, tree, crate, made, jobs):
+        """Has Rattle's own compiler prove a program and make the object beside it."""
+        return self.compile(tree, crate, "src/main.rt", f"{made}.o", "--backend", "rattle",
+                            "--jobs", jobs)
+
+    def is_object_of(self, made):
+        """Whether the object beside a program is the one of which it was linked."""
+        again = made.with_name(f"{made.name}.again")
+        return (Path(f"{made}.o").is_file() and self.link_as_rt(f"{made}.o", again)
+                and again.read_bytes() == made.read_bytes())
+
+    def make_static(self, name, made):
+        """Links a program of the object beside the one that rt has made, so that it needs no C
+        library, and answers its file, or None. Where there is none to link, it is that of rt."""
+        self.objects[name] = digest_of(Path(f"{made}.o").read_bytes())
+        if not self.library:
+            self.say("Debian's package musl-dev is not here: the program needs the C library glibc")
+            return made
+        to = made.with_name(f"{made.name}.static")
+        is_well = static.link(self.library, self.processor, f"{made}.o", to,
+                              lambda words: self.does(words, made.parent))
+        return to if is_well else None
+
+    def make_program(self, tree, name):
+        """Makes a program of which rt ci has made its own, and answers its file, or None. rt ci may
+        have taken that from an earlier run, with no object then."""
+        crate = self.artefacts[name].crate
+        made = tree / f"crates/{crate}/out/{crate}.by-rattle"
+        is_well = made.is_file() and (self.is_object_of(made) or (
+            self.make_object(tree, crate, made, "2") and self.is_object_of(made)))
+        return self.make_static(name, made) if is_well else None
 
     def make_module(self, tree, crate, made):
         """Has the compiler make a module of a crate over the libraries that are there."""
@@ -244,11 +302,9 @@ class Release(Commands):
         jobs = str(min(tasks()[0], 4))
         self.log.flush()
         if (out.parent / "src/main.rt").is_file():
-            made, home = out / f"{crate}.by-rattle", kit()
-            is_well = self.compile(
-                tree, crate, "src/main.rt", f"{made}.o", "--backend", "rattle", "--jobs", jobs,
-            ) and self.link(TARGET, made, f"{made}.o", f"{home}/c/libos_c.a",
-                            f"{home}/c/liblibc_c.a")
+            made = out / f"{crate}.by-rattle"
+            is_well = (self.make_object(tree, crate, made, jobs)
+                       and self.link_as_rt(f"{made}.o", made))
         else:
             is_well = self.compile(tree, crate, "src/lib.rt", out / f"rlib/{crate}.rlib",
                                    "--statements", "--jobs", jobs)
@@ -261,19 +317,18 @@ class Release(Commands):
         None. rt ci has made the programs, each by two compilers; those of a release are made by
         Rattle's own. It makes no file of a library for C."""
         kind, crate = self.artefacts[name][:2]
+        if kind == "program":
+            return self.make_program(tree, name)
         home = tree / "crates" / crate
-        made = home / "out" / (f"{crate}.by-rattle" if kind == "program" else name)
+        made = home / "out" / name
         made.parent.mkdir(exist_ok=True)
-        is_well = True
-        if kind != "program":
-            made.unlink(missing_ok=True)
-            # (a check has left the libraries below with stamps, as rt itself takes them)
-            if any((tree / f"crates/{it}/out/rlib/stamp").is_file()
-                   for it in below(crate, listed())):
-                return self.make_over_checks(home, name)
+        made.unlink(missing_ok=True)
+        # (a check has left the libraries below with stamps, as rt itself takes them)
+        if any((tree / f"crates/{it}/out/rlib/stamp").is_file() for it in below(crate, listed())):
+            return self.make_over_checks(home, name)
         if kind == "module":
             is_well = self.make_module(tree, crate, made)
-        elif kind == "library":
+        else:
             is_well = self.compile(tree, crate, "src/lib.rt", made, "--crate-type", "staticlib",
                                    "--backend", "llvm", "--jobs", "2")
         return made if is_well and made.is_file() else None
@@ -353,7 +408,9 @@ class Release(Commands):
                 self.does(["rt", "run", "--backend", "rattle", *["--"] * bool(words), *words], home,
                           stdin=given)
             # (the status is that of the program, which rt runs once it is built)
-            made = re.search("^rt: running ", read(LOG), re.M) and home / "out" / crate
+            own = home / "out" / crate
+            made = (re.search("^rt: running ", read(LOG), re.M) and self.is_object_of(own)
+                    and self.make_static(name, own))
         else:
             made = self.make_over_checks(home, name)
         if not made:
@@ -423,7 +480,7 @@ class Release(Commands):
 
     def compare(self, name):
         """Says how a program that was built from nothing compares with that of the release."""
-        digest, sources, _ = self.released.get(name, ("", "", ""))
+        digest, sources = self.released.get(name, ("", ""))[:2]
         if self.why or not digest:
             self.say(f"nothing was compared: {self.why or f'the release has no {name}'}")
         elif sources != self.artefacts[name].sources:
@@ -432,6 +489,8 @@ class Release(Commands):
             self.say("the release is the same program, byte for byte"
                      if digest_of(self.contents(name)[0]) == digest else
                      f"MANIFEST names the same program, but {name}.gz beside it is ANOTHER one")
+        elif self.is_of_another_library(name):
+            self.say("nothing was compared: in the release is another C library than here")
         elif self.released_by != self.kit:
             self.say("the release is ANOTHER program of these sources; it was built by "
                      f"{self.released_by}")
@@ -453,6 +512,33 @@ class Release(Commands):
 
     # How it is released.
 
+    def write(self, files, lines):
+        """Writes the files of the release and its manifest of these lines, and nothing else that is
+        for the same machines."""
+        files[self.folder / "MANIFEST"] = "".join(f"{line}\n" for line in lines).encode()
+        for it in self.present():
+            shutil.rmtree(it) if it.is_dir() and not it.is_symlink() else it.unlink()
+        self.folder.mkdir(parents=True, exist_ok=True)
+        for file, data in files.items():
+            file.write_bytes(data)
+
+    def copy_archives(self):
+        """Copies the archives for the package of the crate for Rust, which has those of its target
+        inside."""
+        for name, part in ("librignolda.a", ""), ("librignolda_settings.a", "-settings"):
+            if (TOP / "rust/rignolda").is_dir() and (self.folder / name).is_file():
+                (TOP / "rust/rignolda/lib").mkdir(exist_ok=True)
+                shutil.copy(self.folder / name,
+                            TOP / f"rust/rignolda/lib/{self.processor}-linux{part}.a")
+
+    def present(self):
+        """What the folder of the release has, but that of the machines of another kind."""
+        return {*self.folder.glob("*")} - {RELEASE / "arm64"}
+
+    def compared_with(self):
+        """What a program is made with: the kit, and the C library."""
+        return f"{self.kit} and {self.library.name if self.library else 'glibc'}"
+
     def make(self, is_anew):
         """Makes the files of release/, which are built first if that was not done yet."""
         if is_anew or not all(it.built for it in self.artefacts.values()):
@@ -461,12 +547,15 @@ class Release(Commands):
             self.fail("the command rt of the Rattle kit is needed for a release")
         files, lines = {}, [f"kit {self.kit}"]
         for name, it in self.artefacts.items():
-            data = Path(it.built).read_bytes()
+            data, compared = Path(it.built).read_bytes(), self.kit
             if it.kind == "program":
-                data = output("gzip", "-9n", input=data)
+                if not self.library or LOADER in data:
+                    self.fail("for a release Debian's package musl-dev is needed: where that is "
+                              "here, run ./release.sh --prove")
+                data, compared = output("gzip", "-9n", input=data), self.compared_with()
             files[self.file(name)] = data
             lines.append(f"{name} sha256 {it.built[-64:]} sources {it.sources} "
-                         f"compared with {self.kit}")
+                         f"compared with {compared}")
         if not self.why and {*self.daemon} <= {*self.released}:
             for name in self.daemon:
                 if not self.file(name).is_file():
@@ -475,18 +564,10 @@ class Release(Commands):
                 lines.append("{} sha256 {} sources {} compared with {}".format(
                     name, *self.released[name]))
         # (what is no more of a release goes)
-        files[RELEASE / "MANIFEST"] = "".join(f"{line}\n" for line in lines).encode()
-        shutil.rmtree(RELEASE, ignore_errors=True)
-        RELEASE.mkdir(exist_ok=True)
-        for file, data in files.items():
-            file.write_bytes(data)
+        self.write(files, lines)
         if any(it.kind == "module" for it in self.artefacts.values()):
             index_page.write()
-        # (the package of the crate for Rust has the archives of its target inside)
-        for name, part in ("librignolda.a", ""), ("librignolda_settings.a", "-settings"):
-            if (TOP / "rust/rignolda").is_dir() and (RELEASE / name).is_file():
-                (TOP / "rust/rignolda/lib").mkdir(exist_ok=True)
-                shutil.copy(RELEASE / name, TOP / f"rust/rignolda/lib/x86_64-linux{part}.a")
+        self.copy_archives()
         names = " ".join(self.artefacts)
         self.say(f"release/ has what these sources give ({names}); commit all of it")
         if self.daemon:
@@ -508,15 +589,22 @@ class Release(Commands):
             self.make(False)
         return cases.sum_up()
 
+    def is_of_another_library(self, name):
+        """Whether the program of the release has another C library inside than is here, as its line
+        of the manifest says."""
+        named = re.search(" and (musl [0-9a-f]{64})$", self.released.get(name, ("",))[-1])
+        return (self.artefacts[name].kind == "program" and bool(named)
+                and (not self.library or self.library.name != named[1]))
+
     def cases(self):
         """Compares the release with what was just proved and built of the present sources: each
         case with whether it holds, and what is wrong if it does not."""
-        wanted = {RELEASE / "MANIFEST", *map(self.file, [*self.artefacts, *self.daemon])}
-        yield ("release/ has its files", {*RELEASE.glob("*")} == wanted
+        wanted = {self.folder / "MANIFEST", *map(self.file, [*self.artefacts, *self.daemon])}
+        yield ("release/ has its files", self.present() == wanted
                and all(it.is_file() and not it.is_symlink() for it in wanted),
                f"it has not exactly MANIFEST and a file for {' '.join(self.artefacts)}")
         yield ("the manifest is one", {*self.released} == {*self.artefacts, *self.daemon},
-               f"{RELEASE}/MANIFEST is missing or spoiled, or lists other files")
+               f"{self.folder}/MANIFEST is missing or spoiled, or lists other files")
         sources, differ = self.sources(*self.daemon), []
         for name in sources:
             yield (f"{name}: the manifest names these sources",
@@ -529,9 +617,13 @@ class Release(Commands):
                 continue
             made = self.make_after_ci(TOP, name)
             data = self.contents(name)[0]
-            is_same = bool(made) and data == made.read_bytes()
+            what, is_same = "the file is", bool(made) and data == made.read_bytes()
+            if made and self.is_of_another_library(name):
+                what = "the object in the file is"
+                is_same = static.has_object(data, self.objects[name])
+                print(f"{name} is NOT COMPARED as a whole: in it is another C library than here")
             differ += [name] * (not is_same)
-            yield (f"{name}: the file is what was just built, byte for byte", is_same,
+            yield (f"{name}: {what} what was just built, byte for byte", is_same,
                    f"it differs, or that was not built: see {LOG}")
             if self.artefacts[name].kind == "module":
                 yield (f"{name}: page/index.html has it",
@@ -553,6 +645,10 @@ class Release(Commands):
                   "release: where it makes the same again, run ./release.sh --prove")
         return cases.sum_up()
 
+    def maker(self, name):
+        """What makes the file of an artefact."""
+        return "tools/build_daemon --keep" if name in self.daemon else "./release.sh"
+
     def pack(self, to):
         """Puts the artefacts of the release into the folder of an archive, and then the pages, the
         examples and what else is for users: the sources of agents and of the Rust crate too, which
@@ -560,8 +656,8 @@ class Release(Commands):
         sources = self.sources(*self.daemon)
         for name in sources:
             if self.released.get(name, "??")[1] != sources[name]:
-                made_by = "tools/build_daemon --keep" if name in self.daemon else "./release.sh"
-                self.fail(f"the release of {name} was made from other sources: run {made_by} first")
+                self.fail(f"the release of {name} was made from other sources: run "
+                          f"{self.maker(name)} first")
             if not self.is_named(name):
                 self.fail(f"the release is spoiled: its {name} is not the one that its MANIFEST "
                           "names")
@@ -574,13 +670,16 @@ class Release(Commands):
         # (what was built there by hand stays)
         ignore = shutil.ignore_patterns("__pycache__", "out", "target")
         for part in ("README.md CHANGELOG.md examples LICENSE Makefile docs man completions "
-                     "include agents rust/rignolda rust/rignoldad/Cargo.toml "
+                     "include agents install.sh rust/rignolda rust/rignoldad/Cargo.toml "
                      "rust/rignoldad/packaging page/index.html").split():
             if (TOP / part).is_dir():
                 shutil.copytree(TOP / part, to / part, ignore=ignore, dirs_exist_ok=True)
             elif (TOP / part).exists():
                 (to / part).parent.mkdir(parents=True, exist_ok=True)
                 shutil.copy(TOP / part, to / part)
+        # (of what is inside programs)
+        if (TOP / "tools/musl-licence.txt").exists():
+            shutil.copy(TOP / "tools/musl-licence.txt", to)
         if (TOP / "tools/pages.py").exists():
             output(TOP / "tools/pages.py", to / "docs/CLAIMS.md")
 
@@ -590,9 +689,10 @@ class Release(Commands):
         if not os.access(maker, os.X_OK) or not shutil.which("dpkg-deb"):
             self.say("no package for Debian is made: there is no daemon or no dpkg-deb")
             return []
-        name = f"rignoldad_{version}_amd64.deb"
+        kind = static.DEBIAN[self.processor]
+        name = f"rignoldad_{version}_{kind}.deb"
         second = output("date", "-u", "-d", day, "+%s", text=True).strip()
-        output(maker, folder, version, "amd64", KEPT / name, env={
+        output(maker, folder, version, kind, KEPT / name, env={
             **os.environ, "SOURCE_DATE_EPOCH": second, "DPKG_DEB_COMPRESSOR_TYPE": "xz",
             "DPKG_DEB_COMPRESSOR_LEVEL": "6", "DPKG_DEB_THREADS_MAX": "1"})
         self.say(f"{KEPT}/{name}")
@@ -616,7 +716,7 @@ class Release(Commands):
                           f"{own[1]}")
         self.is_kept_own()
         self.room = Path(tempfile.mkdtemp())
-        folder = self.room / f"rignolda-{version}-x86_64-linux"
+        folder = self.room / f"rignolda-{version}-{self.processor}-linux"
         folder.mkdir()
         self.pack(folder)
         files = sorted(str(it.relative_to(folder)) for it in folder.rglob("*") if it.is_file())
@@ -630,7 +730,7 @@ class Release(Commands):
         self.say(f"{KEPT}/{names[0]}")
         names += self.package(folder, version, day)
         sums = "".join(f"{digest_of((KEPT / it).read_bytes())}  {it}\n" for it in names)
-        (KEPT / "SHA256SUMS").write_text(sums)
+        (KEPT / self.sums).write_text(sums)
         print(sums, end="")
 
 

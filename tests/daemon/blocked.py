@@ -72,6 +72,12 @@ SLOW_UNLINK = slow_call("unlink(const char *path)", "path", "/.pending/",
                         "SYS_unlinkat, AT_FDCWD, path, 0")
 
 
+# (a file that came to its place in the root's folder is one that the root does not know of yet)
+SLOW_RENAME = slow_call("rename(const char *from, const char *to)", "to", "/truth/", "0").replace(
+    "    while", "    int moved = syscall(SYS_rename, from, to);\n    while").replace(
+    "return syscall(0)", "return moved")
+
+
 def lacking():
     return None if shutil.which("cc") else "disks that hang: there is no cc"
 
@@ -174,6 +180,25 @@ def an_end_waits_for_no_reader_and_lines_have_priorities():
             if at % 10 == 0:
                 sure(answers(tree.root), "it does not answer after", at)
         sure(ends(tree.root), "it does not end")
+
+
+@test(needs=lacking)
+def what_others_write_while_a_setting_is_published_is_carried():
+    with Tree({"left": "root"}) as tree:
+        slow = preload(tree.root, SLOW_RENAME)
+        tree.root.tables["root"]["round"] = "1h"
+        tree.begin()
+        command = [tree.bin / "rignoldactl", "--socket", tree.root.socket, "publish", "key0"]
+        for value in "1", "2":
+            slow.touch()
+            began = slow.with_name("slow.began")
+            with subprocess.Popen([*command, value], stdout=subprocess.DEVNULL) as publish:
+                sure(until(began.exists), "it is not written")
+                (tree.root.truth / "key0").write_text(f"later than {value}")
+                slow.unlink()
+                sure(publish.wait() == 0, "it is not published")
+            began.unlink()
+            sure(tree.right(), tree.wrong())
 
 
 @test(begins=True, needs=lacking)

@@ -32,8 +32,8 @@ from relay import Relay
 from runner import sure, test
 
 # (each of them tells its tests)
-for name in ("blocked", "floods", "hostile", "memory_faults", "older", "parents", "store",
-             "watching"):
+for name in ("blocked", "floods", "hostile", "memory_faults", "older", "operating", "parents",
+             "store", "watching"):
     importlib.import_module(name)
 
 PACKAGING = pathlib.Path(__file__).resolve().parents[2] / "rust/rignoldad/packaging"
@@ -488,10 +488,12 @@ def a_root_without_its_settings_unsets_nothing():
             tree.root.truth.rmdir()
             away.rename(tree.root.truth)
             sure(until(tree.root.up) and tree.right(), tree.wrong())
-        # (what is meant, is taken)
+        # (what is meant, is confirmed)
         for path in tree.root.truth.iterdir():
             if path.name != ".empty":
                 path.unlink()
+        sure(until(lambda: tree.root.status()["held"]), tree.root.status())
+        tree.root.ask("confirm")
         sure(tree.right() and tree["left"].files() == {}, tree["left"].files())
 
 
@@ -784,8 +786,9 @@ def counts_are_there_for_prometheus():
         tree["left"].kill()
         sure(until(lambda: 'rignolda_child_connected{child="left"} 0' in counts()[1]))
         sure("404" in counts("/other")[0] and "404" in counts(method="POST")[0])
-        # each name that an alarm uses is one that is counted
-        names = set(re.findall(r"rignolda_[a-z_]+", (PACKAGING / "alarms.yml").read_text()))
+        # each name that an alarm uses, or the dashboard, is one that is counted
+        texts = [(PACKAGING / file).read_text() for file in ("alarms.yml", "dashboard.json")]
+        names = set(re.findall(r"rignolda_[a-z_]+", "".join(texts)))
         # (there is no TLS here; floods.py looks at that one)
         names.discard("rignolda_certificate_expires_timestamp_seconds")
         sure(names and names <= {name for name, _ in values}, names - {n for n, _ in values})
@@ -857,7 +860,7 @@ def manuals_and_completions_name_everything():
                                                 capture_output=True, text=True, check=True).stdout
         whole = help_of("rignoldactl")
         commands = re.findall(r"^  ([a-z]+) +", whole, re.MULTILINE)
-        sure(len(commands) == 11, commands)
+        sure(len(commands) == 15, commands)
         pages = {name: (PACKAGING / name).read_text().replace("\\-", "-") for name in (
             "rignoldactl.1", "rignoldactl.bash", "_rignoldactl", "rignoldactl.fish", "rignoldad.8",
             "rignoldad.toml.5")}

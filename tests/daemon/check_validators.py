@@ -21,7 +21,7 @@ from daemons import Tree, counted  # noqa: E402
 from programs import Cases, ran  # noqa: E402
 
 PACKAGING = TOP / "rust/rignoldad/packaging"
-ALARMS = PACKAGING / "alarms.yml"
+ALARMS, DASHBOARD = PACKAGING / "alarms.yml", PACKAGING / "dashboard.json"
 # By the program the package of Debian that has it.
 PROGRAMS = {"promtool": "prometheus", "lintian": "lintian", "mandoc": "mandoc",
             "systemd-analyze": "systemd"}
@@ -38,8 +38,10 @@ CASES = {
     "RignoldaRootless": [("rootless", "0x80", "0x39 1x3 0x40", "0x10 1x70")],
     "RignoldaAgentsAway": [("agents_away", "0x80", "0x39 2x3 0x40", "0x10 1x70")],
     "RignoldaFilesDiffer": [("agents_differing", "0x80", "0x39 2x3 0x40", "0x10 1x70")],
+    "RignoldaMended": [("mended_total", "0x80", "7x80", "0x30 1x50")],
     "RignoldaTwins": [("child_clashes_total{child=\"c\"}", "0x80", "3x80", "0x30 1x50")],
     "RignoldaUnpublished": [("unpublished", "0x80", "0x39 1x3 0x40", "0x10 2x70")],
+    "RignoldaHeld": [("held", "0x80", "0x39 1x3 0x40", "0x10 2x70")],
     "RignoldaItemWaits": [
         ("child_item_age_seconds{child=\"c\"}", "0.2x80", "0x39 40x1 0x40", "0+15x80")],
     "RignoldaBacklog": [
@@ -113,10 +115,24 @@ def counts(cases):
             cases.holds(f"Prometheus likes the counts of {agent.name}", said.returncode == 0,
                         said.stdout + said.stderr)
     counts = set(re.findall(r"^# TYPE (\w+)", "".join(texts), re.MULTILINE))
-    named = set(re.findall(r"\brignolda_\w+", ALARMS.read_text()))
+    named = set(re.findall(r"\brignolda_\w+", ALARMS.read_text() + DASHBOARD.read_text()))
     # (these agents have no certificate)
     counts.add("rignolda_certificate_expires_timestamp_seconds")
-    cases.holds("each alarm is of what is counted", named <= counts, named - counts)
+    cases.holds("each alarm, and the dashboard, is of what is counted", named <= counts,
+                named - counts)
+
+
+def dashboard(cases, room):
+    """Whether Prometheus can read what each panel of the dashboard asks for."""
+    panels = json.loads(DASHBOARD.read_text())["panels"]
+    asked = [target["expr"] for panel in panels for target in panel["targets"]]
+    rules = [{"record": f"asked{at}", "expr": it} for at, it in enumerate(asked)]
+    file = room / "dashboard.yml"
+    file.write_text(json.dumps({"groups": [{"name": "dashboard", "rules": rules}]}))
+    cases.works("Prometheus reads what the dashboard asks for", "promtool", "check", "rules", file)
+    cases.holds("each panel asks for something, and has a place of its own",
+                all(panel["targets"] for panel in panels)
+                and len({json.dumps(panel["gridPos"]) for panel in panels}) == len(panels))
 
 
 def package(cases, room):
@@ -168,6 +184,7 @@ def main():
         if shutil.which("promtool"):
             alarms(cases, room)
             counts(cases)
+            dashboard(cases, room)
         if shutil.which("lintian") and shutil.which("dpkg-deb"):
             package(cases, room)
         if shutil.which("mandoc"):

@@ -57,7 +57,7 @@ def reports_of_all_kinds_are_bounded_and_harm_nobody():
         first + [{"name": "a", "parent": "b"}, {"name": "b", "parent": "a"}], first * 9_999,
         [{**first[0], "inner": True, **numbers}], first + entries, first + chained]
     with running(shape, patient, without=["evil"]) as tree:
-        most = forget(tree.root) + 64
+        most = forget(tree.root) + 32
         for said in kinds:
             child = Child(tree.root, "evil")
             child.send(report(said))

@@ -143,6 +143,9 @@ def files_that_differ_are_seen():
         why = waits(tree.root, "--everywhere", number, seconds=3)
         sure(why and "leaf has other settings in its files" in why, why)
         sure(tree.root.status()["differing"] == 1, tree.root.status())
+        who = {it["agent"]: it["note"] for it in tree.root.ask("get", "colour", "--everywhere")}
+        sure(who["leaf"] == "not known: its files differ" and who["left"] == "", who)
+        sure(leaf.run("get", "colour").stdout == "glue", leaf.run("get", "colour"))
         sure(" differ " in tree.root.run("tree").stdout, tree.root.run("tree").stdout)
         # (at another agent nothing is compared)
         sure({it["compared"] for it in tree["left"].ask("tree")} == {"nothing"})

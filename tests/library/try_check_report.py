@@ -30,11 +30,10 @@ def some_of(items):
 
 def allowed(parent, acked, capacity, frames):
     """All lists that the link law allows."""
-    early = parent[:min(2 * capacity + 1, acked)]
-    sure = parent[2 * capacity + 1:acked]
     lasts = [[], parent[acked:acked + 1]]
-    return {tuple(strays + some + sure + last) for strays in some_of(frames)
-            for some in some_of(early) for last in lasts}
+    return {tuple(strays + some + parent[capacity + 1 + len(strays):acked] + last)
+            for strays in some_of(frames)
+            for some in some_of(parent[:min(capacity + 1 + len(strays), acked)]) for last in lasts}
 
 
 def laws(draw):
@@ -53,13 +52,13 @@ def laws(draw):
 def tree_laws(draw):
     """The same of the tree law, in which items that nobody published may be any."""
     published = [draw.randrange(3) for _ in range(draw.randint(0, 4))]
-    strays, missing = draw.randint(0, 2), draw.randint(0, 3)
+    strays, without, most = draw.randint(0, 2), draw.randint(0, 2), draw.randint(0, 3)
     lists = {tuple(front + some + published[missing:last])
-             for count in range(strays + 1)
+             for count in range(strays + 1) for missing in [min(without + count, most)]
              for front in map(list, itertools.product(range(4), repeat=count))
              for some in some_of(published[:missing])
              for last in range(min(missing, len(published)), len(published) + 1)}
-    return all(check_report.obeys_tree_law(strays, missing, published, list(items))
+    return all(check_report.obeys_tree_law(strays, without, most, published, list(items))
                == (items in lists)
                for length in range(6) for items in itertools.product(range(4), repeat=length))
 

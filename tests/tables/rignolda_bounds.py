@@ -30,10 +30,10 @@ def root_text(name, beneath=None):
     return text + (f"{name} after its restart: beneath it {cost(*beneath)}\n" if beneath else "")
 
 
-def node_text(name, depth, strays, opened, missing, rounds, strike, beneath=None):
-    """The lines of another node: its depth, C, E and M, the reading rounds for what is published
-    and those beside them, what a strike at the link into it costs, and what its restart costs
-    beneath it, where it has children."""
+def node_text(name, depth, strays, opened, missing, fewest, rounds, strike, beneath=None):
+    """The lines of another node: its depth, C, E and M, and the greatest of the sharper bounds, the
+    reading rounds for what is published and those beside them, what a strike at the link into it
+    costs, and what its restart costs beneath it, where it has children."""
     many = "no strays" if strays + opened == 0 else counted(strays + opened, "stray")
     published, more = rounds
     struck, restarted = f"{name} after a strike at the link into it: {cost(*strike)}", "as much"
@@ -43,6 +43,8 @@ def node_text(name, depth, strays, opened, missing, rounds, strike, beneath=None
     return (
         f"{name} depth {depth}: {many} (C {strays} + E {opened}), then published items in order; "
         f"of those before its last one only some of the first {missing} (M) can be missing\n"
+        f"{name} misses only some of the first {missing - strays}, of one more for each stray that it "
+        f"received, and at most of the first {fewest}\n"
         f"{name} has all but these after {published + more} reading rounds of its path: "
         f"{published} for the published items, and {more} more\n"
         f"{struck}\n{name} after its restart: {restarted}\n")
@@ -86,7 +88,10 @@ def text_of(job):
         up = parent[name]
         more = sum(capacity[node] for node in path(up)) + held(up) + len(path(up)) + 1
         strays, missing = fault([capacity[node] for node in above])
-        text += node_text(name, len(above), strays, held(name), missing, (len(job["items"]), more),
+        # Of one link all labels count twice, of those above it once, of those beneath it never.
+        fewest = max(MISSING[capacity[node]] + sum(capacity[it] + 1 for it in above[at + 1:])
+                     for at, node in enumerate(above))
+        text += node_text(name, len(above), strays, held(name), missing, fewest, (len(job["items"]), more),
                           fault([capacity[name]]),
                           fault([capacity[name], *worst]) if worst else None)
     return text
@@ -100,8 +105,8 @@ CHAIN = """\
 
 CHAIN_TEXT = (
     root_text("r", (1, 3))
-    + node_text("a", 1, 1, 2, 3, (2, 1), (1, 3), (3, 8))
-    + node_text("b", 2, 3, 2, 8, (2, 5), (2, 5)))
+    + node_text("a", 1, 1, 2, 3, 3, (2, 1), (1, 3), (3, 8))
+    + node_text("b", 2, 3, 2, 8, 7, (2, 5), (2, 5)))
 
 # A root with two children, the second of which has the wider link and two leaves.
 FORK = """\
@@ -111,11 +116,11 @@ FORK = """\
 "items":[],"links":[{"capacity":4,"labels":10},null,{"capacity":3,"labels":8},null]}"""
 
 FORK_TEXT = (
-    node_text("c", 2, 7, 0, 16, (0, 5), (4, 9))
+    node_text("c", 2, 7, 0, 16, 13, (0, 5), (4, 9))
     + root_text("r", (3, 7))
-    + node_text("a", 1, 1, 0, 3, (0, 1), (1, 3))
-    + node_text("b", 1, 3, 0, 7, (0, 1), (3, 7), (7, 16))
-    + node_text("d", 2, 4, 0, 10, (0, 5), (1, 3)))
+    + node_text("a", 1, 1, 0, 3, 3, (0, 1), (1, 3))
+    + node_text("b", 1, 3, 0, 7, 7, (0, 1), (3, 7), (7, 16))
+    + node_text("d", 2, 4, 0, 10, 7, (0, 5), (1, 3)))
 
 LONE = '{"version":1,"capacity":1,"labels":4,"tree":[{"name":"r"}],"items":[7,8],"starts":[]}'
 HANDMADE = [

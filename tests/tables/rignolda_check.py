@@ -20,6 +20,8 @@ r depth 0: no strays (C 0 + E 0), all published items in order
 r after its restart: beneath it at most 1 stray, and only some of the next 3 items can be missing
 a depth 1: at most 2 strays (C 1 + E 1), then published items in order; of those before its last \
 one only some of the first 3 (M) can be missing
+a misses only some of the first 2, of one more for each stray that it received, and at most of the \
+first 3
 a has all but these after 8 reading rounds of its path: 7 for the published items, and 1 more
 a after a strike at the link into it: at most 1 stray, and only some of the next 3 items can be \
 missing; beneath it no more
@@ -27,6 +29,8 @@ a after its restart: as much; beneath it, beside its new list, at most 2 strays,
 the next 6 items can be missing
 b depth 2: at most 3 strays (C 2 + E 1), then published items in order; of those before its last \
 one only some of the first 6 (M) can be missing
+b misses only some of the first 4, of one more for each stray that it received, and at most of the \
+first 5
 b has all but these after 11 reading rounds of its path: 7 for the published items, and 4 more
 b after a strike at the link into it: at most 1 stray, and only some of the next 3 items can be \
 missing
@@ -170,7 +174,13 @@ frames: 99
 offered: 10 11 12 13
 delivered: 98 13
 """),
-    (" 99 13", "", 0, "obeys\n"),
+    # (without a stray only the first two may be missing)
+    (" 99 13", "", 1, """\
+the link law of capacity 1 is broken, with 3 items acknowledged
+frames: 99
+offered: 10 11 12 13
+delivered:
+"""),
     (" 99 13\noffered: 10 11 12 13\nacked: 3", "\noffered: 10 11 12 13\nacked: 4", 1, """\
 the link law of capacity 1 is broken, with 4 items acknowledged
 frames: 99

@@ -8,47 +8,58 @@ from tables.rignolda_check import checked
 
 PROGRAM = "rignolda"
 
-# The chain r, a, b. At the moment r had 8 for a, and a had 7 for b; a stray was queued at b.
+# The chain r, a, b. At the moment r had 8 for a, and a had 7 for b; a stray was queued at each.
 JOB = """\
 {"capacity":1,"labels":4,
 "tree":[{"name":"r"},{"name":"a","parent":"r"},{"name":"b","parent":"a"}],
 "items":[20,21,22,23,24],"backlogs":[[],[8],[7]],
-"starts":[{"send":0,"recv":1},{"frames":[[2,99]],"send":0,"recv":1}]}"""
+"starts":[{"frames":[[2,98]],"send":0,"recv":1},{"frames":[[2,99]],"send":0,"recv":1}]}"""
 
-# What each node received since: a misses three of 8, 20, 21, 22, 23, 24, and b three of 7, 22, 23,
-# 24 after its stray.
+# What each node received since: after its stray a misses three of 8, 20, 21, 22, 23, 24, and b three
+# of 7, 98, 22, 23, 24 after its own.
 REPORT = """\
 r depth 0 received 5 acked - ended upstream
 items: 20 21 22 23 24
-a depth 1 received 3 acked 6 ended upstream
-items: 22 23 24
-b depth 2 received 2 acked 4 ended upstream
-items: 99 24
+a depth 1 received 4 acked 6 ended upstream
+items: 98 22 23 24
+b depth 2 received 3 acked 5 ended upstream
+items: 99 23 24
 """
 
 REPORTS = [
     ("", "", 0, "obeys\n"),
-    ("received 2 acked 4 ended upstream\nitems: 99",
-        "received 3 acked 4 ended upstream\nitems: 99 7",
+    ("received 3 acked 5 ended upstream\nitems: 99",
+        "received 4 acked 5 ended upstream\nitems: 99 7",
      0, "obeys\n"),
-    ("received 3 acked 6 ended upstream\nitems: 22 23 24\n"
-     "b depth 2 received 2 acked 4 ended upstream\nitems: 99 24",
-     "received 5 acked 6 ended upstream\nitems: 8 20 22 23 24\n"
-     "b depth 2 received 4 acked 6 ended upstream\nitems: 99 22 23 24", 0, "obeys\n"),
-    # (of the 6 items that a has for b then, no more than 5 are offered where 4 are acknowledged)
-    ("received 3 acked 6 ended upstream\nitems:", "received 5 acked 6 ended upstream\nitems: 8 20",
+    ("received 4 acked 6 ended upstream\nitems: 98 22 23 24\n"
+     "b depth 2 received 3 acked 5 ended upstream\nitems: 99 23 24",
+     "received 6 acked 6 ended upstream\nitems: 98 8 20 22 23 24\n"
+     "b depth 2 received 5 acked 7 ended upstream\nitems: 99 20 22 23 24", 0, "obeys\n"),
+    # (of the 7 items that a has for b then, no more than 6 are offered where 5 are acknowledged)
+    ("received 4 acked 6 ended upstream\nitems: 98",
+        "received 6 acked 6 ended upstream\nitems: 98 8 20",
      1, """\
 b: what it received since is not what the link law allows
-the link from a has capacity 1 and 4 acknowledged items
+the link from a has capacity 1 and 5 acknowledged items
 frames: 99
 backlog: 7
-items of a: 8 20 22 23 24
-items of b: 99 24
+items of a: 98 8 20 22 23 24
+items of b: 99 23 24
 """),
-    ("acked 4 ended upstream", "acked 3 ended turns", 1,
-     "b: a ended upstream with 4 items, and 3 of them are acknowledged\n"),
-    ("acked 6 ended upstream\nitems: 22 23 24\nb depth 2 received 2 acked 4",
-     "acked 6 ended turns\nitems: 22 23 24\nb depth 2 received 2 acked 3", 0, "obeys\n"),
+    # (without its stray a may miss two items alone)
+    ("received 4 acked 6 ended upstream\nitems: 98", "received 3 acked 6 ended upstream\nitems:", 1,
+     """\
+a: what it received since is not what the link law allows
+the link from r has capacity 1 and 6 acknowledged items
+frames: 98
+backlog: 8
+items of r: 20 21 22 23 24
+items of a: 22 23 24
+"""),
+    ("acked 5 ended upstream", "acked 4 ended turns", 1,
+     "b: a ended upstream with 5 items, and 4 of them are acknowledged\n"),
+    ("acked 6 ended upstream\nitems: 98 22 23 24\nb depth 2 received 3 acked 5",
+     "acked 6 ended turns\nitems: 98 22 23 24\nb depth 2 received 3 acked 4", 0, "obeys\n"),
     ("items: 20 21", "items: 21 20", 1, """\
 r: its items are not the published ones
 published: 20 21 22 23 24
@@ -58,25 +69,25 @@ items of r: 21 20 22 23 24
      "r: it has a count of acknowledged items, and no link leads into the root\n"),
     ("acked 6", "acked -", 1, "a: it has no count of acknowledged items\n"),
     ("acked 6", "acked 5", 1, "a: r ended upstream with 6 items, and 5 of them are acknowledged\n"),
-    ("items: 22 23 24", "items: 23 22 24", 1, """\
+    ("items: 98 22 23 24", "items: 98 23 22 24", 1, """\
 a: what it received since is not what the link law allows
 the link from r has capacity 1 and 6 acknowledged items
-frames:
+frames: 98
 backlog: 8
 items of r: 20 21 22 23 24
-items of a: 23 22 24
+items of a: 98 23 22 24
 """),
-    ("received 2 acked 4 ended upstream\nitems: 99",
-        "received 3 acked 4 ended upstream\nitems: 7 99",
+    ("received 3 acked 5 ended upstream\nitems: 99",
+        "received 4 acked 5 ended upstream\nitems: 7 99",
      1, """\
 b: what it received since is not what the link law allows
-the link from a has capacity 1 and 4 acknowledged items
+the link from a has capacity 1 and 5 acknowledged items
 frames: 99
 backlog: 7
-items of a: 22 23 24
-items of b: 7 99 24
+items of a: 98 22 23 24
+items of b: 7 99 23 24
 """),
-    ("items: 99 24", "items: 99 024", 1,
+    ("items: 99 23", "items: 99 023", 1,
      "not a report: line 6 is not as a report of this tree has it"),
 ]
 
@@ -86,18 +97,18 @@ JOBS = [
     (',"backlogs":[[],[8],[7]]', "", 1, """\
 a: what it has after its opening is not what the link law allows
 the link from r has capacity 1 and 6 acknowledged items
-frames:
+frames: 98
 items of r: 20 21 22 23 24
 opening:
-items of a: 22 23 24
+items of a: 98 22 23 24
 """),
     ("[[],[8],[7]]", "[[],[8],[]]", 1, """\
 b: what it received since is not what the link law allows
-the link from a has capacity 1 and 4 acknowledged items
+the link from a has capacity 1 and 5 acknowledged items
 frames: 99
 backlog:
-items of a: 22 23 24
-items of b: 99 24
+items of a: 98 22 23 24
+items of b: 99 23 24
 """),
     ("[[],[8],[7]]", "[[],[8]]", 1, "backlogs: wrong number of backlogs"),
     ("[[],[8],[7]]", "[[],[8],[7],[]]", 1, "backlogs: wrong number of backlogs"),

@@ -155,10 +155,10 @@ pub checked_as_a_tree : (input text : List ℕ) (its_job : JobValue) (obeys : Bo
 checked_as_a_tree input text its_job obeys answer (whole, read, same) is =
     subst (λ k. IsCheckedAs k input text obeys answer) (sym (job_is_a_tree input whole read)) is
 
-pub unchecked_as_a_tree : (input : List ℕ) (its_job : JobValue) (fault : CheckFault) → IsUnscheduled (job input) its_job
-    → IsUncheckedTree input fault → IsUnchecked input fault
-unchecked_as_a_tree input its_job fault (whole, read, same) why =
-    subst (λ k. IsUncheckedAs k input fault) (sym (job_is_a_tree input whole read)) why
+pub unchecked_as_a_tree : (input : List ℕ) (had : Option (List ℕ)) (its_job : JobValue) (fault : CheckFault) → IsUnscheduled (job input) its_job
+    → IsUncheckedTree input had fault → IsUnchecked input had fault
+unchecked_as_a_tree input had its_job fault (whole, read, same) why =
+    subst (λ k. IsUncheckedAs k input had fault) (sym (job_is_a_tree input whole read)) why
 
 -- of a link job
 pub checked_as_a_link : (input text : List ℕ) (obeys : Bool) (answer : List ℕ) → IfSome (value_of input) HasNoOthers
@@ -166,10 +166,10 @@ pub checked_as_a_link : (input text : List ℕ) (obeys : Bool) (answer : List �
 checked_as_a_link input text obeys answer none is =
     subst (λ k. IsCheckedAs k input text obeys answer) (sym (read_as_a_link (value_of input) none)) is
 
-pub unchecked_as_a_link : (input : List ℕ) (fault : CheckFault) → IfSome (value_of input) HasNoOthers
-    → IsUncheckedLink input fault → IsUnchecked input fault
-unchecked_as_a_link input fault none why =
-    subst (λ k. IsUncheckedAs k input fault) (sym (read_as_a_link (value_of input) none)) why
+pub unchecked_as_a_link : (input : List ℕ) (had : Option (List ℕ)) (fault : CheckFault) → IfSome (value_of input) HasNoOthers
+    → IsUncheckedLink input had fault → IsUnchecked input had fault
+unchecked_as_a_link input had fault none why =
+    subst (λ k. IsUncheckedAs k input had fault) (sym (read_as_a_link (value_of input) none)) why
 
 -- ---- a run that is drawn
 

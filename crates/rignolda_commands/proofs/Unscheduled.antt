@@ -9,6 +9,7 @@ use Rattle.stab_job_stream.specs.Parts.{SameMembers, the_schedule}
 use Rattle.stab_job_stream.proofs.ForCallers.{member_of}
 use Rattle.stab_job_stream.specs.Unscheduled.{unscheduled, IsUnscheduled}
 use Rattle.stab_json.specs.Values.{value_of}
+use Rattle.stab_report.specs.Texts.{IsNoText}
 use Rattle.stab_task.specs.Answers.{IsFault}
 use Rattle.stab_task.specs.declared.command.Task.TheVariants.{Tree}
 use Rattle.stab_task.specs.declared.fault.CliFault.{CliFault}
@@ -78,11 +79,12 @@ backlogs_beside input others (d, is, same) =
     (λ e. let at : get_or (codes "backlogs") 0 0 ≡ get_or the_schedule 0 0 = ap (λ s. get_or s 0 0) e in absurd (omega (arith, at)))
 
 -- backlogs of it that are refused
-pub refused_backlogs : (input : List ℕ) (its_job : JobValue) (given : Data) (refusal : BacklogFault) → IsBegunUnscheduled input its_job → given_backlogs (value_of input) ≡ Some given
-    → backlogs its_job.tree given ≡ Err refusal → IsUncheckedTree input (Backlogs refusal)
-refused_backlogs input its_job given refusal begun has why =
+pub refused_backlogs : (input : List ℕ) (had : Option (List ℕ)) (its_job : JobValue) (given : Data) (refusal : BacklogFault) → IsBegunUnscheduled input its_job
+    → given_backlogs (value_of input) ≡ Some given → backlogs its_job.tree given ≡ Err refusal → IsUncheckedTree input had (Backlogs refusal)
+refused_backlogs input had its_job given refusal begun has why =
     (refl, begun.whole, begun.begun, given, has, ap (λ j. backlogs j.tree given) (sym begun.same) ∙ why)
 
 -- a text that is no report of it
-pub no_report : (input : List ℕ) (its_job : JobValue) (line : ℕ) → IsBegunUnscheduled input its_job → IsUncheckedTree input (Line line)
-no_report input its_job line begun = (refl, (begun.whole, begun.begun))
+pub no_report : (input text : List ℕ) (its_job : JobValue) (line : ℕ) → IsBegunUnscheduled input its_job → IsNoText its_job.tree text
+    → IsUncheckedTree input (Some text) (Line line)
+no_report input text its_job line begun none = (refl, begun.whole, begun.begun, subst (λ j. IsNoText j.tree text) begun.same none)

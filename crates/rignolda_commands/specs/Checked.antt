@@ -10,7 +10,7 @@
 -- 7: it obeys, though nobody has published 7 since that moment.
 -- Source: this project's own.
 use Rattle.std.specs.Prelude.{◌≡◌, ◌≢◌, ◌↔◌, ℕ, Bool, List, Option, Some, None, IsTrue, Ok, Err}
-use Rattle.std.specs.Prelude.{codes, option_and_then}
+use Rattle.std.specs.Prelude.{IfSome, codes, option_and_then}
 use Rattle.serde_json.specs.Data.{Data}
 use Rattle.serde_json.specs.Find.{get}
 use Rattle.stab_core.specs.LinkState.{LinkState}
@@ -25,12 +25,13 @@ use Rattle.rignolda_moment.specs.Backlogs.{backlogs}
 use Rattle.rignolda_moment.specs.ObeysSince.{ObeysSince}
 use Rattle.rignolda_moment.specs.VerdictTexts.{SaysSince}
 use Rattle.stab_judge.specs.Reports.{OnePerNode, ReportValue}
-use Rattle.stab_report.specs.Texts.{IsTextOf}
+use Rattle.stab_report.specs.Texts.{IsNoText, IsTextOf}
 use Rattle.stab_script.specs.declared.link_job.LinkJob.{LinkJob}
 use Rattle.stab_task.specs.Answers.{IsFault}
 use Rattle.stab_task.specs.Loading.{IsUnloaded}
 use Rattle.stab_task.specs.declared.fault.CliFault.{CliFault}
 use Rattle.stab_task.specs.declared.fault.CliFault.TheVariants.{Memory}
+use Rattle.rignolda_verdict.specs.LinkTexts.{IsNoLink}
 use Rattle.rignolda_verdict.specs.LinkVerdicts.{ObeysLink, SaysLinkVerdict}
 use Rattle.rignolda_verdict.specs.Verdicts.{SaysVerdict}
 use Rattle.rignolda_commands.specs.Begun.{IsBegun, IsBegunLink}
@@ -106,28 +107,30 @@ IsChecked input text obeys answer =
 abbrev pub IsUnloadedReport : Option (List ℕ) → CliFault → Type 0
 IsUnloadedReport had fault = (fault ≢ Memory) × IsUnloaded had fault
 
--- why there is no verdict on bytes of this kind: the job is refused, as `stab` does it, or its
--- backlogs are; or the text is not loaded, or it is not read as that of a report of the job, or of
--- a link
-abbrev pub IsUncheckedAs : Kind → List ℕ → CheckFault → Type 0
-IsUncheckedAs its_kind input (Job fault) = IsFault (task_of its_kind) input fault
-IsUncheckedAs its_kind input (Unloaded fault) = Unit {0}
-IsUncheckedAs its_kind input (Backlogs refusal) =
+-- why there is no verdict on bytes of this kind and the text that is checked, where its reader
+-- tells it: the job is refused, as `stab` does it, or its backlogs are; or the text is not loaded,
+-- or it is that of no report of the job, or of no link
+abbrev pub IsUncheckedAs : Kind → List ℕ → Option (List ℕ) → CheckFault → Type 0
+IsUncheckedAs its_kind input had (Job fault) = IsFault (task_of its_kind) input fault
+IsUncheckedAs its_kind input had (Unloaded fault) = IsUnloadedReport had fault
+IsUncheckedAs its_kind input had (Backlogs refusal) =
     (its_kind ≡ kind.Job) × (its_job : JobValue) × IsBegun input its_job
     × (given : Data) × (given_backlogs (value_of input) ≡ Some given)
     × (backlogs its_job.tree given ≡ Err refusal)
-IsUncheckedAs its_kind input (Line line) =
-    (its_kind ≡ kind.Job) × ((its_job : JobValue) × IsBegun input its_job)
-IsUncheckedAs its_kind input (LinkLine line) =
+IsUncheckedAs its_kind input had (Line line) =
+    (its_kind ≡ kind.Job) × (its_job : JobValue) × IsBegun input its_job
+    × IfSome had (IsNoText its_job.tree)
+IsUncheckedAs its_kind input had (LinkLine line) =
     (its_kind ≡ kind.LinkJob) × ((its_job : LinkJob) × IsBegunLink input its_job)
+    × IfSome had IsNoLink
 
 -- the same of a job of a tree, and of a link job
-abbrev pub IsUncheckedTree : List ℕ → CheckFault → Type 0
-IsUncheckedTree input fault = IsUncheckedAs kind.Job input fault
+abbrev pub IsUncheckedTree : List ℕ → Option (List ℕ) → CheckFault → Type 0
+IsUncheckedTree input had fault = IsUncheckedAs kind.Job input had fault
 
-abbrev pub IsUncheckedLink : List ℕ → CheckFault → Type 0
-IsUncheckedLink input fault = IsUncheckedAs kind.LinkJob input fault
+abbrev pub IsUncheckedLink : List ℕ → Option (List ℕ) → CheckFault → Type 0
+IsUncheckedLink input had fault = IsUncheckedAs kind.LinkJob input had fault
 
--- why there is no verdict on these bytes
-abbrev pub IsUnchecked : List ℕ → CheckFault → Type 0
-IsUnchecked input fault = IsUncheckedAs (chosen None (value_of input)) input fault
+-- why there is no verdict on these bytes and this text
+abbrev pub IsUnchecked : List ℕ → Option (List ℕ) → CheckFault → Type 0
+IsUnchecked input had fault = IsUncheckedAs (chosen None (value_of input)) input had fault

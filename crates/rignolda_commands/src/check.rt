@@ -47,7 +47,8 @@ pub fn act_check<J: Read, R: Read, W: Write>(
         × IsChecked input text obeys answer
         × Appends (W.contents writer.old) (W.contents writer.new) answer))) }
     ensures fault { IfErr result (λ fault. fault ≢ CheckFault.Job CliFault.Write
-        → IfSome (J.remaining job.old) (λ input. IsUnchecked input fault)) }
+        → IfSome (J.remaining job.old) (λ input.
+        IsUnchecked input (R.remaining report.old) fault)) }
     ensures unloaded { (fault : CliFault) → result ≡ Err (CheckFault.Unloaded fault)
         → IsUnloadedReport (R.remaining report.old) fault }
     ensures nothing { IfErr result (λ fault. fault ≢ CheckFault.Job CliFault.Write
@@ -59,7 +60,7 @@ pub fn act_check<J: Read, R: Read, W: Write>(
 }
 
 /// What is said of the report that the second reader gives, and whether it obeys.
-#[tactic(auto, using(crate::proofs::Unread::whatever_is_read, crate::proofs::Unread::memory_is_refused))]
+#[tactic(auto, using(crate::proofs::Unread::whatever_is_read, crate::proofs::Unread::memory_is_refused, crate::proofs::Unread::unloaded_as_told))]
 fn check_input<J: Read, R: Read>(
     alloc: Global,
     job: &mut J,
@@ -68,8 +69,8 @@ fn check_input<J: Read, R: Read>(
     ensures checked { IfOk result (λ said. IfSome (J.remaining job.old) (λ input.
         IfSome (R.remaining report.old) (λ text.
         IsChecked input text said.1 (string_bytes said.0)))) }
-    ensures fault { IfErr result (λ fault.
-        IfSome (J.remaining job.old) (λ input. IsUnchecked input fault)) }
+    ensures fault { IfErr result (λ fault. IfSome (J.remaining job.old) (λ input.
+        IsUnchecked input (R.remaining report.old) fault)) }
     ensures unloaded { (fault : CliFault) → result ≡ Err (CheckFault.Unloaded fault)
         → IsUnloadedReport (R.remaining report.old) fault }
     ensures no_write { IfErr result (λ fault. fault ≢ CheckFault.Job CliFault.Write) }
@@ -90,8 +91,7 @@ fn check_input<J: Read, R: Read>(
 fn check_bytes(alloc: Global, bytes: &[u8], text: &[u8]) -> Result<(String, bool), CheckFault>
     ensures checked { IfOk result (λ said.
         IsChecked bytes.now text.now said.1 (string_bytes said.0)) }
-    ensures fault { IfErr result (IsUnchecked bytes.now) }
-    ensures loaded { (fault : CliFault) → result ≢ Err (CheckFault.Unloaded fault) }
+    ensures fault { IfErr result (IsUnchecked bytes.now (Some text.now)) }
     ensures no_write { IfErr result (λ fault. fault ≢ CheckFault.Job CliFault.Write) }
 {
     if seems_a_link_job(bytes) {
@@ -105,8 +105,7 @@ fn check_bytes(alloc: Global, bytes: &[u8], text: &[u8]) -> Result<(String, bool
 fn check_link_first(alloc: Global, bytes: &[u8], text: &[u8]) -> Result<(String, bool), CheckFault>
     ensures checked { IfOk result (λ said.
         IsChecked bytes.now text.now said.1 (string_bytes said.0)) }
-    ensures fault { IfErr result (IsUnchecked bytes.now) }
-    ensures loaded { (fault : CliFault) → result ≢ Err (CheckFault.Unloaded fault) }
+    ensures fault { IfErr result (IsUnchecked bytes.now (Some text.now)) }
     ensures no_write { IfErr result (λ fault. fault ≢ CheckFault.Job CliFault.Write) }
 {
     match read_plain_link_job(alloc, bytes)? {
@@ -127,8 +126,7 @@ fn check_plain_link(
     requires others { IfSome (value_of bytes.now) HasNoOthers }
     ensures checked { IfOk result (λ said.
         IsChecked bytes.now text.now said.1 (string_bytes said.0)) }
-    ensures fault { IfErr result (IsUnchecked bytes.now) }
-    ensures loaded { (fault : CliFault) → result ≢ Err (CheckFault.Unloaded fault) }
+    ensures fault { IfErr result (IsUnchecked bytes.now (Some text.now)) }
     ensures no_write { IfErr result (λ fault. fault ≢ CheckFault.Job CliFault.Write) }
 {
     let said = check_link_job(alloc, job, bytes, text)?;
@@ -139,8 +137,7 @@ fn check_plain_link(
 fn check_tree_first(alloc: Global, bytes: &[u8], text: &[u8]) -> Result<(String, bool), CheckFault>
     ensures checked { IfOk result (λ said.
         IsChecked bytes.now text.now said.1 (string_bytes said.0)) }
-    ensures fault { IfErr result (IsUnchecked bytes.now) }
-    ensures loaded { (fault : CliFault) → result ≢ Err (CheckFault.Unloaded fault) }
+    ensures fault { IfErr result (IsUnchecked bytes.now (Some text.now)) }
     ensures no_write { IfErr result (λ fault. fault ≢ CheckFault.Job CliFault.Write) }
 {
     match read_plain_job(alloc, bytes, false)? {
@@ -162,8 +159,7 @@ fn check_plain_job(
     requires members { (d : Data) × (value_of bytes.now ≡ Some d) × SameMembers d (view members.now) }
     ensures checked { IfOk result (λ said.
         IsChecked bytes.now text.now said.1 (string_bytes said.0)) }
-    ensures fault { IfErr result (IsUnchecked bytes.now) }
-    ensures loaded { (fault : CliFault) → result ≢ Err (CheckFault.Unloaded fault) }
+    ensures fault { IfErr result (IsUnchecked bytes.now (Some text.now)) }
     ensures no_write { IfErr result (λ fault. fault ≢ CheckFault.Job CliFault.Write) }
 {
     let said = check_tree_job(alloc, its_job, members, bytes, text)?;
@@ -174,8 +170,7 @@ fn check_plain_job(
 fn check_by_value(alloc: Global, bytes: &[u8], text: &[u8]) -> Result<(String, bool), CheckFault>
     ensures checked { IfOk result (λ said.
         IsChecked bytes.now text.now said.1 (string_bytes said.0)) }
-    ensures fault { IfErr result (IsUnchecked bytes.now) }
-    ensures loaded { (fault : CliFault) → result ≢ Err (CheckFault.Unloaded fault) }
+    ensures fault { IfErr result (IsUnchecked bytes.now (Some text.now)) }
     ensures no_write { IfErr result (λ fault. fault ≢ CheckFault.Job CliFault.Write) }
 {
     let value = read_value(alloc, bytes)?;
@@ -195,8 +190,7 @@ fn check_kind(
     requires { option_map view value ≡ value_of bytes.now }
     ensures checked { IfOk result (λ said.
         IsCheckedAs kind bytes.now text.now said.1 (string_bytes said.0)) }
-    ensures fault { IfErr result (IsUncheckedAs kind bytes.now) }
-    ensures loaded { (fault : CliFault) → result ≢ Err (CheckFault.Unloaded fault) }
+    ensures fault { IfErr result (IsUncheckedAs kind bytes.now (Some text.now)) }
     ensures no_write { IfErr result (λ fault. fault ≢ CheckFault.Job CliFault.Write) }
 {
     match kind {
@@ -216,8 +210,7 @@ fn check_link(
     requires { option_map view value ≡ value_of bytes.now }
     ensures checked { IfOk result (λ said.
         IsCheckedLink bytes.now text.now said.1 (string_bytes said.0)) }
-    ensures fault { IfErr result (IsUncheckedLink bytes.now) }
-    ensures loaded { (fault : CliFault) → result ≢ Err (CheckFault.Unloaded fault) }
+    ensures fault { IfErr result (IsUncheckedLink bytes.now (Some text.now)) }
     ensures no_write { IfErr result (λ fault. fault ≢ CheckFault.Job CliFault.Write) }
 {
     let job = link_job_of(alloc, value, bytes)?;
@@ -235,8 +228,7 @@ fn check_link_job(
     requires { link_job bytes.now ≡ Ok job.now }
     ensures checked { IfOk result (λ said.
         IsCheckedLink bytes.now text.now said.1 (string_bytes said.0)) }
-    ensures fault { IfErr result (IsUncheckedLink bytes.now) }
-    ensures loaded { (fault : CliFault) → result ≢ Err (CheckFault.Unloaded fault) }
+    ensures fault { IfErr result (IsUncheckedLink bytes.now (Some text.now)) }
     ensures no_write { IfErr result (λ fault. fault ≢ CheckFault.Job CliFault.Write) }
 {
     begin_link_job(job, bytes)?;
@@ -256,8 +248,7 @@ fn check_tree(
     requires { option_map view value ≡ value_of bytes.now }
     ensures checked { IfOk result (λ said.
         IsCheckedTree bytes.now text.now said.1 (string_bytes said.0)) }
-    ensures fault { IfErr result (IsUncheckedTree bytes.now) }
-    ensures loaded { (fault : CliFault) → result ≢ Err (CheckFault.Unloaded fault) }
+    ensures fault { IfErr result (IsUncheckedTree bytes.now (Some text.now)) }
     ensures no_write { IfErr result (λ fault. fault ≢ CheckFault.Job CliFault.Write) }
 {
     let Some(value) = value else {
@@ -277,8 +268,7 @@ fn check_value(
     requires { Some (view value.now) ≡ value_of bytes.now }
     ensures checked { IfOk result (λ said.
         IsCheckedTree bytes.now text.now said.1 (string_bytes said.0)) }
-    ensures fault { IfErr result (IsUncheckedTree bytes.now) }
-    ensures loaded { (fault : CliFault) → result ≢ Err (CheckFault.Unloaded fault) }
+    ensures fault { IfErr result (IsUncheckedTree bytes.now (Some text.now)) }
     ensures no_write { IfErr result (λ fault. fault ≢ CheckFault.Job CliFault.Write) }
 {
     let job = unscheduled_job_of(alloc, Some(value), bytes)?;
@@ -301,8 +291,7 @@ fn check_tree_job(
         ≡ get (codes "backlogs") (view members.now) }
     ensures checked { IfOk result (λ said.
         IsCheckedTree bytes.now text.now said.1 (string_bytes said.0)) }
-    ensures fault { IfErr result (IsUncheckedTree bytes.now) }
-    ensures loaded { (fault : CliFault) → result ≢ Err (CheckFault.Unloaded fault) }
+    ensures fault { IfErr result (IsUncheckedTree bytes.now (Some text.now)) }
     ensures no_write { IfErr result (λ fault. fault ≢ CheckFault.Job CliFault.Write) }
 {
     begin_job(its_job, bytes)?;

@@ -1,7 +1,9 @@
-ghost use Rattle.std.specs.Prelude.{◌≢◌, ℕ, List};
+ghost use Rattle.std.specs.Prelude.{◌≢◌, ℕ, List, Some};
 ghost use Rattle.rignolda_commands.specs.Begun.{IsBegunLink, IsBegunUnscheduled};
 ghost use Rattle.rignolda_commands.specs.Checked.{IsUncheckedLink, IsUncheckedTree};
+ghost use Rattle.rignolda_verdict.specs.LinkTexts.{IsNoLink};
 ghost use Rattle.stab_job.specs.JobValues.{JobValue};
+ghost use Rattle.stab_report.specs.Texts.{IsNoText};
 ghost use Rattle.stab_script.specs.declared.link_job.LinkJob.{LinkJob};
 
 use rignolda_moment::BacklogFault;
@@ -101,9 +103,9 @@ impl From<AllocError> for CheckFault {
 /// The fault of a text that is not read as a report.
 #[tactic(auto, using(crate::proofs::Unscheduled::no_report))]
 pub(crate) fn unread(fault: ReportFault) -> CheckFault
-    ensures fault { (input : List ℕ) (its_job : JobValue) → IsBegunUnscheduled input its_job
-        → IsUncheckedTree input result }
-    ensures loaded { (unloaded : CliFault) → result ≢ CheckFault.Unloaded unloaded }
+    ensures fault { (input text : List ℕ) (its_job : JobValue) → IsBegunUnscheduled input its_job
+        → (fault ≢ ReportFault.Memory → IsNoText its_job.tree text)
+        → IsUncheckedTree input (Some text) result }
     ensures no_write { result ≢ CheckFault.Job CliFault.Write }
 {
     match fault {
@@ -114,9 +116,9 @@ pub(crate) fn unread(fault: ReportFault) -> CheckFault
 
 /// The fault of a text that is not read as that of a link.
 pub(crate) fn unread_link(fault: ReportFault) -> CheckFault
-    ensures fault { (input : List ℕ) (its_job : LinkJob) → IsBegunLink input its_job
-        → IsUncheckedLink input result }
-    ensures loaded { (unloaded : CliFault) → result ≢ CheckFault.Unloaded unloaded }
+    ensures fault { (input text : List ℕ) (its_job : LinkJob) → IsBegunLink input its_job
+        → (fault ≢ ReportFault.Memory → IsNoLink text)
+        → IsUncheckedLink input (Some text) result }
     ensures no_write { result ≢ CheckFault.Job CliFault.Write }
 {
     match fault {

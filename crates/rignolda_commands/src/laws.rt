@@ -30,5 +30,5 @@ pub fn replays_are_accepted()
     ensures { (job : LinkJob) → AreLawful job.params → IsLawful job.params job.start
         → ObeysLink job (replay job.params (initial job.start) job.events) }
 {
-    stab_core::laws::every_replay_obeys_the_link_law();
+    stab_core::laws::every_replay_obeys_the_sharper_link_law();
 }

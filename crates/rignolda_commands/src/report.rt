@@ -1,7 +1,7 @@
 //! What the command `check` says of a text, once there is a job.
 
 ghost use Rattle.std.specs.Prelude.{◌≡◌, ◌≢◌, ℕ, List, string_bytes, Err, IfErr, IfOk};
-ghost use Rattle.std.specs.Prelude.{Some, Ok, codes, length};
+ghost use Rattle.std.specs.Prelude.{Option, Some, Ok, codes, length};
 ghost use Rattle.serde_json.specs.Find.{get};
 ghost use Rattle.serde_json.specs.View.{view};
 ghost use Rattle.stab_json.specs.Values.{value_of};
@@ -31,8 +31,7 @@ pub(crate) fn check_link_text(
     ensures checked { IfOk result (λ said.
         IsJudgedLink job.now text.now said.1 (string_bytes said.0)) }
     ensures fault { IfErr result (λ fault. (input : List ℕ) → IsBegunLink input job.now
-        → IsUncheckedLink input fault) }
-    ensures loaded { (fault : CliFault) → result ≢ Err (CheckFault.Unloaded fault) }
+        → IsUncheckedLink input (Some text.now) fault) }
     ensures no_write { IfErr result (λ fault. fault ≢ CheckFault.Job CliFault.Write) }
 {
     let report = match read_link_report(alloc, text) {
@@ -57,8 +56,7 @@ pub(crate) fn check_job(
         ≡ get (codes "backlogs") (view members.now) }
     ensures checked { IfOk result (λ said. IsJudgedBy (given_backlogs (value_of bytes.now)) job.now
         text.now said.1 (string_bytes said.0)) }
-    ensures fault { IfErr result (IsUncheckedTree bytes.now) }
-    ensures loaded { (fault : CliFault) → result ≢ Err (CheckFault.Unloaded fault) }
+    ensures fault { IfErr result (IsUncheckedTree bytes.now (Some text.now)) }
     ensures no_write { IfErr result (λ fault. fault ≢ CheckFault.Job CliFault.Write) }
 {
     match members.get("backlogs") {
@@ -79,8 +77,7 @@ fn check_since(
     requires given { given_backlogs (value_of bytes.now) ≡ Some (view given.now) }
     ensures checked { IfOk result (λ said. IsJudgedBy (Some (view given.now)) job.now
         text.now said.1 (string_bytes said.0)) }
-    ensures fault { IfErr result (IsUncheckedTree bytes.now) }
-    ensures loaded { (fault : CliFault) → result ≢ Err (CheckFault.Unloaded fault) }
+    ensures fault { IfErr result (IsUncheckedTree bytes.now (Some text.now)) }
     ensures no_write { IfErr result (λ fault. fault ≢ CheckFault.Job CliFault.Write) }
 {
     let lists = backlogs_of(alloc, job, bytes, given)?;
@@ -100,8 +97,8 @@ fn backlogs_of(
     requires given { given_backlogs (value_of bytes.now) ≡ Some (view given.now) }
     ensures read { IfOk result (λ lists. backlogs job.now.tree (view given.now) ≡ Ok lists) }
     ensures per_node { IfOk result (λ lists. length lists ≡ length job.now.tree.parents) }
-    ensures fault { IfErr result (IsUncheckedTree bytes.now) }
-    ensures loaded { (fault : CliFault) → result ≢ Err (CheckFault.Unloaded fault) }
+    ensures fault { IfErr result (λ fault. (had : Option (List ℕ))
+        → IsUncheckedTree bytes.now had fault) }
     ensures no_write { IfErr result (λ fault. fault ≢ CheckFault.Job CliFault.Write) }
 {
     match read_backlogs(alloc, job.tree(), given) {
@@ -122,8 +119,7 @@ fn check_text_since(
     ensures checked { IfOk result (λ said. IsJudgedSince job.now lists.now
         text.now said.1 (string_bytes said.0)) }
     ensures fault { IfErr result (λ fault. (input : List ℕ) → IsBegunUnscheduled input job.now
-        → IsUncheckedTree input fault) }
-    ensures loaded { (fault : CliFault) → result ≢ Err (CheckFault.Unloaded fault) }
+        → IsUncheckedTree input (Some text.now) fault) }
     ensures no_write { IfErr result (λ fault. fault ≢ CheckFault.Job CliFault.Write) }
 {
     let report = match read_text(alloc, job.tree(), text) {
@@ -138,8 +134,7 @@ fn check_text_since(
 fn check_text(alloc: Global, job: &Job, text: &[u8]) -> Result<(String, bool), CheckFault>
     ensures checked { IfOk result (λ said. IsJudged job.now text.now said.1 (string_bytes said.0)) }
     ensures fault { IfErr result (λ fault. (input : List ℕ) → IsBegunUnscheduled input job.now
-        → IsUncheckedTree input fault) }
-    ensures loaded { (fault : CliFault) → result ≢ Err (CheckFault.Unloaded fault) }
+        → IsUncheckedTree input (Some text.now) fault) }
     ensures no_write { IfErr result (λ fault. fault ≢ CheckFault.Job CliFault.Write) }
 {
     let report = match read_text(alloc, job.tree(), text) {

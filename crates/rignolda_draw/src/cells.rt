@@ -7,8 +7,7 @@ ghost use Rattle.rignolda_draw.specs.Schedules.{act_word, name_cell};
 ghost use Rattle.rignolda_draw.specs.Words.{cell, effect_word, event_word, frame_word, item_word};
 ghost use Rattle.rignolda_draw.specs.Words.{queue_word};
 
-use crate::words::{push_acks, push_effect, push_event, push_frames, push_item};
-use itoa::Buffer;
+use crate::words::{push_acks, push_decimal, push_effect, push_event, push_frames, push_item};
 use stab_core::{Effect, Event, Link};
 use stab_frames::Item;
 use stab_tree::{NodeId, Tree};
@@ -104,9 +103,8 @@ pub fn push_number_cell(text: &mut String, number: u64) -> Result<(), AllocError
     ensures { OnOk result
         (string_bytes text.new ≡ string_bytes text.old ++ cell 5 (decimal number)) }
 {
-    let mut buffer = Buffer::new();
     let from = text.len();
-    text.push_str(buffer.format(number))?;
+    push_decimal(text, number)?;
     pad(text, from, 5)
 }
 
@@ -149,22 +147,47 @@ fn push_recv_label_cell(text: &mut String, link: &Link) -> Result<(), AllocError
     ensures { OnOk result (string_bytes text.new ≡ string_bytes text.old
         ++ cell 9 (decimal link.now.state.recv_label)) }
 {
-    let mut buffer = Buffer::new();
     let from = text.len();
-    text.push_str(buffer.format(link.recv_label()))?;
+    push_decimal(text, u64::from(link.recv_label()))?;
     pad(text, from, 9)
 }
 
 /// Adds a space after the word that begins at this place, and more of them up to this width.
 fn pad(text: &mut String, from: usize, width: usize) -> Result<(), AllocError>
-    requires { from ≤ length (string_bytes text.old) }
+    requires begun { from ≤ length (string_bytes text.old) }
+    requires narrow { width ≤ 19 }
     ensures { OnOk result (string_bytes text.new ≡ string_bytes text.old ++ codes " "
         ++ replicate (width - (length (string_bytes text.old) - from)) 32) }
 {
     let len = text.len() - from;
-    text.push_str(" ")?;
-    for _blank in 0..width.saturating_sub(len) {
-        text.push_str(" ")?;
+    text.push_str(blanks(width.saturating_sub(len)))
+}
+
+/// One space, and this many more: at most 19.
+fn blanks(more: usize) -> &'static str
+    requires { more ≤ 19 }
+    ensures { result.now ≡ codes " " ++ replicate more 32 }
+{
+    match more {
+        0 => " ",
+        1 => "  ",
+        2 => "   ",
+        3 => "    ",
+        4 => "     ",
+        5 => "      ",
+        6 => "       ",
+        7 => "        ",
+        8 => "         ",
+        9 => "          ",
+        10 => "           ",
+        11 => "            ",
+        12 => "             ",
+        13 => "              ",
+        14 => "               ",
+        15 => "                ",
+        16 => "                 ",
+        17 => "                  ",
+        18 => "                   ",
+        _ => "                    ",
     }
-    Ok(())
 }

@@ -6,9 +6,28 @@ ghost use Rattle.std.specs.List.{flat_map};
 ghost use Rattle.rignolda_draw.specs.Words.{comma_before, delivered_by, effect_word, event_word};
 ghost use Rattle.rignolda_draw.specs.Words.{frame_word, item_word, queue_word};
 
+use itoa::Buffer;
 use stab_core::{Effect, Event, Link};
 use stab_frames::{Frame, Item, Label};
 use std::alloc::AllocError;
+
+/// Adds a number.
+pub(crate) fn push_decimal(text: &mut String, number: u64) -> Result<(), AllocError>
+    ensures { OnOk result (string_bytes text.new ≡ string_bytes text.old ++ decimal number) }
+{
+    let mut buffer = Buffer::new();
+    text.push_str(buffer.format(number))
+}
+
+/// Adds a number between these words.
+fn push_between(text: &mut String, before: &str, number: u64, after: &str) -> Result<(), AllocError>
+    ensures { OnOk result (string_bytes text.new
+        ≡ string_bytes text.old ++ before.now ++ decimal number ++ after.now) }
+{
+    text.push_str(before)?;
+    push_decimal(text, number)?;
+    text.push_str(after)
+}
 
 /// Adds an event as a job has it, without spaces.
 #[tactic(auto, unfolding(crate::specs::Words::event_word))]
@@ -16,7 +35,7 @@ pub(crate) fn push_event(text: &mut String, event: Event) -> Result<(), AllocErr
     ensures { OnOk result (string_bytes text.new ≡ string_bytes text.old ++ event_word event) }
 {
     match event {
-        Event::Offer(item) => write!(text, r#"["offer",{item}]"#),
+        Event::Offer(item) => push_between(text, r#"["offer","#, u64::from(item), "]"),
         Event::SendFrame => text.push_str(r#""send_frame""#),
         Event::RecvFrame { keep: false } => text.push_str(r#""recv_frame""#),
         Event::RecvFrame { keep: true } => text.push_str(r#""recv_frame_keep""#),
@@ -63,7 +82,7 @@ pub(crate) fn push_item(text: &mut String, item: Option<Item>) -> Result<(), All
     ensures { OnOk result (string_bytes text.new ≡ string_bytes text.old ++ item_word item) }
 {
     match item {
-        Some(item) => write!(text, "{item}"),
+        Some(item) => push_decimal(text, u64::from(item)),
         None => text.push_str("-"),
     }
 }
@@ -94,7 +113,9 @@ fn push_frame(text: &mut String, place: u16, entry: Option<Frame>) -> Result<(),
         return Ok(());
     };
     push_comma(text, place)?;
-    write!(text, "{}={}", frame.label, frame.item)
+    push_decimal(text, u64::from(frame.label))?;
+    text.push_str("=")?;
+    push_decimal(text, u64::from(frame.item))
 }
 
 /// Adds the queued acknowledgements, with a comma between two, or `-`.
@@ -123,7 +144,7 @@ fn push_ack(text: &mut String, place: u16, entry: Option<Label>) -> Result<(), A
         return Ok(());
     };
     push_comma(text, place)?;
-    write!(text, "{label}")
+    push_decimal(text, u64::from(label))
 }
 
 /// Adds the comma before the entry at this place.

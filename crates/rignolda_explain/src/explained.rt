@@ -1,6 +1,6 @@
-ghost use Rattle.std.specs.Prelude.{◌≡◌, IfOk, IfSome, IsSome, IsTrue, Some};
+ghost use Rattle.std.specs.Prelude.{◌≡◌, All, IfOk, IfSome, IsSome, IsTrue, Some};
 ghost use Rattle.stab_json.specs.Values.{value_of};
-ghost use Rattle.rignolda_explain.specs.Findings.{LedBy};
+ghost use Rattle.rignolda_explain.specs.Findings.{IsNoRefusal, LedBy};
 ghost use Rattle.rignolda_explain.specs.Kinds.{chosen};
 ghost use Rattle.rignolda_explain.specs.Refusals.{refusal_of};
 
@@ -15,8 +15,8 @@ use stab_json::read_value;
 use std::alloc::{AllocError, Global};
 
 /// What is wrong with these bytes, read as a job of the given kind, or of the kind that they look
-/// like: an object with a member `tree` is a job of a tree, and everything else a link job. Only
-/// memory can be refused.
+/// like: an object with a member `tree` is a job of a tree, and everything else a link job. Where
+/// the reader accepts them, no finding is of a refusal. Only memory can be refused.
 pub fn explain(alloc: Global, given: Option<Kind>, bytes: &[u8]) -> Result<Explanation, AllocError>
     ensures kind { IfOk result (λ its. its.kind ≡ chosen given (value_of bytes.now)) }
     ensures refusal { IfOk result (λ its. its.refusal ≡ refusal_of its.kind bytes.now) }
@@ -65,9 +65,9 @@ fn look(
     Ok(notes)
 }
 
-/// The findings, of which the first is of the refusal, where there is one. The walk makes the
-/// reader's checks in their order, so that its first finding is of that refusal; otherwise one
-/// without a place is put before it.
+/// The findings, of which the first is of the refusal, where there is one, and else none is of a
+/// refusal. The walk makes the reader's checks in their order, so that its first finding is of that
+/// refusal; otherwise one without a place is put before it.
 fn led_by(
     alloc: Global,
     refusal: &Option<Refusal>,
@@ -77,7 +77,26 @@ fn led_by(
 {
     match refusal {
         Some(refusal) => led_by_one(alloc, refusal, findings),
-        None => Ok(findings),
+        None => Ok(unrefused(findings)),
+    }
+}
+
+/// The findings that are of no refusal. Of a job that the reader accepts the walk has no others:
+/// any other would be wrong.
+fn unrefused(mut findings: Vec<Finding>) -> Vec<Finding>
+    ensures { All IsNoRefusal result.items }
+{
+    findings.retain(|finding| is_no_refusal(finding));
+    findings
+}
+
+/// Whether a finding is of no refusal.
+fn is_no_refusal(finding: &Finding) -> bool
+    ensures { IsTrue result → IsNoRefusal finding.now }
+{
+    match finding.matter {
+        Matter::Refused(_) => false,
+        _ => true,
     }
 }
 

@@ -7,7 +7,8 @@
 //!
 //! Two facts are proved. The [`Explanation`]'s refusal is exactly the answer of the reader of such
 //! bytes, `read_link_job` or `read_job`: none where it accepts them, and else its fault. And the
-//! first finding is of that fault. The places, and all findings after the first, are tested.
+//! first finding is of that fault, or no finding is of any. The places, and all findings after the
+//! first of a refused job, are tested.
 #![tactic(auto)]
 
 mod explained;

@@ -3,7 +3,8 @@
 -- judged: the answer is `obeys` and a newline, or names the node whose list the laws do not allow.
 -- Without that member the fault is a wrong shape of the logs.
 -- Source: this project's own.
-use Rattle.std.specs.Prelude.{◌≡◌, ℕ, ◌↔◌, Bool, List, Option, Some, None, IsTrue, Result, Ok, Err}
+use Rattle.std.specs.Prelude.{◌≡◌, ℕ, ◌↔◌, Bool, List, length, Option, Some, None, IsTrue}
+use Rattle.std.specs.Prelude.{Result, Ok, Err}
 use Rattle.serde_json.specs.Data.{Data}
 use Rattle.stab_job.specs.JobValues.{JobValue, network}
 use Rattle.stab_job.specs.Jobs.{job}
@@ -17,7 +18,6 @@ use Rattle.rignolda_logs.specs.declared.logs.LogsFault.TheVariants as fault
 use Rattle.stab_task.specs.Answers.{IsFault}
 use Rattle.stab_task.specs.Statuses.{status_of}
 use Rattle.stab_task.specs.declared.command.Task.TheVariants.{Tree}
-use Rattle.stab_tree.specs.Nodes.{Nodes}
 use Rattle.rignolda_judge.specs.declared.fault.JudgeFault.{JudgeFault}
 use Rattle.rignolda_judge.specs.declared.fault.JudgeFault.TheVariants.{Job, Logs}
 
@@ -29,10 +29,10 @@ IsJob input its_job = job input ≡ Ok its_job
 abbrev pub IsUnscheduledJob : List ℕ → JobValue → Type 0
 IsUnscheduledJob input its_job = IsUnscheduled (job input) its_job
 
--- the logs of the nodes of a tree that a value has, if it is one
-abbrev pub logs_in : Nodes → Option Data → Result LogsValue LogsFault
-logs_in t None = Err fault.Shape
-logs_in t (Some d) = logs t d
+-- the logs of the nodes of a job that a value has, if it is one
+abbrev pub logs_in : JobValue → Option Data → Result LogsValue LogsFault
+logs_in its_job None = Err fault.Shape
+logs_in its_job (Some d) = logs its_job.tree (length its_job.items) d
 
 -- These bytes are a job with logs. It is answered that they obey exactly if they obey the laws
 -- since a moment, whatever was in the links and nodes then; and the answer says so, or which part
@@ -41,7 +41,7 @@ pub record IsJudged (input : List ℕ) (obeys : Bool) (answer : List ℕ) : Type
   pub its_job : JobValue
   pub read : IsJob input its_job
   pub its_logs : LogsValue
-  pub has : logs_in its_job.tree (value_of input) ≡ Ok its_logs
+  pub has : logs_in its_job (value_of input) ≡ Ok its_logs
   pub exactly : IsTrue obeys ↔ ObeysLogs (network its_job) its_logs
   pub says : SaysLogs (network its_job) its_logs obeys answer
 
@@ -50,7 +50,7 @@ abbrev pub IsUnjudged : List ℕ → JudgeFault → Type 0
 IsUnjudged input (Job refusal) = IsFault Tree input refusal
 IsUnjudged input (Logs refusal) =
     (its_job : JobValue) × IsJob input its_job
-    × (logs_in its_job.tree (value_of input) ≡ Err refusal)
+    × (logs_in its_job (value_of input) ≡ Err refusal)
 
 -- the status that `stab` has for this fault, and 1 for logs that are refused
 abbrev pub judge_status : JudgeFault → ℕ

@@ -69,8 +69,8 @@ fn judge_bytes(alloc: Global, bytes: &[u8]) -> Result<(String, bool), JudgeFault
 /// The job that these bytes are, with an empty schedule, and a value that has their logs.
 fn job_of(alloc: Global, bytes: &[u8]) -> Result<(Job, Value), CliFault>
     ensures read { IfOk result (λ read. IsUnscheduledJob bytes.now read.0) }
-    ensures logs { IfOk result (λ read. logs_in read.0.tree (value_of bytes.now)
-        ≡ logs read.0.tree (view read.1)) }
+    ensures logs { IfOk result (λ read. logs_in read.0 (value_of bytes.now)
+        ≡ logs read.0.tree (length read.0.items) (view read.1)) }
     ensures fault { IfErr result (IsFault Task.Tree bytes.now) }
     ensures no_write { IfErr result (λ fault. fault ≢ CliFault.Write) }
 {
@@ -81,14 +81,16 @@ fn job_of(alloc: Global, bytes: &[u8]) -> Result<(Job, Value), CliFault>
 /// The logs that this value has for the nodes of a job.
 #[tactic(auto, using(crate::proofs::Unscheduled::refused_logs))]
 fn logs_of(alloc: Global, job: &Job, members: &Value) -> Result<Logs, JudgeFault>
-    ensures has { IfOk result (λ its. logs job.now.tree (view members.now) ≡ Ok its) }
+    ensures has { IfOk result (λ its.
+        logs job.now.tree (length job.now.items) (view members.now) ≡ Ok its) }
     ensures per_node { IfOk result (λ its. length its.received ≡ length job.now.tree.parents) }
     ensures fault { IfErr result (λ fault. (input : List ℕ) → IsUnscheduledJob input job.now
-        → logs_in job.now.tree (value_of input) ≡ logs job.now.tree (view members.now)
+        → logs_in job.now (value_of input)
+        ≡ logs job.now.tree (length job.now.items) (view members.now)
         → IsUnjudged input fault) }
     ensures no_write { IfErr result (λ fault. fault ≢ JudgeFault.Job CliFault.Write) }
 {
-    match read_logs(alloc, job.tree(), members) {
+    match read_logs(alloc, job.tree(), job.items(), members) {
         Ok(logs) => Ok(logs),
         Err(LogsFault::Memory) => Err(JudgeFault::Job(CliFault::Memory)),
         Err(fault) => Err(JudgeFault::Logs(fault)),

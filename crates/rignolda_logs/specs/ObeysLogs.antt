@@ -1,21 +1,26 @@
 -- Which logs obey the laws since a moment at which nobody knows what was in the links and what the
--- nodes had for one another, and at which node which part is broken.
+-- nodes had for one another, and at which node which part is broken. Each node has its own moment,
+-- and that of a child is not before that of its parent.
 -- Example: In the chain r, a, b of capacity 1, where an inner node has at most 2 items for a child,
 -- b may have received 1 + 1 + 2 = 4 strays, and of what is published in its count some of the first
--- 3 + 3 = 6 items may be missing before its last one. If 10 to 19 are published and a received 97,
--- 13, 14, it obeys: 97 is its one stray. Had it received 97, 98, 13, the part `Strays` would be
--- broken at a. Had it received 97, 13, 15, then 14 would be missing, which is not among the first
--- 3: the part `Missing` would be broken at a.
+-- 2 + 2 = 4 items may be missing before its last one, and of one more for each stray, but at most
+-- of the first 2 + 3 = 5. If 10 to 19 are published and a received 97, 13, 14, it obeys: 97 is its
+-- one stray, so 10, 11 and 12 may be missing. Had it received 97, 98, 13, the part `Strays` would
+-- be broken at a. Had it received 97, 13, 15, or 13 and 14 alone, the part `Missing` would be: 14
+-- is not among the first 3, and 12 not among the first 2. If b received 13, 14, 15, 16, the part
+-- `Parent` is broken at b: only 1 + 2 = 3 of these can be strays on their way from a, which received
+-- no 16.
 -- Source: this project's own.
-use Rattle.std.specs.Prelude.{◌≡◌, ◌+◌, ◌<◌, ◌≤◌, ℕ, List, length, drop, option_and_then, is_some}
+use Rattle.std.specs.Prelude.{◌≡◌, ◌+◌, ◌<◌, ◌≤◌, ⊤, ℕ, List, ◌++◌, length, drop, MatchOption}
 use Rattle.std.specs.Prelude.{if◌then◌else◌}
-use Rattle.std.specs.Prelude.{Option}
+use Rattle.std.specs.Prelude.{Option, Some, option_and_then, is_some}
 use Rattle.stab_faults.specs.Moment.{Moment, old_backlog, published_since}
 use Rattle.stab_tree.specs.Nodes.{parent_at}
 use Rattle.stab_treecore.specs.Network.{Network}
-use Rattle.stab_treecore.specs.NodeLaws.{capacity_into, most_missing}
+use Rattle.stab_treecore.specs.NodeLaws.{capacity_into}
 use Rattle.stab_treecore.specs.Paths.{path_sum}
-use Rattle.stab_treecore.specs.TreeLaw.{HalfTreeLaw, TreeLaw}
+use Rattle.stab_treecore.specs.SharperLaw.{SharperTreeLaw, fewest_missing, missing_without_strays}
+use Rattle.stab_treecore.specs.TreeLaw.{HalfTreeLaw}
 use Rattle.rignolda_logs.specs.Logs.{LogsValue, from_at, received_at}
 use Rattle.rignolda_logs.specs.declared.broken.BrokenLog.{BrokenLog}
 use Rattle.rignolda_logs.specs.declared.broken.BrokenLog.TheVariants as broken
@@ -44,11 +49,35 @@ pub record IsOrdered (net : Network) (logs : LogsValue) (node : ℕ) : Type 0 wh
   pub law : HalfTreeLaw (strays_at net node) garbage (counted net logs node)
       (received_at logs node)
 
--- the same, and none is missing before the last one of them, except among the first M
-pub record LogObeys (net : Network) (logs : LogsValue) (node : ℕ) : Type 0 where
+-- the same by the sharper law: before the last of these items few of the first ones are missing
+pub record ObeysAlone (net : Network) (logs : LogsValue) (node : ℕ) : Type 0 where
   pub garbage : List ℕ
-  pub law : TreeLaw (strays_at net node) (most_missing net node) garbage (counted net logs node)
-      (received_at logs node)
+  pub law : SharperTreeLaw (strays_at net node) (missing_without_strays net node)
+      (fewest_missing net node) garbage (counted net logs node) (received_at logs node)
+
+-- the most strays of a child in its parent's eyes: what was in the link and what the parent had
+abbrev pub strays_into : Network → ℕ → ℕ
+strays_into net child =
+    capacity_into net child + kept_for net.tree.parents net.openings.hold child
+
+-- what a child received are few strays, whatever they are, and then items that its parent received,
+-- in that order, each at most once
+pub record Follows (net : Network) (logs : LogsValue) (child parent : ℕ) : Type 0 where
+  pub garbage : List ℕ
+  pub law : HalfTreeLaw (strays_into net child) garbage (received_at logs parent)
+      (received_at logs child)
+
+-- a node follows its parent, if that is an inner node: what the root received is what is published
+abbrev pub FollowsParent : Network → LogsValue → ℕ → Type 0
+FollowsParent net logs node =
+    MatchOption (parent_at net.tree.parents node) ⊤
+    (λ parent. MatchOption (parent_at net.tree.parents parent) ⊤
+    (λ above. Follows net logs node parent))
+
+-- the log of a node obeys
+pub record LogObeys (net : Network) (logs : LogsValue) (node : ℕ) : Type 0 where
+  pub alone : ObeysAlone net logs node
+  pub follows : FollowsParent net logs node
 
 -- the logs obey the laws
 pub record ObeysLogs (net : Network) (logs : LogsValue) : Type 0 where
@@ -57,18 +86,21 @@ pub record ObeysLogs (net : Network) (logs : LogsValue) : Type 0 where
 -- this part is broken
 abbrev pub IsBrokenLog : Network → LogsValue → BrokenLog → Type 0
 IsBrokenLog net logs (broken.Strays node) = ¬ IsOrdered net logs node
-IsBrokenLog net logs (broken.Missing node) = IsOrdered net logs node × ¬ LogObeys net logs node
+IsBrokenLog net logs (broken.Missing node) = IsOrdered net logs node × ¬ ObeysAlone net logs node
+IsBrokenLog net logs (broken.Parent node) =
+    ObeysAlone net logs node × ¬ FollowsParent net logs node
 
 -- the node at which a part is broken
 abbrev pub place_of : BrokenLog → ℕ
 place_of (broken.Strays node) = node
 place_of (broken.Missing node) = node
+place_of (broken.Parent node) = node
 
 -- each node before the broken one obeys
 abbrev pub IsFirstLog : Network → LogsValue → BrokenLog → Type 0
 IsFirstLog net logs part = (earlier : ℕ) → earlier < place_of part → LogObeys net logs earlier
 
--- this was so at the moment: the tree and the capacities are those of the network, and no inner
+-- this was so at the moment of a node: the tree and the capacities are those of the network, and no inner
 -- node had more for a child than it may have
 pub record IsMomentOf (net : Network) (m : Moment) : Type 0 where
   pub parents : m.parents ≡ net.tree.parents
@@ -76,8 +108,13 @@ pub record IsMomentOf (net : Network) (m : Moment) : Type 0 where
   pub kept : (w : ℕ)
       → length (old_backlog m w) ≤ kept_for net.tree.parents net.openings.hold w
 
--- the logs say of a node what it gained since the moment, and its count has what is published in it
+-- The logs say of a node what it gained since the moment, and its count has what is published in it.
+-- The log of its parent, if that is an inner node, reaches back as far at least: it ends with what
+-- that gained since.
 pub record IsLogOf (net : Network) (logs : LogsValue) (m : Moment) (gain : ℕ → List ℕ) (node : ℕ)
     : Type 0 where
   pub received : received_at logs node ≡ gain node
   pub counted : counted net logs node ≡ published_since m gain node
+  pub reaches_back : (parent above : ℕ) → parent_at net.tree.parents node ≡ Some parent
+      → parent_at net.tree.parents parent ≡ Some above
+      → (earlier : List ℕ) × (received_at logs parent ≡ earlier ++ gain parent)

@@ -7,6 +7,9 @@ pub enum BrokenLog {
     /// order, each at most once.
     Strays(NodeId),
     /// It is that, but before the last of the published items some are missing that are not among
-    /// the first M.
+    /// the first ones that the sharper law has.
     Missing(NodeId),
+    /// It is that, but not few strays and then what its parent, an inner node, received, in that
+    /// order.
+    Parent(NodeId),
 }

@@ -1,10 +1,12 @@
 //! What each node received since a moment, as a job has it.
 
-ghost use Rattle.std.specs.Prelude.{◌≡◌, ◌≢◌, ◌<◌, MatchResult, Ok, Err, IfOk, length, option_map};
+ghost use Rattle.std.specs.List.{list_all};
+ghost use Rattle.std.specs.Prelude.{◌≡◌, ◌≢◌, ◌<◌, MatchResult, Ok, Err, IfOk, length, nat_le};
+ghost use Rattle.std.specs.Prelude.{option_map};
 ghost use Rattle.serde_json.specs.View.{view};
 ghost use Rattle.stab_json.specs.Values.{item_number, list_of};
-ghost use Rattle.rignolda_logs.specs.Logs.{fitting, from_at, from_of, logs, received_at};
-ghost use Rattle.rignolda_logs.specs.Logs.{received_of};
+ghost use Rattle.rignolda_logs.specs.Logs.{fitting, from_at, from_of, has_places, logs};
+ghost use Rattle.rignolda_logs.specs.Logs.{received_at, received_of};
 
 use serde_json::Value;
 use stab_frames::{Item, Sequence};
@@ -24,9 +26,12 @@ pub enum LogsFault {
     /// There is not one list for each node.
     #[error("logs: wrong number of lists")]
     Lists,
-    /// There are places, and not one for each node.
+    /// There is a member `from`, and it has not one place for each node.
     #[error("logs: wrong number of places")]
     Places,
+    /// A place is past the end of the published items.
+    #[error("logs: a place past the end of the items")]
+    Place,
     /// Memory was refused.
     #[error("out of memory")]
     Memory,
@@ -109,11 +114,18 @@ impl<'v> Entry<'v> for ListEntry {
     }
 }
 
-/// The logs of the nodes of a tree that a value has, or the first check that it fails.
-pub fn read_logs(alloc: Global, tree: &Tree, value: &Value) -> Result<Logs, LogsFault>
+/// The logs of the nodes of a tree that a value has, where these items are published, or the first
+/// check that it fails.
+pub fn read_logs(
+    alloc: Global,
+    tree: &Tree,
+    items: &[Item],
+    value: &Value,
+) -> Result<Logs, LogsFault>
     ensures logs { MatchResult result
-        (λ its. logs tree.now (view value.now) ≡ Ok its)
-        (λ fault. fault ≢ LogsFault.Memory → logs tree.now (view value.now) ≡ Err fault) }
+        (λ its. logs tree.now (length items.now) (view value.now) ≡ Ok its)
+        (λ fault. fault ≢ LogsFault.Memory
+        → logs tree.now (length items.now) (view value.now) ≡ Err fault) }
     ensures per_node { IfOk result (λ its. length its.received ≡ length tree.now.parents) }
 {
     let Some(received) = received_of(alloc, value)? else {
@@ -122,7 +134,12 @@ pub fn read_logs(alloc: Global, tree: &Tree, value: &Value) -> Result<Logs, Logs
     let Some(from) = from_of(alloc, value)? else {
         return Err(LogsFault::Shape);
     };
-    fitting(tree, Logs { received, from })
+    fitting(
+        tree,
+        items.len(),
+        has_places(value),
+        Logs { received, from },
+    )
 }
 
 /// The lists that a value has.
@@ -144,17 +161,34 @@ fn from_of(alloc: Global, value: &Value) -> Result<Option<Vec<u32>>, AllocError>
     read_list::<u32>(alloc, value.get("from"))
 }
 
-/// Logs that fit a tree.
-fn fitting(tree: &Tree, logs: Logs) -> Result<Logs, LogsFault>
-    ensures fitting { result ≡ fitting tree.now logs }
+/// Whether a value has a member with places.
+fn has_places(value: &Value) -> bool
+    ensures { result ≡ has_places (view value.now) }
+{
+    value.get("from").is_some()
+}
+
+/// Logs that fit a tree whose root publishes `count` items.
+fn fitting(tree: &Tree, count: usize, with_places: bool, logs: Logs) -> Result<Logs, LogsFault>
+    ensures fitting { result ≡ fitting tree.now count with_places logs }
     ensures per_node { IfOk result (λ fit. length fit.received ≡ length tree.now.parents) }
 {
     let nodes = usize::from(tree.len());
     if logs.received.len() != nodes {
         return Err(LogsFault::Lists);
     }
-    if logs.from.len() != nodes && logs.from.len() != 0 {
+    if with_places && logs.from.len() != nodes {
         return Err(LogsFault::Places);
     }
+    if !are_places(&logs.from, count) {
+        return Err(LogsFault::Place);
+    }
     Ok(logs)
+}
+
+/// Whether each place is among those of `count` items, or just behind them.
+fn are_places(places: &[u32], count: usize) -> bool
+    ensures { result ≡ list_all (λ place. nat_le place count) places.now }
+{
+    places.iter().all(|place| *place as usize <= count)
 }

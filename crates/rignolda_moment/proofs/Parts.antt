@@ -3,7 +3,7 @@ use Rattle.std.proofs.Common.{◌≡◌, ℕ, List, Some, sym, ◌∙◌, ap, su
 use Rattle.std.proofs.lemmas.Option.{same_Some}
 use Rattle.stab_treecore.specs.Network.{Network}
 use Rattle.stab_treecore.specs.NodeLaws.{capacity_into, garbage_into}
-use Rattle.stab_judge.specs.Judged.{LinkLawBelow}
+use Rattle.stab_judge.specs.Judged.{SharperLawBelow}
 use Rattle.stab_judge.specs.Reports.{ReportValue, received_at, acked_at}
 use Rattle.rignolda_moment.specs.ObeysSince.{LinkObeysSince, above_since}
 
@@ -11,7 +11,7 @@ module _ (net : Network) (lists : List (List ℕ)) (r : ReportValue) (child pare
     (above_is : above ≡ above_since lists r child parent) (counted : acked_at r child ≡ Some acked) where
   -- the law of the link into the child under this list
   abbrev pub Law : List ℕ → ℕ → Type 0
-  Law list count = LinkLawBelow (capacity_into net child) (garbage_into net child) list count (received_at r child)
+  Law list count = SharperLawBelow (capacity_into net child) (garbage_into net child) list count (received_at r child)
 
   -- where it holds the link obeys
   pub link_from : Law above acked → LinkObeysSince net lists r child parent

@@ -2,12 +2,12 @@
 -- Example: In the chain r, a, b of capacity 1 let a have 7 for b at the moment, and nothing be
 -- queued. A report says that r published 8, that a received 8 with 1 acknowledged, and that b
 -- received 7, 8 with 2 acknowledged. It obeys: 7 and 8 are what a had for b and received since. Had
--- b received 9, the link law would be broken there.
+-- b received 9, the link law would be broken there. The link law is the sharper one.
 -- Source: this project's own.
 use Rattle.std.specs.Prelude.{◌≡◌, ◌<◌, ℕ, true, List, ◌++◌, length, Some, IsSome, None}
 use Rattle.std.specs.Prelude.{MatchOption}
-use Rattle.stab_faults.specs.Moment.{Moment, LawSince}
-use Rattle.stab_judge.specs.Judged.{LinkLawBelow}
+use Rattle.stab_faults.specs.Moment.{Moment, SharperLawSince}
+use Rattle.stab_judge.specs.Judged.{SharperLawBelow}
 use Rattle.stab_judge.specs.Obeys.{RootObeys}
 use Rattle.stab_judge.specs.Reports.{ReportValue, OnePerNode, received_at, acked_at, has_ended}
 use Rattle.stab_tree.specs.Nodes.{parent_at, root_of}
@@ -31,12 +31,12 @@ moment_of net lists =
 abbrev pub above_since : List (List ℕ) → ReportValue → ℕ → ℕ → List ℕ
 above_since lists r child parent = backlog_at lists child ++ received_at r parent
 
--- what a child received obeys the link law, under some prefix of what its parent had for it and
+-- what a child received obeys the sharper link law, under some prefix of what its parent had for it and
 -- received, of which the report says how many items are acknowledged
 abbrev pub LinkObeysSince : Network → List (List ℕ) → ReportValue → ℕ → ℕ → Type 0
 LinkObeysSince net lists r child parent =
     (acked : ℕ) × (acked_at r child ≡ Some acked)
-    × LinkLawBelow (capacity_into net child) (garbage_into net child)
+    × SharperLawBelow (capacity_into net child) (garbage_into net child)
     (above_since lists r child parent) acked (received_at r child)
 
 -- where the parent ended with its upstream, all of that is acknowledged
@@ -56,7 +56,7 @@ pub record ObeysSince (net : Network) (lists : List (List ℕ)) (r : ReportValue
   pub entries : OnePerNode net.tree.parents r
   pub nodes : (node : ℕ) → node < length net.tree.parents → NodeObeysSince net lists r node
   pub tree_law : (node : ℕ) → node < length net.tree.parents
-      → LawSince (moment_of net lists) (received_at r) node
+      → SharperLawSince (moment_of net lists) (received_at r) node
 
 -- this part is broken, and none that is looked at before it at the same node
 abbrev pub IsBrokenSince : Network → List (List ℕ) → ReportValue → BrokenSince → Type 0
@@ -70,7 +70,7 @@ IsBrokenSince net lists r (broken.NoCount child) =
 IsBrokenSince net lists r (broken.LinkLaw child) =
     (parent acked : ℕ) × (parent_at net.tree.parents child ≡ Some parent)
     × (acked_at r child ≡ Some acked)
-    × ¬ LinkLawBelow (capacity_into net child) (garbage_into net child)
+    × ¬ SharperLawBelow (capacity_into net child) (garbage_into net child)
     (above_since lists r child parent) acked (received_at r child)
 IsBrokenSince net lists r (broken.HandedOn child) =
     (parent : ℕ) × (parent_at net.tree.parents child ≡ Some parent)

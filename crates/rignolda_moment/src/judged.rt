@@ -2,7 +2,7 @@
 
 ghost use Rattle.std.specs.Prelude.{◌≡◌, ◌<◌, ◌↔◌, ℕ, List, IfOk, IfSome, IsNone, IsTrue, Some};
 ghost use Rattle.std.specs.Prelude.{length};
-ghost use Rattle.stab_judge.specs.Judged.{LinkLawBelow};
+ghost use Rattle.stab_judge.specs.Judged.{SharperLawBelow};
 ghost use Rattle.stab_judge.specs.Obeys.{RootObeys};
 ghost use Rattle.stab_judge.specs.Reports.{OnePerNode, received_at};
 ghost use Rattle.rignolda_moment.specs.ObeysSince.{HandsOnSince, IsBrokenSince, IsFirstSince};
@@ -15,12 +15,12 @@ use crate::backlogs::backlog_at;
 use crate::broken::BrokenSince;
 use crate::laws;
 use stab_frames::{Item, Sequence};
-use stab_judge::{Judge, Report, obeys_link_law_below};
+use stab_judge::{Judge, Report, obeys_sharper_law_below};
 use stab_tree::{NodeId, Tree};
 use std::alloc::{AllocError, Global};
 
 /// The first part of a report that is broken, and nothing where the report obeys the laws since the
-/// moment. The tree law is not looked at: it holds where nothing else is broken.
+/// moment. The sharper tree law is not looked at: it holds where nothing else is broken.
 pub(crate) fn first_broken(
     alloc: Global,
     judge: &Judge<'_>,
@@ -164,7 +164,7 @@ fn above_since(
     Ok(above)
 }
 
-/// Whether what a child received obeys the link law of the link into it, under this list.
+/// Whether what a child received obeys the sharper link law of the link into it, under this list.
 fn obeys_link_law(
     judge: &Judge<'_>,
     report: &Report,
@@ -173,7 +173,7 @@ fn obeys_link_law(
     acked: u64,
 ) -> bool
     requires known { child < length report.now.received }
-    ensures { IsTrue result ↔ LinkLawBelow
+    ensures { IsTrue result ↔ SharperLawBelow
         (capacity_into judge.now child) (garbage_into judge.now child)
         above.now acked (received_at report.now child) }
 {
@@ -181,7 +181,8 @@ fn obeys_link_law(
     obeys_link_law_into(judge, child, above, acked, delivered)
 }
 
-/// Whether the link into a child obeys the link law, of which this was delivered, under this list.
+/// Whether the link into a child, of which this was delivered, obeys the sharper link law under this
+/// list.
 fn obeys_link_law_into(
     judge: &Judge<'_>,
     child: NodeId,
@@ -189,10 +190,10 @@ fn obeys_link_law_into(
     acked: u64,
     delivered: &[Item],
 ) -> bool
-    ensures { IsTrue result ↔ LinkLawBelow
+    ensures { IsTrue result ↔ SharperLawBelow
         (capacity_into judge.now child) (garbage_into judge.now child)
         above.now acked delivered.now }
 {
     let capacity = judge.capacity_into(child);
-    obeys_link_law_below(capacity, judge.garbage_into(child), above, acked, delivered)
+    obeys_sharper_law_below(capacity, judge.garbage_into(child), above, acked, delivered)
 }

@@ -6,7 +6,7 @@ ghost use Rattle.rignolda_moment.specs.ObeysSince.{NodeObeysSince, ObeysSince};
 ghost use Rattle.stab_tree.specs.IsTree.{IsRooted};
 ghost use Rattle.stab_treecore.specs.Network.{Network};
 
-/// Where each node of a report obeys, the tree law holds at each node, counted from the moment:
+/// Where each node of a report obeys, the sharper tree law holds at each node, counted from the moment:
 /// nothing else is asked of a report.
 pub fn reports_that_obey_since()
     ensures { (net : Network) (lists : List (List ℕ)) (r : ReportValue)

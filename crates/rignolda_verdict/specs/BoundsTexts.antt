@@ -1,10 +1,13 @@
 -- How the bounds of the nodes of a network are printed: for each node in file order a line with the
--- sums C, E and M and what they mean for it; then after how many reading rounds all has arrived,
--- and what faults cost in a tree that has come to rest.
+-- sums C, E and M and what they mean for it; then how many items the sharper law says can be
+-- missing, after how many reading rounds all has arrived, and what faults cost in a tree that has
+-- come to rest.
 -- Example: Of a leaf a below the root, under a link of capacity 3, where nothing is held at first
--- and 2 items are published, these four lines, of which the first is one line:
+-- and 2 items are published, these five lines, of which the first is one line:
 -- `a depth 1: at most 3 strays (C 3 + E 0), then published items in order; of those before its last
 -- one only some of the first 7 (M) can be missing`
+-- `a misses only some of the first 4, of one more for each stray that it received, and at most of
+-- the first 7`
 -- `a has all but these after 3 reading rounds of its path: 2 for the published items, and 1 more`
 -- `a after a strike at the link into it: at most 3 strays, and only some of the next 7 items can be
 -- missing`
@@ -20,6 +23,7 @@ use Rattle.stab_tree.specs.Nodes.{parent_at}
 use Rattle.stab_tree.specs.Steps.{depth_of}
 use Rattle.stab_treecore.specs.Network.{Network}
 use Rattle.stab_treecore.specs.NodeLaws.{capacity_into, held_bound, most_missing, strays_bound}
+use Rattle.stab_treecore.specs.SharperLaw.{fewest_missing, missing_without_strays}
 use Rattle.rignolda_verdict.specs.Costs.{greatest_below, missing_of}
 
 -- the name of a node
@@ -48,6 +52,18 @@ unfoldable pub node_bounds : List ℕ → ℕ → ℕ → ℕ → ℕ → List �
 node_bounds name depth c e m =
     name ++ codes " depth" ++ number_entry depth ++ codes ": " ++ strays_words (c + e)
     ++ sums_words c e ++ missing_words m
+
+-- how many more can be missing for strays, and how many whatever was received
+unfoldable pub fewest_words : ℕ → List ℕ
+fewest_words fewest =
+    codes ", of one more for each stray that it received, and at most of the first"
+    ++ number_entry fewest ++ codes "\n"
+
+-- how many can be missing at a node of this name without strays, and whatever it received
+unfoldable pub sharper_line : List ℕ → ℕ → ℕ → List ℕ
+sharper_line name without_strays fewest =
+    name ++ codes " misses only some of the first" ++ number_entry without_strays
+    ++ fewest_words fewest
 
 -- the line of a node
 abbrev pub bounds_line : Network → ℕ → List ℕ
@@ -124,11 +140,17 @@ unfoldable pub fault_lines : List ℕ → ℕ → ℕ → List ℕ
 fault_lines name capacity below =
     strike_line name capacity below ++ restart_line name capacity below
 
--- the lines after the first one of a node that is not the root
-abbrev pub lines_below_root : Network → ℕ → List ℕ
-lines_below_root net node =
+-- the lines of a node that is not the root on when all has arrived, and on what faults cost
+abbrev pub later_lines : Network → ℕ → List ℕ
+later_lines net node =
     arrival_line (name_at net node) (arrival_reading_rounds net node) (length net.published)
     ++ fault_lines (name_at net node) (capacity_into net node) (greatest_below net node)
+
+-- the lines after the first one of a node that is not the root
+unfoldable pub lines_below_root : Network → ℕ → List ℕ
+lines_below_root net node =
+    sharper_line (name_at net node) (missing_without_strays net node) (fewest_missing net node)
+    ++ later_lines net node
 
 -- the lines of a node
 abbrev pub node_lines : Network → ℕ → List ℕ

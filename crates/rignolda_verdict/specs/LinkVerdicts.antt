@@ -7,7 +7,7 @@
 -- Source: this project's own; numbers are in plain decimal, as std prints them.
 use Rattle.std.specs.Prelude.{◌≡◌, ◌⊎◌, ℕ, Bool, true, false, List, [], ◌∷◌, ◌++◌, codes, decimal}
 use Rattle.std.specs.List.{flat_map}
-use Rattle.stab_core.specs.LinkLaw.{LinkLaw}
+use Rattle.stab_core.specs.LinkLaw.{SharperLinkLaw}
 use Rattle.stab_core.specs.LinkState.{LinkState}
 use Rattle.stab_core.specs.Replay.{start_items}
 use Rattle.stab_core.specs.Texts.{numbers_line}
@@ -29,10 +29,10 @@ offers_of events = flat_map offer_of events
 abbrev pub AreOffered : LinkJob → LinkState → Type 0
 AreOffered job s = IsPicked s.offered (offers_of job.events)
 
--- the lists and the count obey the link law
+-- the lists and the count obey the sharper link law
 abbrev pub ObeysLaw : LinkJob → LinkState → Type 0
 ObeysLaw job s =
-    LinkLaw job.params.capacity (start_items job.start) s.offered s.acked s.delivered
+    SharperLinkLaw job.params.capacity (start_items job.start) s.offered s.acked s.delivered
 
 -- a link of this job may be in this state; its labels and its queues may be any
 pub record ObeysLink (job : LinkJob) (s : LinkState) : Type 0 where

@@ -5,13 +5,15 @@ ghost use Rattle.std.specs.Prelude.{IfOk, OnOk, Some};
 ghost use Rattle.stab_job.specs.JobValues.{network};
 ghost use Rattle.stab_tree.specs.Nodes.{parent_at};
 ghost use Rattle.rignolda_verdict.specs.BoundsTexts.{arrival_line, bounds_text, cost_words};
-ghost use Rattle.rignolda_verdict.specs.BoundsTexts.{fault_lines, inner_line, leaf_line};
-ghost use Rattle.rignolda_verdict.specs.BoundsTexts.{lines_below_root, missing_words, more_words};
+ghost use Rattle.rignolda_verdict.specs.BoundsTexts.{fault_lines, fewest_words, inner_line};
+ghost use Rattle.rignolda_verdict.specs.BoundsTexts.{later_lines, leaf_line, lines_below_root};
+ghost use Rattle.rignolda_verdict.specs.BoundsTexts.{missing_words, more_words};
 ghost use Rattle.rignolda_verdict.specs.BoundsTexts.{no_more_words, node_bounds, node_lines};
 ghost use Rattle.rignolda_verdict.specs.BoundsTexts.{parts_words, published_line, restart_line};
-ghost use Rattle.rignolda_verdict.specs.BoundsTexts.{root_line, rounds_words, strays_words};
-ghost use Rattle.rignolda_verdict.specs.BoundsTexts.{strike_line, sums_words};
+ghost use Rattle.rignolda_verdict.specs.BoundsTexts.{root_line, rounds_words, sharper_line};
+ghost use Rattle.rignolda_verdict.specs.BoundsTexts.{strays_words, strike_line, sums_words};
 ghost use Rattle.rignolda_verdict.specs.Costs.{missing_of};
+ghost use Rattle.stab_treecore.specs.SharperLaw.{fewest_missing, missing_without_strays};
 
 use crate::costs::greatest_below;
 use crate::judged::judge_of;
@@ -20,10 +22,11 @@ use stab_core::push_number;
 use stab_job::Job;
 use stab_judge::{Bounds, Judge};
 use stab_tree::{NodeId, Tree};
+use stab_treecore::laws::sharper_bounds_are_smaller;
 use std::alloc::{AllocError, Global};
 
 /// The lines of the nodes of a job in file order: of each its depth, the sums C, E and M that the
-/// laws allow it, and what they mean; after how many reading rounds of its path all that is
+/// laws allow it, and what they mean; what the sharper law allows it; after how many reading rounds of its path all that is
 /// published has arrived; and what a strike at the link into it, or its restart, costs it and what
 /// is beneath.
 pub fn bounds_text(alloc: Global, job: &Job) -> Result<String, AllocError>
@@ -74,6 +77,7 @@ fn push_node(
 }
 
 /// Adds the lines after the first one of a node that is not the root.
+#[tactic(auto, unfolding(crate::specs::BoundsTexts::lines_below_root))]
 fn push_others(
     text: &mut String,
     judge: &Judge<'_>,
@@ -89,6 +93,28 @@ fn push_others(
     requires parent { parent_at tree.now.parents node ≡ Some parent }
     ensures { OnOk result
         (string_bytes text.new ≡ string_bytes text.old ++ lines_below_root judge.now node) }
+{
+    let (without_strays, fewest) = sharper_at(judge, node);
+    push_sharper(text, tree.name(node), without_strays, fewest)?;
+    push_later(text, judge, tree, published, node, parent)
+}
+
+/// Adds the lines of when all has arrived at such a node, and of what faults cost.
+fn push_later(
+    text: &mut String,
+    judge: &Judge<'_>,
+    tree: &Tree,
+    published: u32,
+    node: NodeId,
+    parent: NodeId,
+) -> Result<(), AllocError>
+    requires same_tree { judge.now.tree ≡ tree.now }
+    requires its_items { length judge.now.published ≡ published }
+    requires known { node < length tree.now.parents }
+    requires known_parent { parent < length tree.now.parents }
+    requires parent { parent_at tree.now.parents node ≡ Some parent }
+    ensures { OnOk result
+        (string_bytes text.new ≡ string_bytes text.old ++ later_lines judge.now node) }
 {
     let rounds = arrival_reading_rounds(judge.bounds_at(parent), published);
     let below = greatest_below(judge, tree, node);
@@ -151,6 +177,48 @@ fn push_missing(text: &mut String, missing: u64) -> Result<(), AllocError>
         ", then published items in order; of those before its last one only some of the first \
          {missing} (M) can be missing\n"
     )
+}
+
+/// How many of the first published items can be missing at a node by the sharper law: without
+/// strays, and whatever it received.
+pub fn sharper_at(judge: &Judge<'_>, node: NodeId) -> (u64, u64)
+    requires { node < length judge.now.tree.parents }
+    ensures without_strays { result.0 ≡ missing_without_strays judge.now node }
+    ensures fewest { result.1 ≡ fewest_missing judge.now node }
+{
+    sharper_bounds_are_smaller();
+    let bounds = judge.bounds_at(node);
+    (
+        bounds.missing - bounds.link_strays,
+        judge.fewest_missing(node),
+    )
+}
+
+/// Adds the line of the sharper law.
+#[tactic(auto, unfolding(crate::specs::BoundsTexts::sharper_line))]
+fn push_sharper(
+    text: &mut String,
+    name: &str,
+    without_strays: u64,
+    fewest: u64,
+) -> Result<(), AllocError>
+    ensures { OnOk result (string_bytes text.new ≡ string_bytes text.old
+        ++ sharper_line name.now without_strays fewest) }
+{
+    text.push_str(name)?;
+    text.push_str(" misses only some of the first")?;
+    push_number(text, without_strays)?;
+    push_fewest(text, fewest)
+}
+
+/// Adds how many more can be missing for strays, and how many whatever was received.
+#[tactic(auto, unfolding(crate::specs::BoundsTexts::fewest_words))]
+fn push_fewest(text: &mut String, fewest: u64) -> Result<(), AllocError>
+    ensures { OnOk result (string_bytes text.new ≡ string_bytes text.old ++ fewest_words fewest) }
+{
+    text.push_str(", of one more for each stray that it received, and at most of the first")?;
+    push_number(text, fewest)?;
+    text.push_str("\n")
 }
 
 /// Adds the line that says when all has arrived.

@@ -24,7 +24,7 @@ mod link_text;
 mod link_verdicts;
 mod verdicts;
 
-pub use bounds::bounds_text;
+pub use bounds::{bounds_text, sharper_at};
 pub use broken::{push_handed_on, push_items, push_no_count, push_published, push_root_count};
 pub use judged::{Judged, judge_of};
 pub use law::{push_acked, push_capacity};

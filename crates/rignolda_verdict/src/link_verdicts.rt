@@ -9,7 +9,7 @@ use crate::link_broken::{law_text, offered_text};
 use crate::link_lists::{offers_of, start_items};
 use crate::link_report::LinkReport;
 use stab_frames::Item;
-use stab_judge::{is_picked, obeys_link_law};
+use stab_judge::{is_picked, obeys_sharper_link_law};
 use stab_script::LinkJob;
 use std::alloc::{AllocError, Global};
 
@@ -63,12 +63,12 @@ fn are_offered(job: &LinkJob, offers: &[Item], report: &LinkReport) -> bool
     is_picked(report.offered.as_slice(), offers)
 }
 
-/// Whether the link law holds, where these items are in the frames of the start of the job.
+/// Whether the sharper link law holds, where these items are in the frames of the start of the job.
 fn obeys_law(job: &LinkJob, frames: &[Item], report: &LinkReport) -> bool
     requires { frames.now ≡ start_items job.now.start }
     ensures { IsTrue result ↔ ObeysLaw job.now report.now }
 {
-    obeys_link_law(
+    obeys_sharper_link_law(
         job.params.capacity(),
         frames,
         report.offered.as_slice(),

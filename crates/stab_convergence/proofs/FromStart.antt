@@ -1,6 +1,6 @@
--- From the start of a network on, as many reading rounds of a node's path as are counted from its
--- bounds are enough.
-use Rattle.std.proofs.Common.{◌≡◌, ℕ, zero, suc, ◌+◌, ◌<◌, ◌≤◌, List, [], ◌∷◌, ◌++◌, length, map, get_or, Option, Some, None, option_map, refl, ap, sym, ◌∙◌, length-append, arith}
+-- From the start of a network on, as many rounds of a node's path as are counted from its bounds
+-- are enough.
+use Rattle.std.proofs.Common.{◌≡◌, ℕ, zero, suc, ◌+◌, ◌*◌, ◌<◌, ◌≤◌, List, [], ◌∷◌, ◌++◌, length, map, get_or, Option, Some, None, option_map, refl, ap, sym, ◌∙◌, length-append, arith}
 use Rattle.std.specs.Option.{option_map_or}
 use Rattle.stab_core.specs.Link.{LinkValue, link_at}
 use Rattle.stab_core.specs.LinkLaw.{LinkLaw, SharperLinkLaw}
@@ -12,7 +12,7 @@ use Rattle.stab_tree.specs.Nodes.{parent_at, root_of}
 use Rattle.stab_tree.specs.Steps.{depth_of}
 use Rattle.stab_tree.proofs.ForCallers.{child_is_node, holds_at_every_depth, map-by_child, one_by_child, openings_fit}
 use Rattle.stab_treecore.specs.Network.{IsNetwork, Network, setup_into}
-use Rattle.stab_treecore.specs.NodeLaws.{capacity_into}
+use Rattle.stab_treecore.specs.NodeLaws.{capacity_into, most_strays}
 use Rattle.stab_treecore.specs.Paths.{path_sum, sum_above}
 use Rattle.stab_treecore.specs.TreeReplay.{initial_tree, opened}
 use Rattle.stab_treecore.specs.WholeTree.{WholeTree, received}
@@ -24,10 +24,10 @@ use Rattle.stab_faults.specs.Since.{IsState, backlog, capacity_at, moment}
 use Rattle.stab_faults.proofs.Obeying.{ObeysSince, PassesOnExactly}
 use Rattle.stab_faults.proofs.States.{opening_fed}
 use Rattle.stab_rounds.proofs.TreeSteps.{At, fixed_of, IsSound, known, linked, of_link, root_has, run_is_sound}
-use Rattle.stab_rounds.specs.TreeReadingRounds.{reading_rounds_below}
-use Rattle.stab_convergence.specs.Arrival.{arrival_reading_rounds}
+use Rattle.stab_rounds.specs.Kinds.{Kind}
+use Rattle.stab_rounds.proofs.ByKind.{times}
 use Rattle.stab_convergence.specs.Meanwhile.{HasAllBefore}
-use Rattle.stab_convergence.specs.PathRounds.{IsPathOpen, PathRounds, rounds_since}
+use Rattle.stab_convergence.specs.PathRounds.{IsPathOpen, PathRounds, TakesAtMost, rounds_since}
 use Rattle.stab_convergence.proofs.Meanwhile.{has_all_before}
 use Rattle.stab_convergence.proofs.Lags.{backlog_counts, path_below}
 
@@ -43,9 +43,6 @@ module _ (net : Network) (is : IsNetwork net) where
 
   abbrev had : ℕ → ℕ
   had w = length (backlog s w)
-
-  abbrev paid : ℕ → ℕ
-  paid w = capacity_at s w + 1
 
   is_state : IsState net.tree s
   is_state = (opening_fed net is).is_state
@@ -95,37 +92,45 @@ module _ (net : Network) (is : IsNetwork net) where
       root_list : received s (root_of parents) ≡ net.published
       root_list = root_has (fixed_of net) s is_sound (root_of parents) is.tree.root_has_none
 
-  abbrev PaidAt : ℕ → ℕ → Type 0
-  PaidAt depth u = sum_above parents paid depth u ≤ sum_above parents (capacity_into net) depth u + depth
+  abbrev SumAt : ℕ → ℕ → Type 0
+  SumAt depth u = sum_above parents (capacity_at s) depth u ≤ sum_above parents (capacity_into net) depth u
 
-  paid_at : (node : ℕ) → node < length parents → PaidAt (depth_of parents node) node
-  paid_at =
-      holds_at_every_depth parents is.tree PaidAt (omega arith)
+  sum_at : (node : ℕ) → node < length parents → SumAt (depth_of parents node) node
+  sum_at =
+      holds_at_every_depth parents is.tree SumAt (omega arith)
       (λ depth child parent is_child few.
       let capacity = capacity_is child parent is_child in
-      let its_paid : sum_above parents paid (suc depth) child ≡ paid child + sum_above parents paid depth parent =
-      ap (λ o. paid child + option_map_or (sum_above parents paid depth) o 0) is_child in
+      let its_own : sum_above parents (capacity_at s) (suc depth) child ≡ capacity_at s child + sum_above parents (capacity_at s) depth parent =
+      ap (λ o. capacity_at s child + option_map_or (sum_above parents (capacity_at s) depth) o 0) is_child in
       let its_sum : sum_above parents (capacity_into net) (suc depth) child ≡ capacity_into net child + sum_above parents (capacity_into net) depth parent =
       ap (λ o. capacity_into net child + option_map_or (sum_above parents (capacity_into net) depth) o 0) is_child in
-      omega (arith, few, capacity, its_paid, its_sum))
+      omega (arith, few, capacity, its_own, its_sum))
 
-  enough : (node parent : ℕ) → parent_at parents node ≡ Some parent → rounds_since (moment s) node ≤ arrival_reading_rounds net node
-  enough node parent is_child =
+  -- the rounds that bring all that a node can have to its children
+  abbrev rounds_under : ℕ → ℕ → ℕ
+  rounds_under each parent = each * (length net.published + most_strays net parent + 1) + depth_of parents parent
+
+  enough : (each node parent : ℕ) → parent_at parents node ≡ Some parent → rounds_since each (moment s) node ≤ rounds_under each parent
+  enough each node parent is_child =
       let is_node : parent < length parents = is.tree.known_parents node parent is_child in
       let (setup, leads) = one_by_child parents net.links 0 node parent is.one_per_link is_child in
       let counts : length (backlog s node) + 0 ≡ length (received s parent) =
       backlog_counts net.tree s is_state node parent setup.params (initial setup.start) is_child (at_start node setup leads) in
-      let since : rounds_since (moment s) node ≡ path_sum parents had node + path_sum parents paid parent + 1 =
-      ap (λ o. path_sum parents had node + option_map_or (path_sum parents paid) o 0 + 1) is_child in
-      let arrives : arrival_reading_rounds net node ≡ reading_rounds_below net parent =
-      ap (λ o. option_map_or (reading_rounds_below net) o 0) is_child in
-      omega (arith, few_at parent is_node, paid_at parent is_node, counts, since, arrives, path_below net.tree s is_state had node parent is_child)
+      let capacities : ℕ = path_sum parents (capacity_at s) parent in
+      let since : rounds_since each (moment s) node ≡ each * (path_sum parents had node + capacities + 1) + depth_of parents parent =
+      ap (λ o. each * (path_sum parents had node + option_map_or (path_sum parents (capacity_at s)) o 0 + 1) + option_map_or (depth_of parents) o 0)
+      is_child in
+      let fewer =
+      times each (path_sum parents had node + capacities + 1) (length net.published + most_strays net parent + 1)
+      (omega (arith, few_at parent is_node, sum_at parent is_node, counts, path_below net.tree s is_state had node parent is_child)) in
+      omega (arith, since, fewer)
 
-  pub from_start : ObeysSince LinkLaw → ObeysSince SharperLinkLaw → PassesOnExactly → (changes later : List Change) (rounds node parent : ℕ)
-      → parent_at net.tree.parents node ≡ Some parent → Spare net.tree.parents node (changes ++ later)
-      → IsPathOpen (changes_replay (initial_tree net) changes) node → PathRounds (initial_tree net) node rounds changes
-      → arrival_reading_rounds net node ≤ rounds
+  pub from_start : ObeysSince LinkLaw → ObeysSince SharperLinkLaw → PassesOnExactly → (kind : Kind) (each : ℕ) (changes later : List Change)
+      (rounds node parent : ℕ) → parent_at net.tree.parents node ≡ Some parent → Spare net.tree.parents node (changes ++ later)
+      → IsPathOpen (changes_replay (initial_tree net) changes) node → TakesAtMost kind each (initial_tree net) node
+      → PathRounds kind (initial_tree net) node rounds changes
+      → each * (length net.published + most_strays net parent + 1) + depth_of net.tree.parents parent ≤ rounds
       → HasAllBefore (initial_tree net) (initial_tree net) (changes_replay (initial_tree net) (changes ++ later)) node
-  from_start obey sharper exactly changes later rounds node parent is_child spare is_open are_rounds many =
-      has_all_before obey sharper exactly net.tree s [] changes later node is_state (child_is_node parents node parent is_child) spare is_state rounds is_open
-      are_rounds (omega (arith, many, enough node parent is_child))
+  from_start obey sharper exactly kind each changes later rounds node parent is_child spare is_open few are_rounds many =
+      has_all_before obey sharper exactly net.tree s [] changes later node is_state (child_is_node parents node parent is_child) spare is_state kind each
+      rounds is_open few are_rounds (omega (arith, many, enough each node parent is_child))

@@ -1,6 +1,6 @@
 -- Of any state of a whole tree: the most items that a node can yet have, and so how many rounds the
--- link into it can need.
-use Rattle.std.proofs.Common.{◌≡◌, inl, inr, ℕ, suc, ◌+◌, ◌-◌, ◌<◌, ◌≤◌, [], ◌++◌, length, drop, Some, None, refl, ap, sym, ◌∙◌, subst, arith}
+-- link into it can need, where an item takes `each`.
+use Rattle.std.proofs.Common.{◌≡◌, inl, inr, ℕ, suc, ◌+◌, ◌-◌, ◌*◌, ◌<◌, ◌≤◌, [], ◌++◌, length, drop, Some, None, refl, ap, sym, ◌∙◌, subst, arith, mul-add}
 use Rattle.std.specs.Option.{option_map_or}
 use Rattle.std.proofs.lemmas.Bool.{cases_lt}
 use Rattle.std.proofs.lemmas.List.{length-append, length-drop}
@@ -15,6 +15,7 @@ use Rattle.stab_treecore.specs.WholeTree.{WholeTree, received, source}
 use Rattle.stab_treecore.proofs.ForChanges.{sum_above-add}
 use Rattle.stab_faults.specs.Since.{IsState, backlog, capacity_at}
 use Rattle.stab_rounds.proofs.Coming.{to_come, few_idle, few_coming}
+use Rattle.stab_rounds.proofs.ByKind.{times}
 use Rattle.stab_rounds.proofs.Most.{Most, top, next_most, received_few}
 use Rattle.stab_rounds.proofs.TreeSteps.{At, Fixed, IsSound, known, linked, offered_few, root_has}
 
@@ -68,27 +69,26 @@ module _ (tree : Nodes) (s : WholeTree) (is : IsState tree s) where
         length-drop (length state.offered) (received s u),
       )
 
+  one_deeper : (w u : ℕ) → parent_at s.parents w ≡ Some u → depth_of s.parents w ≡ suc (depth_of s.parents u)
+  one_deeper w u is_child =
+      subst (λ ps. parent_at ps w ≡ Some u → depth_of ps w ≡ suc (depth_of ps u)) (sym is.parents)
+      (child_is_deeper tree.parents is.is_tree w u) is_child
+
   -- a sum over the path of a child
   pub path_below : (number : ℕ → ℕ) (w u : ℕ) → parent_at s.parents w ≡ Some u
       → path_sum s.parents number w ≡ number w + path_sum s.parents number u
   path_below number w u is_child =
-      let deeper : depth_of s.parents w ≡ suc (depth_of s.parents u) =
-      subst (λ ps. parent_at ps w ≡ Some u → depth_of ps w ≡ suc (depth_of ps u)) (sym is.parents)
-      (child_is_deeper tree.parents is.is_tree w u) is_child in
-      ap (λ d. sum_above s.parents number d w) deeper
+      ap (λ d. sum_above s.parents number d w) (one_deeper w u is_child)
       ∙ ap (λ o. number w + option_map_or (sum_above s.parents number (depth_of s.parents u)) o 0) is_child
 
   abbrev had : ℕ → ℕ
   had w = length (backlog s w)
 
-  abbrev paid : ℕ → ℕ
-  paid w = capacity_at s w + 1
-
   -- ---- the most that a node can yet have
 
   abbrev MostAt : ℕ → ℕ → Type 0
   MostAt depth u =
-      (k : ℕ) × Most fixed_at s u k × (k ≤ length (received s u) + sum_above s.parents (λ w. had w + paid w) depth u)
+      (k : ℕ) × Most fixed_at s u k × (k ≤ length (received s u) + sum_above s.parents (λ w. had w + capacity_at s w) depth u)
 
   most_below : (depth w u : ℕ) → parent_at s.parents w ≡ Some u → MostAt depth u → MostAt (suc depth) w
   most_below depth w u is_child (k, most, few) =
@@ -106,8 +106,9 @@ module _ (tree : Nodes) (s : WholeTree) (is : IsState tree s) where
         | inl none ↦ omega (arith, few_idle state none)
         | inr holds ↦ omega (arith, few_coming state holds)
       ] in
-      let sum : sum_above s.parents (λ v. had v + paid v) (suc depth) w ≡ had w + paid w + sum_above s.parents (λ v. had v + paid v) depth u =
-      ap (λ o. had w + paid w + option_map_or (sum_above s.parents (λ v. had v + paid v) depth) o 0) is_child in (
+      let sum : sum_above s.parents (λ v. had v + capacity_at s v) (suc depth) w
+      ≡ had w + capacity_at s w + sum_above s.parents (λ v. had v + capacity_at s v) depth u =
+      ap (λ o. had w + capacity_at s w + option_map_or (sum_above s.parents (λ v. had v + capacity_at s v) depth) o 0) is_child in (
         length (received s w) + to_come state + rest,
         next_most fixed_at s w u k rest p state is_child there most split,
         omega arith,
@@ -133,33 +134,53 @@ module _ (tree : Nodes) (s : WholeTree) (is : IsState tree s) where
 
   -- ---- the rounds that the link into a node can need
 
-  abbrev pub lag : ℕ → ℕ
-  lag w = path_sum s.parents had w + option_map_or (path_sum s.parents paid) (parent_at s.parents w) 0
+  -- a parent can have this many items more than are acknowledged
+  abbrev pub yet : ℕ → ℕ
+  yet w = path_sum s.parents had w + option_map_or (path_sum s.parents (capacity_at s)) (parent_at s.parents w) 0
 
-  pub lag_is : (w u : ℕ) → parent_at s.parents w ≡ Some u → lag w ≡ had w + path_sum s.parents had u + path_sum s.parents paid u
-  lag_is w u is_child =
-      omega (arith, path_below had w u is_child, ap (λ o. option_map_or (path_sum s.parents paid) o 0) is_child)
-
-  pub farther : (w u g : ℕ) → parent_at s.parents w ≡ Some u → parent_at s.parents u ≡ Some g → lag u + capacity_at s u + 1 ≤ lag w
-  farther w u g is_child is_parent =
+  few_left : (w u k : ℕ) (p : Parameters) (state : LinkState) → parent_at s.parents w ≡ Some u → At s w p state
+      → k ≤ length (received s u) + path_sum s.parents (λ v. had v + capacity_at s v) u → k ≤ state.acked + yet w
+  few_left w u k p state is_child there few =
       omega (
         arith,
-        lag_is w u is_child,
-        ap (λ o. option_map_or (path_sum s.parents paid) o 0) is_parent,
-        path_below paid u g is_parent,
+        few,
+        backlog_counts w u p state is_child there,
+        path_below had w u is_child,
+        ap (λ o. option_map_or (path_sum s.parents (capacity_at s)) o 0) is_child,
+        sum_above-add s.parents had (capacity_at s) (depth_of s.parents u) u,
       )
 
-  -- a parent can have at most `lag w` items more than are acknowledged
-  pub few_left : (w u : ℕ) (p : Parameters) (state : LinkState) → u < length s.parents → parent_at s.parents w ≡ Some u → At s w p state
-      → (k : ℕ) × Most fixed_at s u k × (k ≤ state.acked + lag w)
-  few_left w u p state is_node is_child there =
-      let (k, most, few) = most_at u is_node in (
-        k,
-        most,
+  module _ (each : ℕ) where
+    abbrev pub lag : ℕ → ℕ
+    lag w = each * yet w + option_map_or (depth_of s.parents) (parent_at s.parents w) 0
+
+    lag_is : (w u : ℕ) → parent_at s.parents w ≡ Some u → lag w ≡ each * (path_sum s.parents had w + path_sum s.parents (capacity_at s) u) + depth_of s.parents u
+    lag_is w u is_child =
+        ap
+        (λ o. each * (path_sum s.parents had w + option_map_or (path_sum s.parents (capacity_at s)) o 0) + option_map_or (depth_of s.parents) o 0)
+        is_child
+
+    pub farther : (w u g : ℕ) → parent_at s.parents w ≡ Some u → parent_at s.parents u ≡ Some g → lag u + each * capacity_at s u + 1 ≤ lag w
+    farther w u g is_child is_parent =
+        let capacities : ℕ = path_sum s.parents (capacity_at s) g in
+        let grown =
+        times each (path_sum s.parents had u + capacities + capacity_at s u) (path_sum s.parents had w + path_sum s.parents (capacity_at s) u)
+        (omega (arith, path_below had w u is_child, path_below (capacity_at s) u g is_parent)) in
         omega (
           arith,
-          backlog_counts w u p state is_child there,
+          grown,
           lag_is w u is_child,
-          sum_above-add s.parents had paid (depth_of s.parents u) u,
-        ),
-      )
+          lag_is u g is_parent,
+          mul-add each (path_sum s.parents had u + capacities) (capacity_at s u),
+          one_deeper u g is_parent,
+        )
+
+    -- so its link can be `lag w` rounds behind at first
+    pub begins_behind : (w u : ℕ) (p : Parameters) (state : LinkState) → u < length s.parents → parent_at s.parents w ≡ Some u → At s w p state
+        → (k : ℕ) × Most fixed_at s u k × (each * k ≤ each * state.acked + lag w)
+    begins_behind w u p state is_node is_child there =
+        let (k, most, few) = most_at u is_node in (
+          k,
+          most,
+          omega (arith, times each k (state.acked + yet w) (few_left w u k p state is_child there few), mul-add each state.acked (yet w)),
+        )

@@ -1,5 +1,5 @@
--- After `rounds_since` reading rounds of a node's path, counted at a moment, the node has all that
--- was published before, whatever is published meanwhile: it has what it would have after the acts
+-- After `rounds_since` rounds of a node's path, counted at a moment, the node has all that was
+-- published before, whatever is published meanwhile: it has what it would have after the acts
 -- alone, and more behind.
 use Rattle.std.proofs.Common.{◌≡◌, ℕ, zero, suc, ◌+◌, ◌<◌, ◌≤◌, inl, inr, List, [], ◌++◌, length, drop, Option, Some, None, refl, ap, sym, ◌∙◌, subst, arith}
 use mathlib.Core.List.{IsPrefix}
@@ -27,11 +27,12 @@ use Rattle.stab_faults.proofs.Obeying.{ObeysSince, PassesOnExactly}
 use Rattle.stab_treecore.specs.Paths.{path_sum}
 use Rattle.stab_treecore.specs.SharperLaw.{SharperCompleteLaw}
 use Rattle.stab_treecore.specs.TreeLaw.{CompleteLaw}
+use Rattle.stab_rounds.specs.Kinds.{Kind}
 use Rattle.stab_rounds.proofs.TreeSteps.{replay_append, root_has}
 use Rattle.stab_convergence.specs.Converged.{HasConverged, IsPathHandedOn}
 use Rattle.stab_convergence.specs.Exact.{IsPathClean}
 use Rattle.stab_convergence.specs.Meanwhile.{HasAllBefore, IsEnough}
-use Rattle.stab_convergence.specs.PathRounds.{acts_among, IsPathOpen, PathRounds, rounds_since}
+use Rattle.stab_convergence.specs.PathRounds.{acts_among, IsPathOpen, PathRounds, TakesAtMost, rounds_since}
 use Rattle.stab_convergence.proofs.Ahead.{Ahead, acked_no_less, ahead_of_acts, front, links_stay, lists_stay, past, root_list, same}
 use Rattle.stab_convergence.proofs.Converges.{converges}
 use Rattle.stab_convergence.proofs.Clean.{clean_by_then}
@@ -89,8 +90,8 @@ module _ (obey : ObeysSince LinkLaw) (sharper : ObeysSince SharperLinkLaw) (exac
       spare_both s.parents node before acts (spare_first s.parents node before (after ++ later) spare)
       (acts_spare s.parents node (acts_among (after ++ later)))
 
-  module _ (rounds : ℕ) (is_open : IsPathOpen (changes_replay m after) node) (are_rounds : PathRounds m node rounds after)
-      (enough : rounds_since (moment m) node ≤ rounds) where
+  module _ (kind : Kind) (each rounds : ℕ) (is_open : IsPathOpen (changes_replay m after) node) (few : TakesAtMost kind each m node)
+      (are_rounds : PathRounds kind m node rounds after) (enough : rounds_since each (moment m) node ≤ rounds) where
     -- at the end of the rounds
     acted_open : IsPathOpen (tree_replay m (acts_among after)) node
     acted_open w link on there =
@@ -108,8 +109,8 @@ module _ (obey : ObeysSince LinkLaw) (sharper : ObeysSince SharperLinkLaw) (exac
     converged =
         subst (λ u. HasConverged s u node)
         (sym (ap (tree_replay m) (acts-append after later) ∙ replay_append m (acts_among after) (acts_among later)))
-        (converges obey tree s before after (acts_among later) rounds node is is_node (spare_first s.parents node before (after ++ later) spare) is_middle
-        acted_open are_rounds enough)
+        (converges obey kind each tree s before after (acts_among later) rounds node is is_node (spare_first s.parents node before (after ++ later) spare) is_middle
+        acted_open few are_rounds enough)
 
     -- nothing is published for it
     root_stays : gained s acted (root_of s.parents) ≡ gained s m (root_of s.parents)

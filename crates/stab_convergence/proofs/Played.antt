@@ -1,6 +1,6 @@
 -- Reading rounds that are made after changes of a network: they are such rounds of every path, so
 -- every node comes back.
-use Rattle.std.proofs.Common.{◌≡◌, ℕ, zero, suc, ◌<◌, ◌≤◌, List, [], ◌++◌, length, ap, sym, subst}
+use Rattle.std.proofs.Common.{◌≡◌, ℕ, zero, suc, ◌<◌, ◌≤◌, List, [], ◌++◌, length, ap, sym, subst, arith}
 use Rattle.std.proofs.lemmas.List.{map-append}
 use Rattle.stab_core.specs.LinkLaw.{LinkLaw}
 use Rattle.stab_treecore.specs.Network.{IsNetwork, Network}
@@ -15,6 +15,7 @@ use Rattle.stab_faults.proofs.Contained.{changes-append}
 use Rattle.stab_faults.proofs.Obeying.{ObeysSince}
 use Rattle.stab_faults.proofs.Running.{fit_front}
 use Rattle.stab_faults.proofs.Schedules.{schedule_state}
+use Rattle.stab_rounds.specs.Kinds.{reading}
 use Rattle.stab_rounds.specs.ReadingRounds.{offer, reading_from}
 use Rattle.stab_rounds.specs.TreeRounds.{acts_on, IsOpen}
 use Rattle.stab_rounds.specs.TreePlayed.{play_reads, reading_round_from}
@@ -27,7 +28,7 @@ use Rattle.stab_convergence.proofs.Converges.{converges}
 
 -- the rounds that are made are rounds of the path
 made_rounds : (m : WholeTree) (node c : ℕ) (rounds : ℕ) → ((w : ℕ) → capacity_at m w ≤ c)
-    → PathRounds m node rounds (as_changes (play_reads c m.parents rounds))
+    → PathRounds reading m node rounds (as_changes (play_reads c m.parents rounds))
 made_rounds m node c zero small = tt
 made_rounds m node c (suc rounds) small = (
   as_changes (reading_round_from c 0 m.parents),
@@ -44,7 +45,7 @@ pub rounds_converge : ObeysSince LinkLaw → (net : Network) (before after : Lis
     → let s = changes_replay (initial_tree net) before in
     let m = changes_replay s after in
     node < length s.parents → Spare s.parents node after → IsOpen m → ((w : ℕ) → capacity_at m w ≤ capacity)
-    → rounds_since (moment m) node ≤ rounds → HasConverged s (tree_replay m (play_reads capacity m.parents rounds)) node
+    → rounds_since 1 (moment m) node ≤ rounds → HasConverged s (tree_replay m (play_reads capacity m.parents rounds)) node
 rounds_converge obey net before after capacity rounds node is fit is_node spare is_open small enough =
     let t = initial_tree net in
     let s = changes_replay t before in
@@ -56,5 +57,5 @@ rounds_converge obey net before after capacity rounds node is fit is_node spare 
     let done : tree_replay m (acts_among (as_changes es)) ≡ tree_replay m es = ap (tree_replay m) (acts_again es) in
     let opened : IsOpen (tree_replay m es) = no_close_keeps m es (reads_close_nothing capacity m.parents rounds) is_open in
     subst (λ u. HasConverged s u node) done
-    (converges obey net.tree s after (as_changes es) [] rounds node first is_node spare later
-    (λ w link on there. subst (λ u. IsOpen u) (sym done) opened w link there) (made_rounds m node capacity rounds small) enough)
+    (converges obey reading 1 net.tree s after (as_changes es) [] rounds node first is_node spare later
+    (λ w link on there. subst (λ u. IsOpen u) (sym done) opened w link there) (λ w parent on is_child. omega arith) (made_rounds m node capacity rounds small) enough)

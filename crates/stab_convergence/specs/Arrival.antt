@@ -1,4 +1,4 @@
--- After how many rounds of all links a node of a network has all that it will ever have, from the
+-- After how many rounds of its path a node of a network has all that it will ever have, from the
 -- start on: as many as its parent needs to hand on all that it can have. The root has it at once.
 -- Source: this project's own.
 use Rattle.std.specs.Prelude.{ℕ}

@@ -18,10 +18,9 @@ fn most_items(bounds: Bounds, published: u32) -> u64
     u64::from(published) + (bounds.link_strays + bounds.opening_strays) + 1
 }
 
-/// After how many rounds of all links from the start on a node has all that it will ever have: its
-/// parent has these bounds, `published` items are published, and no link has a larger capacity than
-/// this one. The number is a sum over the path of the parent, and says nothing of other nodes. The
-/// root has everything at once.
+/// After how many rounds of its path from the start on a node has all that it will ever have: its
+/// parent has these bounds, `published` items are published, and no link of the path has a larger
+/// capacity than this one. The root has everything at once.
 pub fn arrival_rounds(parent: Bounds, published: u32, capacity: u16) -> u64
     requires few { parent.link_strays + parent.opening_strays ≤ 131070 * parent.depth }
     ensures { (net : Network) (node above : ℕ) → parent_at net.tree.parents node ≡ Some above

@@ -1,11 +1,11 @@
 //! Laws of convergence. Each is a function with an empty body; its contract is the law.
 
 ghost use Rattle.std.specs.Prelude.{◌≡◌, ℕ, ◌+◌, ◌*◌, ◌<◌, ◌≤◌, List, ◌++◌, length, Some};
-ghost use Rattle.stab_convergence.specs.Arrival.{arrival_reading_rounds};
+ghost use Rattle.stab_convergence.specs.Arrival.{arrival_reading_rounds, arrival_rounds};
 ghost use Rattle.stab_convergence.specs.Converged.{HasConverged};
 ghost use Rattle.stab_convergence.specs.Exact.{IsExact, IsPathClean, PassesAll};
 ghost use Rattle.stab_convergence.specs.Meanwhile.{HasAllBefore, IsEnough};
-ghost use Rattle.stab_convergence.specs.PathRounds.{IsPathOpen, PathRounds};
+ghost use Rattle.stab_convergence.specs.PathRounds.{IsPathOpen, PathRounds, TakesAtMost};
 ghost use Rattle.stab_convergence.specs.PathRounds.{acts_among, rounds_since};
 ghost use mathlib.Core.List.{IsPrefix};
 ghost use Rattle.stab_faults.specs.declared.change.Change.{Change};
@@ -14,6 +14,7 @@ ghost use Rattle.stab_faults.specs.Hits.{Spare, SpareLink};
 ghost use Rattle.stab_faults.specs.Moment.{fewest_since, missing_since, published_since};
 ghost use Rattle.stab_faults.specs.Since.{IsState, acked_at, backlog, capacity_at, gained, moment};
 ghost use Rattle.stab_faults.specs.Since.{queued_at};
+ghost use Rattle.stab_rounds.specs.Kinds.{Kind, plain, reading};
 ghost use Rattle.stab_rounds.specs.TreePlayed.{play_reads};
 ghost use Rattle.stab_rounds.specs.TreeRounds.{IsOpen};
 ghost use Rattle.stab_settings.specs.Refreshes.{IsRefresh, SameBeside};
@@ -37,18 +38,19 @@ pub fn later_items_disturb_nothing()
 {}
 
 /// Every node comes back while items are published. From any state of a tree let anything happen
-/// that is no fault on the node's path; and let there then be `rounds_since` reading rounds of the
-/// path, counted at their beginning, in which no link of it is closed, and whatever is published.
-/// Then the node has all that was published before these rounds, but for some of the first M. If
-/// that was enough, it receives exactly what is published from the beginning of the rounds on, for
-/// good: whatever comes later without a fault on the path.
+/// that is no fault on the node's path; and let there then be `rounds_since` rounds of the path, all
+/// plain or all reading ones, counted at their beginning, in which no link of it is closed, and
+/// whatever is published. Then the node has all that was published before these rounds, but for
+/// some of the first M. If that was enough, it receives exactly what is published from the beginning
+/// of the rounds on, for good: whatever comes later without a fault on the path.
 pub fn nodes_converge()
-    ensures { (tree : Nodes) (s : WholeTree) (before after later : List Change) (rounds node : ℕ)
+    ensures { (kind : Kind) (each : ℕ) (tree : Nodes) (s : WholeTree)
+        (before after later : List Change) (rounds node : ℕ)
         → IsState tree s → node < length s.parents
         → Spare s.parents node (before ++ (after ++ later))
         → let m = changes_replay s before in
-        IsState tree m → IsPathOpen (changes_replay m after) node
-        → PathRounds m node rounds after → rounds_since (moment m) node ≤ rounds
+        IsState tree m → IsPathOpen (changes_replay m after) node → TakesAtMost kind each m node
+        → PathRounds kind m node rounds after → rounds_since each (moment m) node ≤ rounds
         → HasAllBefore s m (changes_replay m (after ++ later)) node }
 {
     stab_core::laws::link_law_from_any_state();
@@ -117,21 +119,31 @@ pub fn every_schedule_converges()
         let m = changes_replay s after in
         node < length s.parents → Spare s.parents node after
         → IsOpen m → ((w : ℕ) → capacity_at m w ≤ capacity)
-        → rounds_since (moment m) node ≤ rounds
+        → rounds_since 1 (moment m) node ≤ rounds
         → HasConverged s (tree_replay m (play_reads capacity m.parents rounds)) node }
 {
     stab_core::laws::link_law_from_any_state();
 }
 
-/// From the start of a network: as many reading rounds of a node's path as
-/// `arrival_reading_rounds` says bring it all that was published at the start, but for some of the
-/// first items, whatever is published later and whatever happens elsewhere.
+/// From the start of a network: as many rounds of a node's path as `arrival_rounds` says, or as
+/// many reading rounds as `arrival_reading_rounds` says, bring it all that was published at the
+/// start, but for some of the first items, whatever is published later and whatever happens
+/// elsewhere.
 pub fn rounds_of_the_path_are_enough()
-    ensures { (net : Network) (changes later : List Change) (rounds node parent : ℕ)
+    ensures plain { (net : Network) (changes later : List Change)
+        (capacity rounds node parent : ℕ)
         → IsNetwork net → parent_at net.tree.parents node ≡ Some parent
         → Spare net.tree.parents node (changes ++ later)
         → let s = initial_tree net in
-        IsPathOpen (changes_replay s changes) node → PathRounds s node rounds changes
+        IsPathOpen (changes_replay s changes) node
+        → TakesAtMost plain (2 * capacity + 1) s node → PathRounds plain s node rounds changes
+        → arrival_rounds net capacity node ≤ rounds
+        → HasAllBefore s s (changes_replay s (changes ++ later)) node }
+    ensures reading { (net : Network) (changes later : List Change) (rounds node parent : ℕ)
+        → IsNetwork net → parent_at net.tree.parents node ≡ Some parent
+        → Spare net.tree.parents node (changes ++ later)
+        → let s = initial_tree net in
+        IsPathOpen (changes_replay s changes) node → PathRounds reading s node rounds changes
         → arrival_reading_rounds net node ≤ rounds
         → HasAllBefore s s (changes_replay s (changes ++ later)) node }
 {

@@ -51,7 +51,7 @@ pub fn run_and_settle(
         let m = changes_replay s after in
         node < length s.parents → Spare s.parents node after
         → IsOpen m → ((w : ℕ) → capacity_at m w ≤ capacity)
-        → rounds_since (moment m) node ≤ rounds
+        → rounds_since 1 (moment m) node ≤ rounds
         → HasConverged s state node) }
 {
     let mut state = stab_faults::run_changes(

@@ -48,3 +48,11 @@ pub law_of_links_since : (tree : Nodes) (m : Moment) (gained : ℕ → List ℕ)
 law_of_links_since tree m gained is_tree same links node is_node =
     law_of_path tree is_tree m same gained (λ _. Unit {0}) (λ w parent on child. tt)
     (λ w parent on child. links w parent child) node is_node tt
+
+pub sharper_law_of_links_since : (tree : Nodes) (m : Moment) (gained : ℕ → List ℕ) → IsRooted tree.parents → m.parents ≡ tree.parents
+    → ((child parent : ℕ) → parent_at m.parents child ≡ Some parent
+    → LawBetween SharperLinkLaw (m.capacity child) (m.queued child) (m.backlog child ++ gained parent) (gained child))
+    → (node : ℕ) → node < length m.parents → SharperLawSince m gained node
+sharper_law_of_links_since tree m gained is_tree same links node is_node =
+    sharper_law_of_path tree is_tree m same gained (λ _. Unit {0}) (λ w parent on child. tt)
+    (λ w parent on child. links w parent child) node is_node tt

@@ -1,7 +1,7 @@
 -- The tree law of a node, counted from any state, where no fault hits the node.
-use Rattle.std.proofs.Common.{◌≡◌, ℕ, ◌-◌, ◌<◌, ◌≤◌, List, [], ◌++◌, length, drop, Some, None, is_some, true, false, refl, ap, ap₂, sym, ◌∙◌, subst, inl, inr, append_assoc, arith}
+use Rattle.std.proofs.Common.{◌≡◌, ℕ, ◌+◌, ◌-◌, ◌<◌, ◌≤◌, List, [], ◌++◌, length, drop, Some, None, is_some, true, false, refl, ap, ap₂, sym, ◌∙◌, subst, inl, inr, append_assoc, arith}
 use Rattle.std.specs.Option.{option_map_or}
-use Rattle.std.proofs.lemmas.List.{length-append, length-drop}
+use Rattle.std.proofs.lemmas.List.{append-nil, length-append, length-drop}
 use Rattle.std.proofs.lemmas.Option.{same_Some}
 use mathlib.Core.List.{IsPrefix}
 use Rattle.stab_core.specs.Link.{LinkValue}
@@ -9,16 +9,18 @@ use Rattle.stab_core.specs.LinkLaw.{LinkLaw, SharperLinkLaw}
 use Rattle.stab_core.specs.Replay.{replay, start_items}
 use Rattle.stab_tree.specs.Nodes.{Nodes, parent_at, root_of}
 use Rattle.stab_tree.specs.Steps.{Reaches, ancestor}
+use Rattle.stab_tree.proofs.ForCallers.{child_is_node}
 use Rattle.stab_tree.proofs.Steps.{steps_once}
 use Rattle.stab_treecore.specs.NodeLaws.{LawBetween}
-use Rattle.stab_treecore.specs.TreeLaw.{CompleteLaw}
+use Rattle.stab_treecore.specs.TreeLaw.{CompleteLaw, HalfTreeLaw}
 use Rattle.stab_treecore.specs.WholeTree.{WholeTree, link_into, received, source}
-use Rattle.stab_treecore.proofs.ForChanges.{same_kind}
+use Rattle.stab_treecore.proofs.ForChanges.{root_law, same_kind}
+use Rattle.stab_treecore.proofs.Upwards.{half_below, half_law_past_opening}
 use Rattle.stab_faults.proofs.Obeying.{ObeysSince}
 use Rattle.stab_core.specs.Since.{start_at, offered_since, acked_since, delivered_since}
 use Rattle.stab_faults.specs.Changes.{Change, changes_replay}
 use Rattle.stab_faults.specs.Hits.{Spare}
-use Rattle.stab_faults.specs.Moment.{LawSince, SharperCompleteSince, SharperLawSince}
+use Rattle.stab_faults.specs.Moment.{FollowsSince, LawSince, SharperCompleteSince, SharperLawSince}
 use Rattle.stab_faults.specs.Moment.{strays_since, missing_since, garbage_since, published_since}
 use Rattle.stab_faults.specs.Since.{IsState, acked_at, backlog, gained, moment, capacity_at, queued_at}
 use Rattle.stab_faults.proofs.PathLaws.{LinksHandOn, complete_of_path, law_of_path, sharper_complete_of_path, sharper_law_of_path}
@@ -141,6 +143,34 @@ root_alone tree s is node is_node v (j, leads) none =
     ] in
     let as_far : j ≡ reaches.0 = steps_once s.parents j reaches.0 node v (root_of s.parents) leads own_none reaches.1 root_none in
     same_Some v (root_of s.parents) (sym leads ∙ (ap (λ k. ancestor s.parents k node) as_far ∙ reaches.1))
+
+-- what a link that obeys its law delivers, of items that its parent had before and this list
+follows : (capacity acked : ℕ) (queued old list offered below : List ℕ) → IsPrefix offered (old ++ list)
+    → LinkLaw capacity queued offered acked below → HalfTreeLaw (capacity + length old) (queued ++ old) list below
+follows capacity acked queued old list offered below begins (places, law, none) =
+    let (all, itself, closed) = root_law list in
+    let above : HalfTreeLaw (0 + length old) (old ++ []) list (old ++ list) = half_law_past_opening 0 old [] list list (all, itself) in
+    let turned : 0 + length old + capacity ≡ capacity + length old = omega arith in
+    subst (λ (n : ℕ). HalfTreeLaw n (queued ++ old) list below) turned
+    (subst (λ (xs : List ℕ). HalfTreeLaw (0 + length old + capacity) (queued ++ xs) list below) (append-nil old)
+    (half_below capacity (0 + length old) acked queued (old ++ []) list (old ++ list) offered below begins above (places, law)))
+
+-- From any state of a whole tree, after changes that spare a node, it follows its parent, counted
+-- from there.
+module _ (tree : Nodes) (s : WholeTree) (changes : List Change) (node : ℕ) (is : IsState tree s) (spare : Spare s.parents node changes) where
+  pub follows_since : ObeysSince LinkLaw → (parent : ℕ) → parent_at s.parents node ≡ Some parent
+      → FollowsSince (moment s) (gained s (changes_replay s changes)) node parent
+  follows_since obey parent is_child =
+      let end = changes_replay s changes in
+      let is_node : node < length s.parents =
+      subst (λ ps. parent_at ps node ≡ Some parent → node < length ps) (sym is.parents) (child_is_node tree.parents node parent) is_child in
+      let since : Since s end (OnPath s node) (OnPath s node) =
+      untouched_since s (OnPath s node) (OnPath s node) (path_up s node) (λ w parent link _. is.within w parent link) s changes
+      (since_at_first s (OnPath s node) (OnPath s node) (root_alone tree s is node is_node))
+      (spared s node (λ w parent link _. is.within w parent link) changes spare) in
+      let (offered, acked, begins, law) =
+      link_since tree s is end (OnPath s node) (OnPath s node) (path_up s node) since LinkLaw obey node parent (0, refl) is_child in
+      follows (capacity_at s node) acked (queued_at s node) (backlog s node) (gained s end parent) offered (gained s end node) begins law
 
 -- From any state of a whole tree, after changes that spare a node, the node obeys both laws,
 -- counted from there.

@@ -7,12 +7,13 @@ use Rattle.stab_treecore.specs.Network.{IsNetwork, Network}
 use Rattle.stab_treecore.specs.Paths.{sum_above, path_sum}
 use Rattle.stab_tree.specs.Steps.{depth_of}
 use Rattle.stab_treecore.specs.TreeReplay.{initial_tree}
+use Rattle.stab_treecore.specs.SharperLaw.{SharperTreeLaw}
 use Rattle.stab_treecore.specs.TreeLaw.{TreeLaw}
 use Rattle.stab_faults.proofs.Obeying.{ObeysSince}
-use Rattle.stab_treecore.proofs.ForChanges.{larger_bounds}
+use Rattle.stab_treecore.proofs.ForChanges.{larger_bounds, sharper_larger}
 use Rattle.stab_faults.specs.Changes.{Change, changes_replay, Fit}
 use Rattle.stab_faults.specs.Hits.{Spare}
-use Rattle.stab_faults.specs.Moment.{Moment, LawSince, SharperLawSince, garbage_since, missing_since, old_backlog, published_since, strays_since}
+use Rattle.stab_faults.specs.Moment.{Moment, LawSince, SharperLawSince, fewest_since, garbage_since, missing_since, old_backlog, published_since, strays_since}
 use Rattle.stab_faults.specs.Since.{gained, moment}
 use Rattle.stab_faults.proofs.NodesSince.{law_since, sharper_law_since}
 use Rattle.stab_faults.proofs.States.{IsFed, changes_fed, opening_fed}
@@ -60,5 +61,15 @@ pub law_of_short_backlogs : (m : Moment) (gain : ℕ → List ℕ) (most : ℕ �
 law_of_short_backlogs m gain most node short law =
     larger_bounds (strays_since m node) (path_sum m.parents (λ w. m.capacity w + most w) node) (missing_since m node) (missing_since m node)
     (garbage_since m node) (published_since m gain node) (gain node)
+    (sum_no_more m.parents (λ w. m.capacity w + length (old_backlog m w)) (λ w. m.capacity w + most w) (depth_of m.parents node) node
+    (λ w. omega (arith, short w))) (omega arith) law
+
+pub sharper_law_of_short_backlogs : (m : Moment) (gain : ℕ → List ℕ) (most : ℕ → ℕ) (node : ℕ)
+    → ((w : ℕ) → length (old_backlog m w) ≤ most w) → SharperLawSince m gain node
+    → SharperTreeLaw (path_sum m.parents (λ w. m.capacity w + most w) node) (path_sum m.parents (λ w. m.capacity w + 1) node)
+    (fewest_since m node) (garbage_since m node) (published_since m gain node) (gain node)
+sharper_law_of_short_backlogs m gain most node short law =
+    sharper_larger (strays_since m node) (path_sum m.parents (λ w. m.capacity w + most w) node) (path_sum m.parents (λ w. m.capacity w + 1) node)
+    (fewest_since m node) (fewest_since m node) (garbage_since m node) (published_since m gain node) (gain node)
     (sum_no_more m.parents (λ w. m.capacity w + length (old_backlog m w)) (λ w. m.capacity w + most w) (depth_of m.parents node) node
     (λ w. omega (arith, short w))) (omega arith) law

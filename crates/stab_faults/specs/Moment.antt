@@ -11,7 +11,7 @@ use Rattle.stab_tree.specs.Nodes.{parent_at, root_of}
 use Rattle.stab_tree.specs.Steps.{depth_of}
 use Rattle.stab_treecore.specs.Paths.{path_lists, path_sum}
 use Rattle.stab_treecore.specs.SharperLaw.{SharperCompleteLaw, SharperTreeLaw, peak_above}
-use Rattle.stab_treecore.specs.TreeLaw.{TreeLaw}
+use Rattle.stab_treecore.specs.TreeLaw.{HalfTreeLaw, TreeLaw}
 
 pub record Moment : Type 0 where
   pub parents : List (Option ℕ)
@@ -74,3 +74,10 @@ abbrev pub SharperCompleteSince : Moment → (ℕ → List ℕ) → ℕ → Type
 SharperCompleteSince m gained node =
     SharperCompleteLaw (strays_since m node) (path_sum m.parents (λ w. m.capacity w + 1) node)
     (fewest_since m node) (garbage_since m node) (published_since m gained node) (gained node)
+
+-- a child received few strays, which were queued or are what its parent had for it at the moment,
+-- and then only what the parent received since, in that order
+abbrev pub FollowsSince : Moment → (ℕ → List ℕ) → ℕ → ℕ → Type 0
+FollowsSince m gained child parent =
+    HalfTreeLaw (m.capacity child + length (m.backlog child)) (m.queued child ++ m.backlog child)
+    (gained parent) (gained child)

@@ -6,7 +6,8 @@ ghost use Rattle.stab_faults.specs.declared.change.Change.{Change};
 ghost use Rattle.stab_faults.specs.Changes.{Fit, changes_replay};
 ghost use Rattle.stab_faults.specs.EdgeSince.{EdgesSince};
 ghost use Rattle.stab_faults.specs.Hits.{Spare, SpareLink};
-ghost use Rattle.stab_faults.specs.Moment.{Moment, old_backlog, LawSince, SharperLawSince};
+ghost use Rattle.stab_faults.specs.Moment.{FollowsSince, Moment, old_backlog};
+ghost use Rattle.stab_faults.specs.Moment.{LawSince, SharperLawSince, fewest_since};
 ghost use Rattle.stab_faults.specs.Moment.{strays_since, missing_since, garbage_since};
 ghost use Rattle.stab_faults.specs.Moment.{published_since};
 ghost use Rattle.stab_faults.specs.Since.{IsFedAt, IsState, PassesList, backlog, gained, moment};
@@ -15,9 +16,12 @@ ghost use Rattle.stab_tree.specs.IsTree.{IsRooted};
 ghost use Rattle.stab_tree.specs.Nodes.{Nodes, parent_at};
 ghost use Rattle.stab_tree.specs.Steps.{ancestor};
 ghost use Rattle.stab_treecore.specs.Network.{IsNetwork, Network};
-ghost use Rattle.stab_treecore.specs.NodeLaws.{LinkLawBetween, most_missing, most_strays};
+ghost use Rattle.stab_core.specs.LinkLaw.{SharperLinkLaw};
+ghost use Rattle.stab_treecore.specs.NodeLaws.{LawBetween, LinkLawBetween};
+ghost use Rattle.stab_treecore.specs.NodeLaws.{most_missing, most_strays};
 ghost use Rattle.stab_treecore.specs.NodeLaws.{path_garbage};
 ghost use Rattle.stab_treecore.specs.Paths.{lists_above, path_sum, sum_above};
+ghost use Rattle.stab_treecore.specs.SharperLaw.{SharperTreeLaw};
 ghost use Rattle.stab_treecore.specs.TreeLaw.{TreeLaw};
 ghost use Rattle.stab_treecore.specs.TreeReplay.{initial_tree};
 ghost use Rattle.stab_treecore.specs.WholeTree.{WholeTree, received};
@@ -100,9 +104,14 @@ pub fn every_schedule_with_faults_obeys_the_tree_law()
 /// Where no backlog of an inner node `w` is longer than `most w` items, at most `most w` strays
 /// come of it; in a drained tree none do.
 pub fn law_of_short_backlogs()
-    ensures { (m : Moment) (gain : ℕ → List ℕ) (most : ℕ → ℕ) (node : ℕ)
+    ensures tree_law { (m : Moment) (gain : ℕ → List ℕ) (most : ℕ → ℕ) (node : ℕ)
         → ((w : ℕ) → length (old_backlog m w) ≤ most w) → LawSince m gain node
         → TreeLaw (path_sum m.parents (λ w. m.capacity w + most w) node) (missing_since m node)
+        (garbage_since m node) (published_since m gain node) (gain node) }
+    ensures sharper { (m : Moment) (gain : ℕ → List ℕ) (most : ℕ → ℕ) (node : ℕ)
+        → ((w : ℕ) → length (old_backlog m w) ≤ most w) → SharperLawSince m gain node
+        → SharperTreeLaw (path_sum m.parents (λ w. m.capacity w + most w) node)
+        (path_sum m.parents (λ w. m.capacity w + 1) node) (fewest_since m node)
         (garbage_since m node) (published_since m gain node) (gain node) }
 {}
 
@@ -120,17 +129,34 @@ pub fn tree_law_of_edges_since()
     stab_core::laws::sharper_link_law_from_any_state();
 }
 
-/// The tree law at a node, counted from a moment, where of each link nothing is known but that it
-/// obeys the link law since: what its sender offered is a prefix of what its parent had for the
-/// child at the moment and received since.
+/// The tree law at a node, and the sharper one, counted from a moment, where of each link nothing is
+/// known but that it obeys that law since: what its sender offered is a prefix of what its parent
+/// had for the child at the moment and received since.
 pub fn tree_law_of_links_since()
-    ensures { (tree : Nodes) (m : Moment) (gain : ℕ → List ℕ)
+    ensures tree_law { (tree : Nodes) (m : Moment) (gain : ℕ → List ℕ)
         → IsRooted tree.parents → m.parents ≡ tree.parents
         → ((child parent : ℕ) → parent_at m.parents child ≡ Some parent
         → LinkLawBetween (m.capacity child) (m.queued child) (m.backlog child ++ gain parent)
         (gain child))
         → (node : ℕ) → node < length m.parents → LawSince m gain node }
+    ensures sharper { (tree : Nodes) (m : Moment) (gain : ℕ → List ℕ)
+        → IsRooted tree.parents → m.parents ≡ tree.parents
+        → ((child parent : ℕ) → parent_at m.parents child ≡ Some parent
+        → LawBetween SharperLinkLaw (m.capacity child) (m.queued child)
+        (m.backlog child ++ gain parent) (gain child))
+        → (node : ℕ) → node < length m.parents → SharperLawSince m gain node }
 {}
+
+/// A child has nothing that its parent never had, but strays: counted from any state, as long as no
+/// fault hits the child, what it receives are few strays and then only what its parent received
+/// since, in that order.
+pub fn children_follow_their_parents()
+    ensures { (tree : Nodes) (s : WholeTree) (changes : List Change) (child parent : ℕ)
+        → IsState tree s → parent_at s.parents child ≡ Some parent → Spare s.parents child changes
+        → FollowsSince (moment s) (gained s (changes_replay s changes)) child parent }
+{
+    stab_core::laws::link_law_from_any_state();
+}
 
 /// A node that no fault hits keeps the promise of the start, in the words of the tree law, whatever
 /// faults hit other nodes and links.

@@ -1,52 +1,33 @@
 -- Where each node obeys, the report does: the tree law at each node, and the complete law below
 -- nodes that all ended with their upstream, from the root down.
-use Rattle.std.proofs.Common.{◌≡◌, ℕ, suc, ◌+◌, ◌*◌, ◌<◌, ◌≤◌, List, [], ◌++◌, length, Option, Some, MatchOption, ap, sym, ◌∙◌, subst, arith, append_assoc}
+use Rattle.std.proofs.Common.{◌≡◌, ℕ, suc, ◌+◌, ◌*◌, ◌<◌, ◌≤◌, max, List, [], ◌++◌, length, Option, Some, MatchOption, ap, sym, ◌∙◌, subst, arith, append_assoc}
 use Rattle.std.proofs.lemmas.Option.{same_Some}
 use Rattle.std.specs.Option.{option_map_or}
-use mathlib.Core.List.{IsPrefix}
 use Rattle.std.specs.Prelude.{option_and_then}
-use Rattle.stab_core.specs.LinkLaw.{LinkLaw}
+use Rattle.stab_core.specs.LinkLaw.{SharperLinkLaw}
 use Rattle.stab_tree.specs.IsTree.{IsRooted}
 use Rattle.stab_tree.specs.Nodes.{parent_at, root_of}
 use Rattle.stab_tree.specs.Steps.{ancestor, depth_of}
 use Rattle.stab_tree.proofs.ForCallers.{child_is_node, holds_at_every_depth}
 use Rattle.stab_treecore.specs.Network.{Network}
-use Rattle.stab_treecore.specs.NodeLaws.{capacity_into, garbage_into, LinkLawInto, TreeLawAtNodes}
+use Rattle.stab_treecore.specs.NodeLaws.{capacity_into, garbage_into, LawInto}
 use Rattle.stab_tree.specs.NodeOpenings.{FitTree, hold_at, opening_at}
 use Rattle.stab_treecore.proofs.AtNodes.{sum_above-add}
+use Rattle.stab_treecore.proofs.Upwards.{sharper_complete_below, sharper_complete_past_opening, sharper_larger_complete, sharper_root_has_all}
 use Rattle.stab_tree.proofs.ForCallers.{openings_fit}
 use Rattle.stab_treecore.specs.Paths.{lists_above, sum_above}
-use Rattle.stab_treecore.specs.TreeLaw.{CompleteLaw}
+use Rattle.stab_treecore.specs.SharperLaw.{SharperCompleteLaw, SharperTreeLawAtNode, SharperTreeLawAtNodes, peak_above}
 use Rattle.stab_judge.specs.Obeys.{AllAboveEnded, CompleteBelowEnded, HandsOn, LinkObeys, NodeObeys, RootObeys}
 use Rattle.stab_report.specs.Reports.{ReportValue, received_at}
 
--- the laws of the layers below that this needs
+-- the law of the layer below that this needs
 abbrev pub LinksMakeTheTreeLaw : Type 0
 LinksMakeTheTreeLaw =
-    (net : Network) (received : ℕ → List ℕ) → IsRooted net.tree.parents → FitTree net.tree.parents net.openings
-    → received (root_of net.tree.parents) ≡ net.published
-    → ((child parent : ℕ) → parent_at net.tree.parents child ≡ Some parent → LinkLawInto net child (received parent) (received child))
-    → TreeLawAtNodes net received
-
-abbrev pub RootIsComplete : Type 0
-RootIsComplete = (published : List ℕ) → CompleteLaw 0 0 [] published published
-
-abbrev pub ChildIsComplete : Type 0
-ChildIsComplete =
-    (capacity most_strays most_missing acked : ℕ) (start_items garbage published received offered delivered : List ℕ)
-    → IsPrefix offered received → acked ≡ length received → CompleteLaw most_strays most_missing garbage published received
-    → LinkLaw capacity start_items offered acked delivered
-    → CompleteLaw (most_strays + capacity) (most_missing + (2 * capacity + 1)) (start_items ++ garbage) published delivered
-
-abbrev pub OpeningsAddStrays : Type 0
-OpeningsAddStrays =
-    (most_strays most_missing : ℕ) (first garbage published received : List ℕ) → CompleteLaw most_strays most_missing garbage published received
-    → CompleteLaw (most_strays + length first) most_missing (first ++ garbage) published (first ++ received)
-
-abbrev pub LargerBoundsHold : Type 0
-LargerBoundsHold =
-    (few most_strays first most_missing : ℕ) (garbage published received : List ℕ) → few ≤ most_strays → first ≤ most_missing
-    → CompleteLaw few first garbage published received → CompleteLaw most_strays most_missing garbage published received
+    (net : Network) (received : ℕ → List ℕ) (node : ℕ) → IsRooted net.tree.parents → FitTree net.tree.parents net.openings
+    → received (root_of net.tree.parents) ≡ net.published → node < length net.tree.parents
+    → ((steps child parent : ℕ) → ancestor net.tree.parents steps node ≡ Some child → parent_at net.tree.parents child ≡ Some parent
+    → LawInto SharperLinkLaw net child (received parent) (received child))
+    → SharperTreeLawAtNode net received node
 
 module _ (net : Network) (r : ReportValue) (tree : IsRooted net.tree.parents)
     (nodes : (node : ℕ) → node < length net.tree.parents → NodeObeys net r node) where
@@ -74,10 +55,10 @@ module _ (net : Network) (r : ReportValue) (tree : IsRooted net.tree.parents) (f
   received = received_at r
 
   -- the tree law at each node
-  pub tree_law : LinksMakeTheTreeLaw → TreeLawAtNodes net received
-  tree_law make =
-      make net received tree fit root.published
-      (λ child parent is_child.
+  pub tree_law : LinksMakeTheTreeLaw → SharperTreeLawAtNodes net received
+  tree_law make node is_node =
+      make net received node tree fit root.published is_node
+      (λ steps child parent leads is_child.
       let link = links child parent is_child in
       (link.delivered, link.has, (link.law.0, link.acked, link.law.1, link.law.2)))
 
@@ -91,62 +72,66 @@ module _ (net : Network) (r : ReportValue) (tree : IsRooted net.tree.parents) (f
   strays child = capacity_into net child + hold child
 
   abbrev missing : ℕ → ℕ
-  missing child = 2 * capacity_into net child + 1
+  missing child = capacity_into net child + 1
 
   abbrev garbage : ℕ → List ℕ
   garbage child = opening_at net.openings.lists child ++ garbage_into net child
 
-  module _ (at_root : RootIsComplete) (at_child : ChildIsComplete) (past_opening : OpeningsAddStrays) (larger : LargerBoundsHold) where
-    -- the complete law of a node below ended nodes, with what there is beside this many nodes, from
-    -- it upwards
-    abbrev CompleteAt : ℕ → ℕ → Type 0
-    CompleteAt depth node =
-        AllAboveEnded net r node
-        → CompleteLaw (sum_above parents strays depth node) (sum_above parents missing depth node)
-        (lists_above parents garbage depth node) net.published (received node)
+  -- the complete law of a node below ended nodes, with what there is beside this many nodes, from
+  -- it upwards
+  abbrev CompleteAt : ℕ → ℕ → Type 0
+  CompleteAt depth node =
+      AllAboveEnded net r node
+      → SharperCompleteLaw (sum_above parents strays depth node) (sum_above parents missing depth node)
+      (peak_above parents (capacity_into net) depth node) (lists_above parents garbage depth node) net.published (received node)
 
-    root_complete : CompleteAt 0 (root_of parents)
-    root_complete above_ended = rw root.published (at_root net.published)
+  root_complete : CompleteAt 0 (root_of parents)
+  root_complete above_ended = rw root.published (sharper_root_has_all net.published)
 
-    -- the law of a child from what is known of its link
-    joined : (child parent most_strays most_missing : ℕ) (above : List ℕ) (link : LinkObeys net r child parent)
-        → link.acked ≡ length (received parent) → CompleteLaw most_strays most_missing above net.published (received parent)
-        → CompleteLaw (strays child + most_strays) (missing child + most_missing) (garbage child ++ above) net.published (received child)
-    joined child parent most_strays most_missing above link all_acked at_parent =
-        let c = capacity_into net child in
-        let start_items = garbage_into net child in
-        let first = opening_at net.openings.lists child in
-        let below : CompleteLaw (most_strays + c) (most_missing + (2 * c + 1)) (start_items ++ above) net.published link.delivered =
-        at_child c most_strays most_missing link.acked start_items above net.published (received parent) link.law.0 link.delivered
-        link.law.1 all_acked at_parent link.law.2 in
-        let opened : CompleteLaw (most_strays + c + length first) (most_missing + (2 * c + 1))
-        (first ++ (start_items ++ above)) net.published (first ++ link.delivered) =
-        past_opening (most_strays + c) (most_missing + (2 * c + 1)) first (start_items ++ above) net.published link.delivered below in
-        rw (link.has, append_assoc)
-        (larger (most_strays + c + length first) (strays child + most_strays)
-        (most_missing + (2 * c + 1)) (missing child + most_missing)
-        (first ++ (start_items ++ above)) net.published (first ++ link.delivered)
-        (omega (arith, (openings_fit parents net.openings fit).short child)) (omega arith) opened)
+  -- the law of a child from what is known of its link
+  joined : (child parent most_strays without peak : ℕ) (above : List ℕ) (link : LinkObeys net r child parent)
+      → link.acked ≡ length (received parent) → SharperCompleteLaw most_strays without peak above net.published (received parent)
+      → SharperCompleteLaw (strays child + most_strays) (missing child + without) (max peak (without + (2 * capacity_into net child + 1)))
+      (garbage child ++ above) net.published (received child)
+  joined child parent most_strays without peak above link all_acked at_parent =
+      let c : ℕ = capacity_into net child in
+      let after : ℕ = max peak (without + (2 * c + 1)) in
+      let first : List ℕ = opening_at net.openings.lists child in
+      let queued : List ℕ = garbage_into net child ++ above in
+      let turned : without + (c + 1) ≡ missing child + without = omega arith in
+      let opened : SharperCompleteLaw (most_strays + c + length first) (without + (c + 1)) after (first ++ queued) net.published
+      (first ++ link.delivered) =
+      sharper_complete_past_opening (most_strays + c) (without + (c + 1)) after first queued net.published link.delivered
+      (sharper_complete_below c most_strays link.acked (garbage_into net child) above net.published (received parent) link.law.0
+      link.delivered link.law.1 without peak all_acked at_parent link.law.2) in
+      rw (link.has, append_assoc)
+      (sharper_larger_complete (most_strays + c + length first) (strays child + most_strays) (missing child + without) after
+      (first ++ queued) net.published (first ++ link.delivered)
+      (omega (arith, (openings_fit parents net.openings fit).short child))
+      (subst (λ (n : ℕ). SharperCompleteLaw (most_strays + c + length first) n after (first ++ queued) net.published (first ++ link.delivered))
+      turned opened))
 
-    child_complete : (depth child parent : ℕ) → parent_at parents child ≡ Some parent → CompleteAt depth parent → CompleteAt (suc depth) child
-    child_complete depth child parent is_child above child_ended =
-        let link = links child parent is_child in
-        let parent_ended : AllAboveEnded net r parent =
-        λ steps node reached.
-        child_ended (suc steps) node (ap (λ o. option_and_then (ancestor parents (suc steps)) o) is_child ∙ reached) in
-        let all_acked : link.acked ≡ length (received parent) =
-        same_Some link.acked (length (received parent))
-        (sym link.counted
-        ∙ handed child parent is_child (child_ended 0 parent (ap (λ o. option_and_then (ancestor parents 0) o) is_child))) in
-        subst
-        (λ up. CompleteLaw (strays child + option_map_or (sum_above parents strays depth) up 0)
-        (missing child + option_map_or (sum_above parents missing depth) up 0)
-        (garbage child ++ option_map_or (lists_above parents garbage depth) up []) net.published (received child))
-        (sym is_child)
-        (joined child parent (sum_above parents strays depth parent) (sum_above parents missing depth parent)
-        (lists_above parents garbage depth parent) link all_acked (above parent_ended))
+  child_complete : (depth child parent : ℕ) → parent_at parents child ≡ Some parent → CompleteAt depth parent → CompleteAt (suc depth) child
+  child_complete depth child parent is_child above child_ended =
+      let link = links child parent is_child in
+      let parent_ended : AllAboveEnded net r parent =
+      λ steps node reached.
+      child_ended (suc steps) node (ap (λ o. option_and_then (ancestor parents (suc steps)) o) is_child ∙ reached) in
+      let all_acked : link.acked ≡ length (received parent) =
+      same_Some link.acked (length (received parent))
+      (sym link.counted
+      ∙ handed child parent is_child (child_ended 0 parent (ap (λ o. option_and_then (ancestor parents 0) o) is_child))) in
+      subst
+      (λ up. SharperCompleteLaw (strays child + option_map_or (sum_above parents strays depth) up 0)
+      (missing child + option_map_or (sum_above parents missing depth) up 0)
+      (max (option_map_or (peak_above parents (capacity_into net) depth) up 0)
+      (option_map_or (sum_above parents missing depth) up 0 + (2 * capacity_into net child + 1)))
+      (garbage child ++ option_map_or (lists_above parents garbage depth) up []) net.published (received child))
+      (sym is_child)
+      (joined child parent (sum_above parents strays depth parent) (sum_above parents missing depth parent)
+      (peak_above parents (capacity_into net) depth parent) (lists_above parents garbage depth parent) link all_acked (above parent_ended))
 
-    pub complete : CompleteBelowEnded net r
-    complete node is_node above_ended =
-        rw (← sum_above-add parents (capacity_into net) hold (depth_of parents node) node)
-        (holds_at_every_depth net.tree.parents tree CompleteAt root_complete child_complete node is_node above_ended)
+  pub complete : CompleteBelowEnded net r
+  complete node is_node above_ended =
+      rw (← sum_above-add parents (capacity_into net) hold (depth_of parents node) node)
+      (holds_at_every_depth net.tree.parents tree CompleteAt root_complete child_complete node is_node above_ended)

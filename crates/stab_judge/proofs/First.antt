@@ -9,7 +9,7 @@ use Rattle.stab_tree.specs.Nodes.{parent_at, root_of}
 use Rattle.stab_tree.specs.NodeOpenings.{opening_at}
 use Rattle.stab_treecore.specs.Network.{Network}
 use Rattle.stab_treecore.specs.NodeLaws.{capacity_into, garbage_into}
-use Rattle.stab_judge.specs.Judged.{LinkLawBelow}
+use Rattle.stab_judge.specs.Judged.{SharperLawBelow}
 use Rattle.stab_judge.specs.JudgeInside.{AreWholeBefore}
 use Rattle.stab_judge.specs.Obeys.{HandsOn, IsBroken, IsFirst, IsFirstBroken, LinkObeys, NodeObeys, RootObeys, place_of, turn_of}
 use Rattle.stab_report.specs.Reports.{OnePerNode, ReportValue, acked_at, received_at}
@@ -29,11 +29,11 @@ value_there None some = absurd cc
 -- a link that obeys has no other count and no other delivered items
 same_law : (net : Network) (r : ReportValue) (child parent acked : ℕ) (delivered : List ℕ) → LinkObeys net r child parent
     → acked_at r child ≡ Some acked → received_at r child ≡ opening_at net.openings.lists child ++ delivered
-    → LinkLawBelow (capacity_into net child) (garbage_into net child) (received_at r parent) acked delivered
+    → SharperLawBelow (capacity_into net child) (garbage_into net child) (received_at r parent) acked delivered
 same_law net r child parent acked delivered link counted has =
-    subst (λ n. LinkLawBelow (capacity_into net child) (garbage_into net child) (received_at r parent) n delivered)
+    subst (λ n. SharperLawBelow (capacity_into net child) (garbage_into net child) (received_at r parent) n delivered)
     (same_Some link.acked acked (sym link.counted ∙ counted))
-    (subst (λ xs. LinkLawBelow (capacity_into net child) (garbage_into net child) (received_at r parent) link.acked xs)
+    (subst (λ xs. SharperLawBelow (capacity_into net child) (garbage_into net child) (received_at r parent) link.acked xs)
     (append_cancel_left (opening_at net.openings.lists child) link.delivered delivered (sym link.has ∙ has)) link.law)
 
 -- so where a link obeys, its law is not broken

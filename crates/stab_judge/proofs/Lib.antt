@@ -1,7 +1,9 @@
 pub mod Greedy
 pub mod Splitting
 pub mod Tails
+pub mod Dropping
 pub mod Links
+pub mod Sharper
 pub mod Ending
 pub mod Trees
 pub mod Setup

@@ -5,7 +5,7 @@ use Rattle.std.proofs.lemmas.Option.{same_Some}
 use Rattle.stab_treecore.specs.Network.{Network}
 use Rattle.stab_treecore.specs.NodeLaws.{capacity_into, garbage_into}
 use Rattle.stab_tree.specs.NodeOpenings.{opening_at}
-use Rattle.stab_judge.specs.Judged.{LinkLawBelow}
+use Rattle.stab_judge.specs.Judged.{SharperLawBelow}
 use Rattle.stab_judge.specs.Obeys.{LinkObeys}
 use Rattle.stab_report.specs.Reports.{ReportValue, received_at, acked_at}
 
@@ -24,7 +24,7 @@ module _ (net : Network) (r : ReportValue) (child parent acked : ℕ) (above del
     (counted : acked_at r child ≡ Some acked) (has : received_at r child ≡ opening_at net.openings.lists child ++ delivered) where
   -- the law of the link into the child under a parent's list
   abbrev pub Law : List ℕ → ℕ → List ℕ → Type 0
-  Law list count items = LinkLawBelow (capacity_into net child) (garbage_into net child) list count items
+  Law list count items = SharperLawBelow (capacity_into net child) (garbage_into net child) list count items
 
   -- the same law under the other name of the parent's list
   pub as_above : Law (received_at r parent) acked delivered → Law above acked delivered

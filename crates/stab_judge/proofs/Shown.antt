@@ -1,11 +1,11 @@
--- What a schedule leaves obeys: each link of it obeys the link law, the root has the published
+-- What a schedule leaves obeys: each link of it obeys the sharper link law, the root has the published
 -- items, and no node has ended.
 use Rattle.std.proofs.Common.{◌≡◌, ℕ, ◌<◌, ◌⊎◌, inl, inr, List, [], ◌++◌, length, Option, Some, None, is_some, true, false, refl, sym, ◌∙◌, ap, subst, arith}
 use Rattle.std.specs.Option.{option_map_or}
 use Rattle.std.proofs.lemmas.Bool.{false≢true}
 use Rattle.std.proofs.lemmas.List.FromFn.{get_or-map-range_with_len, length-map-range_with_len}
 use Rattle.stab_core.specs.Link.{LinkValue}
-use Rattle.stab_core.specs.LinkLaw.{LinkLaw}
+use Rattle.stab_core.specs.LinkLaw.{SharperLinkLaw}
 use Rattle.stab_core.specs.LinkSetup.{CanBegin, LinkSetup}
 use Rattle.stab_core.specs.Replay.{start_items}
 use Rattle.stab_tree.specs.Nodes.{parent_at, root_of}
@@ -46,7 +46,7 @@ all_shown t parents same =
       ended_upstream = length-map-range_with_len (λ _. false) 0 (length t.parents) ∙ as_many;
     }
 
-module _ (obey : ReplaysObey LinkLaw) (net : Network) (t : WholeTree) (run : IsRun net t) (is : IsNetwork net) where
+module _ (obey : ReplaysObey SharperLinkLaw) (net : Network) (t : WholeTree) (run : IsRun net t) (is : IsNetwork net) where
   -- a node of the network is one of the whole tree
   within : (node : ℕ) → node < length net.tree.parents → node < length t.parents
   within node known = subst (λ n. node < n) (ap length (sym run.parents_stay)) known
@@ -66,8 +66,8 @@ module _ (obey : ReplaysObey LinkLaw) (net : Network) (t : WholeTree) (run : IsR
       let garbage : garbage_into net child ≡ start_items start = ap (λ o. option_map_or (λ (l : LinkSetup). start_items l.start) o []) was.leads in
       let capacity : capacity_into net child ≡ p.capacity = ap (λ o. option_map_or (λ (l : LinkSetup). l.params.capacity) o 0) was.leads in
       let begins : CanBegin was.setup = holds_by_child CanBegin net.tree.parents net.links child was.setup is.can_begin was.leads in
-      let law : LinkLaw p.capacity (start_items start) link.state.offered link.state.acked link.state.delivered =
-      subst (λ s. LinkLaw p.capacity (start_items start) s.offered s.acked s.delivered) (sym reached.1)
+      let law : SharperLinkLaw p.capacity (start_items start) link.state.offered link.state.acked link.state.delivered =
+      subst (λ s. SharperLinkLaw p.capacity (start_items start) s.offered s.acked s.delivered) (sym reached.1)
       (obey p start reached.0 begins.0 begins.1) in
       record {
         acked = link.state.acked;

@@ -6,7 +6,7 @@
 -- Source: this project's own.
 use Rattle.std.specs.Prelude.{◌≡◌, ℕ, ◌+◌, ◌<◌, ◌≤◌, List, ◌++◌, length, take, drop, slice_index}
 use mathlib.Core.List.{IsPrefix}
-use Rattle.stab_core.specs.LinkLaw.{LinkLaw}
+use Rattle.stab_core.specs.LinkLaw.{SharperLinkLaw}
 use Rattle.stab_core.specs.Picks.{Picks}
 
 -- the first list is picked from the second, at some places
@@ -44,7 +44,7 @@ FailsTo pattern fails count =
     (i : ℕ) → i < count → Longest (slice_index fails i) pattern (drop 1 (take (i + 1) pattern))
 
 -- some prefix of the list above was offered, and this many items of it are acknowledged
-abbrev pub LinkLawBelow : ℕ → List ℕ → List ℕ → ℕ → List ℕ → Type 0
-LinkLawBelow capacity start_items above acked delivered =
+abbrev pub SharperLawBelow : ℕ → List ℕ → List ℕ → ℕ → List ℕ → Type 0
+SharperLawBelow capacity start_items above acked delivered =
     (offered : List ℕ) × IsPrefix offered above
-    × LinkLaw capacity start_items offered acked delivered
+    × SharperLinkLaw capacity start_items offered acked delivered

@@ -4,6 +4,8 @@
 -- 13 with 3 acknowledged, and that nobody ended with its upstream. It obeys: 10, 11, 12, 13 may
 -- have been offered, 99 is a stray, and only items among the first 3 are missing. Had a received 99
 -- alone with 4 acknowledged, `LinkLaw` would be broken at a, since 13 is acknowledged and missing.
+-- So it would be had a received 13 alone, with 4 acknowledged: without a stray only the first 2 may
+-- be missing, and 12 is the third.
 -- Had r ended with its upstream, `HandedOn` would be broken at a, since 3 is not 5. Source: this
 -- project's own.
 use Rattle.std.specs.Prelude.{◌≡◌, ◌⊎◌, ℕ, suc, ◌<◌, true, List, ◌++◌, length, Some, None}
@@ -12,10 +14,11 @@ use Rattle.stab_tree.specs.Nodes.{parent_at, root_of}
 use Rattle.stab_tree.specs.Steps.{ancestor}
 use Rattle.stab_treecore.specs.Network.{Network}
 use Rattle.stab_treecore.specs.NodeLaws.{capacity_into, garbage_into, path_garbage}
-use Rattle.stab_treecore.specs.NodeLaws.{most_missing, most_strays, TreeLawAtNodes}
+use Rattle.stab_treecore.specs.NodeLaws.{most_strays}
 use Rattle.stab_tree.specs.NodeOpenings.{opening_at}
-use Rattle.stab_treecore.specs.TreeLaw.{CompleteLaw}
-use Rattle.stab_judge.specs.Judged.{LinkLawBelow}
+use Rattle.stab_treecore.specs.SharperLaw.{SharperCompleteLaw, SharperTreeLawAtNodes, fewest_missing}
+use Rattle.stab_treecore.specs.SharperLaw.{missing_without_strays}
+use Rattle.stab_judge.specs.Judged.{SharperLawBelow}
 use Rattle.stab_report.specs.Reports.{ReportValue, OnePerNode, received_at, acked_at, has_ended}
 use Rattle.stab_judge.specs.declared.broken.Broken.{Broken}
 use Rattle.stab_judge.specs.declared.broken.Broken.TheVariants as broken
@@ -25,14 +28,14 @@ pub record RootObeys (net : Network) (r : ReportValue) (root : ℕ) : Type 0 whe
   pub published : received_at r root ≡ net.published
   pub uncounted : acked_at r root ≡ None
 
--- A child has its opening, and then what the link into it delivered; that obeys the link law under
--- some prefix of the parent's list, of which the report says how many items are acknowledged.
+-- A child has its opening, and then what the link into it delivered; that obeys the sharper link law
+-- under some prefix of the parent's list, of which the report says how many items are acknowledged.
 pub record LinkObeys (net : Network) (r : ReportValue) (child parent : ℕ) : Type 0 where
   pub acked : ℕ
   pub counted : acked_at r child ≡ Some acked
   pub delivered : List ℕ
   pub has : received_at r child ≡ opening_at net.openings.lists child ++ delivered
-  pub law : LinkLawBelow (capacity_into net child) (garbage_into net child)
+  pub law : SharperLawBelow (capacity_into net child) (garbage_into net child)
       (received_at r parent) acked delivered
 
 -- where the parent ended with its upstream, each item of its list is acknowledged
@@ -52,12 +55,12 @@ AllAboveEnded net r node =
     (steps above : ℕ) → ancestor net.tree.parents (suc steps) node ≡ Some above
     → has_ended r above ≡ true
 
--- no published item is missing at such a node, except among the first ones
+-- no published item is missing at such a node, except among the first ones that the sharper law has
 abbrev pub CompleteBelowEnded : Network → ReportValue → Type 0
 CompleteBelowEnded net r =
     (node : ℕ) → node < length net.tree.parents → AllAboveEnded net r node
-    → CompleteLaw (most_strays net node) (most_missing net node) (path_garbage net node)
-    net.published (received_at r node)
+    → SharperCompleteLaw (most_strays net node) (missing_without_strays net node)
+    (fewest_missing net node) (path_garbage net node) net.published (received_at r node)
 
 -- the report obeys the laws of the network
 pub record Obeys (net : Network) (r : ReportValue) : Type 0 where
@@ -67,7 +70,7 @@ pub record Obeys (net : Network) (r : ReportValue) : Type 0 where
       → LinkObeys net r child parent
   pub handed_on : (child parent : ℕ) → parent_at net.tree.parents child ≡ Some parent
       → HandsOn r child parent
-  pub tree_law : TreeLawAtNodes net (received_at r)
+  pub tree_law : SharperTreeLawAtNodes net (received_at r)
   pub complete : CompleteBelowEnded net r
 
 -- this part of the report is broken
@@ -86,7 +89,7 @@ IsBroken net r (broken.LinkLaw child) =
     × (parent_at net.tree.parents child ≡ Some parent)
     × (acked_at r child ≡ Some acked)
     × (received_at r child ≡ opening_at net.openings.lists child ++ delivered)
-    × ¬ LinkLawBelow (capacity_into net child) (garbage_into net child)
+    × ¬ SharperLawBelow (capacity_into net child) (garbage_into net child)
     (received_at r parent) acked delivered
 IsBroken net r (broken.HandedOn child) =
     (parent : ℕ) × (parent_at net.tree.parents child ≡ Some parent)

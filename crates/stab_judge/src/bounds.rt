@@ -1,6 +1,7 @@
 ghost use Rattle.std.specs.Prelude.{◌≡◌, ◌<◌, ◌≤◌, ◌+◌, ◌*◌, length};
 ghost use Rattle.stab_tree.specs.NodeOpenings.{hold_at};
 ghost use Rattle.stab_judge.specs.NodeBounds.{AreBoundsAt};
+ghost use Rattle.stab_treecore.specs.SharperLaw.{fewest_missing};
 
 use crate::judge::Judge;
 use stab_tree::NodeId;
@@ -57,5 +58,28 @@ impl<'a> Judge<'a> {
             }
         }
         bounds
+    }
+
+    /// How many of the first published items may be missing at a node whatever it received, by the
+    /// sharper law: `2c + 1` for one link of its path and `c + 1` for each above it, where that is
+    /// most. Where it received no strays it is `c + 1` for each link, `missing - link_strays` of its
+    /// [`Bounds`], and one more for each stray.
+    pub fn fewest_missing(&self, node: NodeId) -> u64
+        requires { node < length self.now.tree.parents }
+        ensures { result ≡ fewest_missing self.now node }
+    {
+        let mut paid: u64 = 0;
+        let mut more: u64 = 0;
+        let mut at = node;
+        'links: for _ in 0..self.tree.depth(node) {
+            let capacity = u64::from(self.capacity_into(at));
+            more = more.max(capacity.saturating_sub(paid));
+            paid += capacity + 1;
+            match self.tree.parent(at) {
+                None => return paid + more,
+                Some(parent) => at = parent,
+            }
+        }
+        paid + more
     }
 }

@@ -4,14 +4,14 @@ ghost use Rattle.stab_judge.specs.Obeys.{HandsOn, IsBroken, IsFirst, IsFirstBrok
 ghost use Rattle.stab_judge.specs.Obeys.{LinkObeys, NodeObeys};
 ghost use Rattle.stab_judge.specs.Obeys.{Obeys, RootObeys, place_of};
 ghost use Rattle.stab_report.specs.Reports.{OnePerNode};
-ghost use Rattle.stab_judge.specs.Judged.{LinkLawBelow};
+ghost use Rattle.stab_judge.specs.Judged.{SharperLawBelow};
 ghost use Rattle.stab_tree.specs.Nodes.{parent_at, root_of};
 ghost use Rattle.stab_treecore.specs.NodeLaws.{capacity_into, garbage_into};
 
 use crate::broken::Broken;
 use crate::judge::Judge;
 use crate::laws;
-use crate::link::obeys_link_law_below;
+use crate::link::obeys_sharper_law_below;
 use stab_frames::Item;
 use stab_report::Report;
 use stab_tree::{NodeId, Tree};
@@ -131,11 +131,11 @@ impl<'a> Judge<'a> {
         acked: u64,
         delivered: &[Item],
     ) -> bool
-        ensures { IsTrue result ↔ LinkLawBelow
+        ensures { IsTrue result ↔ SharperLawBelow
             (capacity_into self.now child) (garbage_into self.now child)
             above.now acked delivered.now }
     {
         let capacity = self.capacity_into(child);
-        obeys_link_law_below(capacity, self.garbage_into(child), above, acked, delivered)
+        obeys_sharper_law_below(capacity, self.garbage_into(child), above, acked, delivered)
     }
 }

@@ -15,8 +15,8 @@ ghost use Rattle.stab_treecore.specs.TreeReplay.{initial_tree, tree_replay};
 ghost use Rattle.stab_treecore.specs.declared.event.TreeEvent.{TreeEvent};
 ghost use Rattle.stab_tree.specs.NodeOpenings.{FitTree};
 
-/// Where each node obeys, the tree law holds at each node, and the complete law below nodes that
-/// all ended with their upstream: nothing else is asked of a report.
+/// Where each node obeys, the sharper tree law holds at each node, and the sharper complete law below
+/// nodes that all ended with their upstream: nothing else is asked of a report.
 pub fn nodes_that_obey_are_enough()
     ensures { (net : Network) (report : ReportValue)
         → IsRooted net.tree.parents → FitTree net.tree.parents net.openings
@@ -24,11 +24,7 @@ pub fn nodes_that_obey_are_enough()
         → ((node : ℕ) → node < length net.tree.parents → NodeObeys net report node)
         → Obeys net report }
 {
-    stab_treecore::laws::tree_law_at_every_node();
-    stab_treecore::laws::root_obeys_the_complete_law();
-    stab_treecore::laws::complete_law_of_the_child();
-    stab_treecore::laws::tree_law_past_an_opening();
-    stab_treecore::laws::laws_of_larger_bounds();
+    stab_treecore::laws::tree_law_along_a_path();
 }
 
 /// What a run says of a link, that some events explain what it did, is more than a judge asks: so a
@@ -49,7 +45,7 @@ pub fn explained_reports_obey()
         → HandsOn report child parent)
         → Obeys net report }
 {
-    stab_core::laws::every_replay_obeys_the_link_law();
+    stab_core::laws::every_replay_obeys_the_sharper_link_law();
     nodes_that_obey_are_enough();
 }
 
@@ -67,6 +63,6 @@ pub fn schedules_obey()
         → OnePerNode net.tree.parents (report_of (tree_replay (initial_tree net) events)) }
 {
     stab_core::laws::reachable_steps();
-    stab_core::laws::every_replay_obeys_the_link_law();
+    stab_core::laws::every_replay_obeys_the_sharper_link_law();
     explained_reports_obey();
 }

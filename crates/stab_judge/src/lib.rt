@@ -21,7 +21,10 @@ mod tree;
 pub use bounds::Bounds;
 pub use broken::Broken;
 pub use judge::Judge;
-pub use link::{obeys_half_law, obeys_link_law, obeys_link_law_below, obeys_link_law_within};
+pub use link::{
+    obeys_half_law, obeys_link_law, obeys_link_law_within, obeys_sharper_law_below,
+    obeys_sharper_link_law,
+};
 pub use picked::{count_picked, is_picked};
 pub use stab_report::Report;
-pub use tree::{obeys_complete_law, obeys_half_tree_law, obeys_tree_law};
+pub use tree::{obeys_complete_law, obeys_half_tree_law, obeys_sharper_tree_law, obeys_tree_law};

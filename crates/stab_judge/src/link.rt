@@ -1,10 +1,10 @@
 //! The laws of one link.
 
 ghost use Rattle.std.specs.Prelude.{◌+◌, ◌≤◌, ◌↔◌, IsTrue, length};
-ghost use Rattle.stab_core.specs.LinkLaw.{HalfLaw, LinkLaw, LinkLawWithin};
-ghost use Rattle.stab_judge.specs.Judged.{LinkLawBelow};
+ghost use Rattle.stab_core.specs.LinkLaw.{HalfLaw, LinkLaw, LinkLawWithin, SharperLinkLaw};
+ghost use Rattle.stab_judge.specs.Judged.{SharperLawBelow};
 
-use crate::picked::{splits, splits_before};
+use crate::picked::{count_picked, splits, splits_before};
 use stab_frames::Item;
 
 /// Whether all offered items but at most the last are acknowledged.
@@ -77,9 +77,29 @@ pub fn obeys_link_law(
     )
 }
 
-/// Whether a link of this capacity obeys the link law with some prefix of the list `above` as its
-/// offered list: what its sender was offered is not known, but `above` is what there was to offer.
-pub fn obeys_link_law_below(
+/// Whether a link of this capacity obeys the sharper link law, where the other arguments are those
+/// of [`obeys_half_law`]. Each delivered item that may be a stray is taken for one: the law then
+/// allows one more to be missing, and that item is no longer looked for.
+pub fn obeys_sharper_link_law(
+    capacity: u16,
+    start_items: &[Item],
+    offered: &[Item],
+    acked: u64,
+    delivered: &[Item],
+) -> bool
+    ensures { IsTrue result
+        ↔ SharperLinkLaw capacity start_items.now offered.now acked delivered.now }
+{
+    let capacity = usize::from(capacity);
+    let strays = capacity.min(count_picked(delivered, start_items));
+    let rest = &delivered[strays..];
+    obeys_link_law_within(0, capacity + 1 + strays, &[], offered, acked, rest)
+}
+
+/// Whether a link of this capacity obeys the sharper link law with some prefix of the list `above`
+/// as its offered list: what its sender was offered is not known, but `above` is what there was to
+/// offer.
+pub fn obeys_sharper_law_below(
     capacity: u16,
     start_items: &[Item],
     above: &[Item],
@@ -87,12 +107,12 @@ pub fn obeys_link_law_below(
     delivered: &[Item],
 ) -> bool
     ensures { IsTrue result
-        ↔ LinkLawBelow capacity start_items.now above.now acked delivered.now }
+        ↔ SharperLawBelow capacity start_items.now above.now acked delivered.now }
 {
     if (above.len() as u64) < acked {
         return false;
     }
     let end = above.len().min((acked as usize).saturating_add(1));
     let (offered, _) = above.split_at(end);
-    obeys_link_law(capacity, start_items, offered, acked, delivered)
+    obeys_sharper_link_law(capacity, start_items, offered, acked, delivered)
 }

@@ -1,10 +1,11 @@
 //! The laws of one node of a tree.
 
 ghost use Rattle.std.specs.Prelude.{◌↔◌, IfOk, IsTrue, length};
+ghost use Rattle.stab_treecore.specs.SharperLaw.{SharperTreeLaw};
 ghost use Rattle.stab_treecore.specs.TreeLaw.{HalfTreeLaw, TreeLaw, CompleteLaw};
 
 use crate::ends::longest_end;
-use crate::picked::{splits, splits_before};
+use crate::picked::{count_picked, splits, splits_before};
 use stab_frames::Item;
 use std::alloc::{AllocError, Global};
 
@@ -55,4 +56,29 @@ pub fn obeys_tree_law(
     let tail = longest_end(alloc, back, received)?;
     let (body, _) = received.split_at(received.len() - tail);
     Ok(splits(most_strays, garbage, front, body))
+}
+
+/// Whether a node that received this list obeys the sharper tree law: before its last item no
+/// published item is missing, but for some of the first `without_strays` and of one more for each
+/// stray, and in any case of the first `most_missing`. It takes the memory and the time of
+/// [`obeys_tree_law`]. Each item that may be a stray is taken for one, as long as that allows one
+/// more to be missing.
+pub fn obeys_sharper_tree_law(
+    alloc: Global,
+    most_strays: usize,
+    without_strays: usize,
+    most_missing: usize,
+    garbage: &[Item],
+    published: &[Item],
+    received: &[Item],
+) -> Result<bool, AllocError>
+    ensures { IfOk result (λ yes. IsTrue yes ↔ SharperTreeLaw
+        most_strays without_strays most_missing garbage.now published.now received.now) }
+{
+    let strays = most_strays.min(count_picked(received, garbage));
+    let front = strays.min(most_missing.saturating_sub(without_strays));
+    let first = most_missing.min(without_strays.saturating_add(strays));
+    let rest = &received[front..];
+    let obeys = obeys_tree_law(alloc, strays - front, first, rest, published, rest)?;
+    Ok(obeys)
 }

@@ -1,4 +1,4 @@
-ghost use Rattle.std.specs.Prelude.{◌≡◌, ◌≢◌, ◌+◌, ◌<◌, ◌≤◌, [], ◌∷◌, ◌++◌, length, slice_get};
+ghost use Rattle.std.specs.Prelude.{◌≡◌, ◌≢◌, ◌↔◌, ◌+◌, ◌<◌, ◌≤◌, [], ◌∷◌, ◌++◌, length, slice_get};
 ghost use Rattle.std.specs.Prelude.{false, true, IsTrue, IfOk, IfErr, OnOk, OnErr, MatchResult};
 ghost use Rattle.stab_frames.specs.Parameters.{AreLawful};
 ghost use Rattle.stab_core.specs.Link.{IsReason, Grows};
@@ -149,7 +149,8 @@ impl LinkBook {
 
     /// Whether this is the book of a link with these parameters and this start.
     pub(crate) fn is_of(&self, params: Params, start: &Start) -> bool
-        ensures { IsTrue result → (self.now.params ≡ params) × (self.now.start ≡ start.now) }
+        ensures { IsTrue result
+            ↔ ((self.now.params ≡ params) × (self.now.start ≡ start.now)) }
     {
         self.params == params && same_start(&self.start, start)
     }
@@ -171,7 +172,7 @@ impl LinkBook {
 
 /// Whether two starts have the same frames, acknowledgements and labels.
 fn same_start(one: &Start, other: &Start) -> bool
-    ensures { IsTrue result → one.now ≡ other.now }
+    ensures { IsTrue result ↔ (one.now ≡ other.now) }
 {
     if one.frames.as_slice() != other.frames.as_slice() {
         return false;

@@ -1,16 +1,17 @@
 //! What the lock of a link keeps, and the six calls of the ends on it.
 
-ghost use Rattle.std.specs.Prelude.{◌≡◌, List, [], IfErr, IfOk, IsTrue, OnErr, OnOk};
+ghost use Rattle.std.specs.Prelude.{◌≡◌, ◌↔◌, List, [], IfErr, IfOk, IsTrue, MatchResult, OnErr};
+ghost use Rattle.std.specs.Prelude.{OnOk};
 ghost use Rattle.stab_acts.specs.Scripts.{Acts, receiver_half, sender_half};
 ghost use Rattle.stab_core.specs.LinkLaw.{LinkLaw};
 ghost use Rattle.stab_core.specs.Replay.{initial, replay, start_items};
 ghost use Rattle.stab_core.specs.declared.event.Event.{Event};
 ghost use Rattle.stab_ends.specs.Agreement.{Agree};
+ghost use Rattle.stab_lock.specs.Book.{state_of};
 ghost use Rattle.stab_lock.specs.Calls.{offering, sending, polling_ack, closing, polling_frame};
 ghost use Rattle.stab_lock.specs.Calls.{sending_ack, answer_of, is_held, no_acts, seen_by};
 ghost use Rattle.stab_lock.specs.Scripted.{IsNotedUnder, IsReached, after_call, before_calls};
-ghost use Rattle.stab_lock.specs.Settling.{DifferFromReplay};
-ghost use Rattle.stab_lock.specs.Taken.{SameScriptTaken};
+ghost use Rattle.stab_lock.specs.Settling.{DifferFromReplay, FirstUnlike, IsOf};
 
 use crate::book::LinkBook;
 use crate::settle::SettleFault;
@@ -149,9 +150,7 @@ impl SharedBook {
     /// Whether this is of a link with these parameters and this start, and of a script with the
     /// same acts as far as they were taken.
     fn is_of(&self, params: Params, start: &Start, script: &Script) -> bool
-        ensures { IsTrue result → (self.now.book.params ≡ params)
-            × (self.now.book.start ≡ start.now)
-            × SameScriptTaken self.now.sender self.now.receiver self.now.script script.now }
+        ensures { IsTrue result ↔ IsOf self.now params start.now script.now }
     {
         self.book.is_of(params, start)
             && same_taken(&self.script, script, &self.sender, &self.receiver)
@@ -176,6 +175,10 @@ impl SharedBook {
         ensures law { OnOk result (LinkLaw params.capacity (start_items start.now)
             send.now.offered send.now.acked recv.now.delivered) }
         ensures differ { IfErr result (DifferFromReplay params start.now send.now recv.now) }
+        ensures exactly { MatchResult result
+            (λ _. IsOf self.now params start.now script.now
+            × Agree (state_of self.now.book) send.now recv.now)
+            (FirstUnlike self.now params start.now script.now send.now recv.now) }
     {
         if !self.is_of(params, start, script) {
             return Err(SettleFault::OfferedDiffer);
@@ -199,6 +202,10 @@ impl SharedBook {
         ensures law { OnOk result (LinkLaw params.capacity (start_items start.now)
             send.now.offered send.now.acked recv.now.delivered) }
         ensures differ { IfErr result (DifferFromReplay params start.now send.now recv.now) }
+        ensures exactly { MatchResult result
+            (λ _. IsOf self params start.now script.now
+            × Agree (state_of self.book) send.now recv.now)
+            (FirstUnlike self params start.now script.now send.now recv.now) }
     {
         self.check_of(params, start, script, send, recv)
     }

@@ -1,10 +1,9 @@
 -- Where a node has all that it will ever have.
-use Rattle.std.proofs.Common.{◌≡◌, ◌⊎◌, inl, inr, ℕ, zero, suc, ◌-◌, ◌≤◌, true, false, List, [], ◌∷◌, ◌++◌, length, slice_get, Option, Some, None, refl, sym, ◌∙◌, ap, subst, arith}
+use Rattle.std.proofs.Common.{◌≡◌, inl, inr, ℕ, zero, suc, ◌≤◌, List, [], ◌∷◌, ◌++◌, length, slice_get, Option, Some, None, refl, sym, ◌∙◌, ap, arith}
 use Rattle.std.proofs.lemmas.Bool.{cases_eq}
 use Rattle.std.proofs.lemmas.List.{nil_from_length}
 use Rattle.stab_frames.specs.Parameters.{Parameters}
 use Rattle.stab_core.specs.declared.act.LinkAct.{LinkAct}
-use Rattle.stab_core.specs.declared.act.LinkAct.TheVariants as act
 use Rattle.stab_core.specs.Link.{link_at}
 use Rattle.stab_core.specs.LinkActs.{event_of}
 use Rattle.stab_core.specs.LinkState.{LinkState}
@@ -14,65 +13,14 @@ use Rattle.stab_treecore.specs.declared.event.TreeEvent.{TreeEvent}
 use Rattle.stab_treecore.specs.TreeReplay.{tree_replay}
 use Rattle.stab_treecore.specs.TreeStep.{tree_step}
 use Rattle.stab_treecore.specs.WholeTree.{WholeTree, received}
-use Rattle.stab_rounds.specs.declared.round.Awaited.{Awaited}
-use Rattle.stab_rounds.specs.declared.round.Awaited.TheVariants as next
-use Rattle.stab_rounds.specs.Rounds.{rounds_from}
-use Rattle.stab_rounds.specs.TreeRounds.{acts_on}
-use Rattle.stab_rounds.proofs.Links.{after_event, quiet_after, fewer_taken}
-use Rattle.stab_rounds.proofs.TreeSteps.{At, Fixed, IsSound, OpenAt, root_has, step_other, step_at, acts_own, acts_other, known, child_of, offered_few, keeps, open_before, of_link}
+use Rattle.stab_rounds.proofs.Links.{after_event, quiet_after}
+use Rattle.stab_rounds.proofs.TreeSteps.{At, Fixed, IsSound, root_has, step_other, step_at, known, child_of, offered_few, keeps, of_link}
 
 -- the next item of a list that was offered is none
 offered_all : (xs : List ℕ) (i : ℕ) → length xs ≤ i → slice_get xs i ≡ None
 offered_all [] i past = refl
 offered_all (x ∷ xs) zero past = absurd (omega arith)
 offered_all (x ∷ xs) (suc i) past = offered_all xs i (omega arith)
-
--- a frame is taken among these acts
-abbrev pub Takes : List LinkAct → Type 0
-Takes [] = ⊥
-Takes (act.RecvFrame false ∷ acts) = Unit {0}
-Takes (a ∷ acts) = Takes acts
-
-abbrev Before : Awaited → Type 0
-Before next.SendAck = ⊥
-Before next.RecvAck = ⊥
-Before v = Unit {0}
-
--- so it is in each round
-pub round_takes : (v : Awaited) (acts : List LinkAct) → Before v → 1 ≤ rounds_from v acts → Takes acts
-round_takes v [] before one = absurd (omega arith)
-round_takes v (act.RecvFrame false ∷ acts) before one = tt
-round_takes next.Offer (act.Offer ∷ acts) before one = round_takes next.SendFrame acts tt (omega arith)
-round_takes next.Offer (act.SendFrame ∷ acts) before one = round_takes next.Offer acts tt (omega arith)
-round_takes next.Offer (act.RecvFrame true ∷ acts) before one = round_takes next.Offer acts tt (omega arith)
-round_takes next.Offer (act.SendAck ∷ acts) before one = round_takes next.Offer acts tt (omega arith)
-round_takes next.Offer (act.RecvAck keep ∷ acts) before one = round_takes next.Offer acts tt (omega arith)
-round_takes next.Offer (act.LoseFrame place ∷ acts) before one = round_takes next.Offer acts tt (omega arith)
-round_takes next.Offer (act.LoseAck place ∷ acts) before one = round_takes next.Offer acts tt (omega arith)
-round_takes next.Offer (act.Close ∷ acts) before one = round_takes next.Offer acts tt (omega arith)
-round_takes next.SendFrame (act.Offer ∷ acts) before one = round_takes next.SendFrame acts tt (omega arith)
-round_takes next.SendFrame (act.SendFrame ∷ acts) before one = round_takes next.RecvFrame acts tt (omega arith)
-round_takes next.SendFrame (act.RecvFrame true ∷ acts) before one = round_takes next.SendFrame acts tt (omega arith)
-round_takes next.SendFrame (act.SendAck ∷ acts) before one = round_takes next.SendFrame acts tt (omega arith)
-round_takes next.SendFrame (act.RecvAck keep ∷ acts) before one = round_takes next.SendFrame acts tt (omega arith)
-round_takes next.SendFrame (act.LoseFrame place ∷ acts) before one = round_takes next.SendFrame acts tt (omega arith)
-round_takes next.SendFrame (act.LoseAck place ∷ acts) before one = round_takes next.SendFrame acts tt (omega arith)
-round_takes next.SendFrame (act.Close ∷ acts) before one = round_takes next.SendFrame acts tt (omega arith)
-round_takes next.RecvFrame (act.Offer ∷ acts) before one = round_takes next.RecvFrame acts tt (omega arith)
-round_takes next.RecvFrame (act.SendFrame ∷ acts) before one = round_takes next.RecvFrame acts tt (omega arith)
-round_takes next.RecvFrame (act.RecvFrame true ∷ acts) before one = round_takes next.RecvFrame acts tt (omega arith)
-round_takes next.RecvFrame (act.SendAck ∷ acts) before one = round_takes next.RecvFrame acts tt (omega arith)
-round_takes next.RecvFrame (act.RecvAck keep ∷ acts) before one = round_takes next.RecvFrame acts tt (omega arith)
-round_takes next.RecvFrame (act.LoseFrame place ∷ acts) before one = round_takes next.SendFrame acts tt (omega arith)
-round_takes next.RecvFrame (act.LoseAck place ∷ acts) before one = round_takes next.RecvFrame acts tt (omega arith)
-round_takes next.RecvFrame (act.Close ∷ acts) before one = round_takes next.RecvFrame acts tt (omega arith)
-round_takes next.SendAck (a ∷ acts) before one = absurd before
-round_takes next.RecvAck (a ∷ acts) before one = absurd before
-
--- it is the first act, or among the others
-first_take : (a : LinkAct) (acts : List LinkAct) → Takes (a ∷ acts) → (a ≡ act.RecvFrame false) ⊎ Takes acts
-first_take (act.RecvFrame false) acts takes = inl refl
-first_take a acts takes = inr takes
 
 -- The node has all that it will ever have: it is a root, or its parent has, and all of that was
 -- acknowledged, and no frame is on its way.
@@ -169,33 +117,4 @@ module _ (fixed : Fixed) where
               (quiet.acked ∙ all ∙ same_all))
           | inr other ↦
               quiet_over es (tree_step t e) s (keeps fixed t e run) (step_other t e w other ∙ there) above_after (all ∙ same_all)
-        ]
-
-    -- each round takes one
-    pub flush_over : (es : List TreeEvent) (t : WholeTree) (s : LinkState) → IsSound fixed t → OpenAt (tree_replay t es) w → At t w p s → Drained t parents u
-        → s.acked ≡ length (received t u) → Takes (acts_on w es) → Flushed (tree_replay t es) s.acked (length s.frames - 1)
-    flush_over [] t s run is_open there above all takes = absurd takes
-    flush_over (e ∷ es) t s run is_open there above all takes =
-        let (above_after, same_list) = drained_step t e run u above in
-        let same_all : length (received t u) ≡ length (received (tree_step t e) u) = ap length (sym same_list) in
-        elim (cases_eq e.child w) [
-          | inl same ↦
-              let now : LinkState = quiet_now p s e.act in
-              let quiet = quiet_after p s e.act (idle_at t run w u p s is_child there all) in
-              let found = quiet_at t e run w u p s is_child there all same in
-              let opened : s.closed ≡ false = open_before fixed (e ∷ es) t w is_open (link_at p s) there in
-              elim (first_take e.act (acts_on w es) (subst Takes (acts_own w e es same) takes)) [
-                | inl now_taken ↦
-                    let taken : length now.frames ≤ length s.frames - 1 =
-                    subst (λ a. length (quiet_now p s a).frames ≤ length s.frames - 1) (sym now_taken) (fewer_taken p s opened) in
-                    more_flushed (tree_replay (tree_step t e) es) s.acked now.acked (length now.frames) (length s.frames - 1) quiet.acked taken
-                    (quiet_over es (tree_step t e) now (keeps fixed t e run) found above_after (quiet.acked ∙ all ∙ same_all))
-                | inr later ↦
-                    more_flushed (tree_replay (tree_step t e) es) s.acked now.acked (length now.frames - 1) (length s.frames - 1) quiet.acked
-                    (omega (arith, quiet.fewer))
-                    (flush_over es (tree_step t e) now (keeps fixed t e run) is_open found above_after (quiet.acked ∙ all ∙ same_all) later)
-              ]
-          | inr other ↦
-              flush_over es (tree_step t e) s (keeps fixed t e run) is_open (step_other t e w other ∙ there) above_after (all ∙ same_all)
-              (subst Takes (acts_other w e es other) takes)
         ]

@@ -14,10 +14,10 @@ pub mod TreeSteps
 pub mod Drains
 pub mod Most
 pub mod Complete
+pub mod ReadTrees
+pub mod ByKind
 pub mod Arrives
 pub mod Final
 pub mod Plays
-pub mod ReadTrees
-pub mod ReadArrives
 pub mod PlaysReads
 pub mod Named

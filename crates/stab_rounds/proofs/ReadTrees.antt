@@ -16,7 +16,9 @@ use Rattle.stab_treecore.specs.declared.event.TreeEvent.{TreeEvent}
 use Rattle.stab_treecore.specs.TreeReplay.{tree_replay}
 use Rattle.stab_treecore.specs.TreeStep.{tree_step}
 use Rattle.stab_treecore.specs.WholeTree.{WholeTree, received}
-use Rattle.stab_rounds.specs.Rounds.{IsWithin, act_of}
+use Rattle.stab_rounds.specs.declared.round.Awaited.{Awaited}
+use Rattle.stab_rounds.specs.declared.round.Awaited.TheVariants as next
+use Rattle.stab_rounds.specs.Rounds.{IsWithin, act_of, rounds_from}
 use Rattle.stab_rounds.specs.ReadingRounds.{Reads, offer, frames, frame, acks, ack, reads_after, read_by, reading_from}
 use Rattle.stab_rounds.specs.TreeRounds.{acts_on}
 use Rattle.stab_rounds.proofs.Levels.{Holding, any_level}
@@ -140,6 +142,42 @@ reading_takes c offer (act.RecvAck keep ∷ acts) one = takes_more c (act.RecvAc
 reading_takes c offer (act.LoseFrame place ∷ acts) one = takes_more c (act.LoseFrame place) acts (reading_takes c offer acts (omega arith))
 reading_takes c offer (act.LoseAck place ∷ acts) one = takes_more c (act.LoseAck place) acts (reading_takes c offer acts (omega arith))
 reading_takes c offer (act.Close ∷ acts) one = takes_more c act.Close acts (reading_takes c offer acts (omega arith))
+
+abbrev Before : Awaited → Type 0
+Before next.SendAck = ⊥
+Before next.RecvAck = ⊥
+Before v = Unit {0}
+
+-- a plain round takes one
+pub round_takes : (v : Awaited) (acts : List LinkAct) → Before v → 1 ≤ rounds_from v acts → TakesMany 1 acts
+round_takes v [] before one = absurd (omega arith)
+round_takes v (act.RecvFrame false ∷ acts) before one = tt
+round_takes next.Offer (act.Offer ∷ acts) before one = round_takes next.SendFrame acts tt (omega arith)
+round_takes next.Offer (act.SendFrame ∷ acts) before one = round_takes next.Offer acts tt (omega arith)
+round_takes next.Offer (act.RecvFrame true ∷ acts) before one = round_takes next.Offer acts tt (omega arith)
+round_takes next.Offer (act.SendAck ∷ acts) before one = round_takes next.Offer acts tt (omega arith)
+round_takes next.Offer (act.RecvAck keep ∷ acts) before one = round_takes next.Offer acts tt (omega arith)
+round_takes next.Offer (act.LoseFrame place ∷ acts) before one = round_takes next.Offer acts tt (omega arith)
+round_takes next.Offer (act.LoseAck place ∷ acts) before one = round_takes next.Offer acts tt (omega arith)
+round_takes next.Offer (act.Close ∷ acts) before one = round_takes next.Offer acts tt (omega arith)
+round_takes next.SendFrame (act.Offer ∷ acts) before one = round_takes next.SendFrame acts tt (omega arith)
+round_takes next.SendFrame (act.SendFrame ∷ acts) before one = round_takes next.RecvFrame acts tt (omega arith)
+round_takes next.SendFrame (act.RecvFrame true ∷ acts) before one = round_takes next.SendFrame acts tt (omega arith)
+round_takes next.SendFrame (act.SendAck ∷ acts) before one = round_takes next.SendFrame acts tt (omega arith)
+round_takes next.SendFrame (act.RecvAck keep ∷ acts) before one = round_takes next.SendFrame acts tt (omega arith)
+round_takes next.SendFrame (act.LoseFrame place ∷ acts) before one = round_takes next.SendFrame acts tt (omega arith)
+round_takes next.SendFrame (act.LoseAck place ∷ acts) before one = round_takes next.SendFrame acts tt (omega arith)
+round_takes next.SendFrame (act.Close ∷ acts) before one = round_takes next.SendFrame acts tt (omega arith)
+round_takes next.RecvFrame (act.Offer ∷ acts) before one = round_takes next.RecvFrame acts tt (omega arith)
+round_takes next.RecvFrame (act.SendFrame ∷ acts) before one = round_takes next.RecvFrame acts tt (omega arith)
+round_takes next.RecvFrame (act.RecvFrame true ∷ acts) before one = round_takes next.RecvFrame acts tt (omega arith)
+round_takes next.RecvFrame (act.SendAck ∷ acts) before one = round_takes next.RecvFrame acts tt (omega arith)
+round_takes next.RecvFrame (act.RecvAck keep ∷ acts) before one = round_takes next.RecvFrame acts tt (omega arith)
+round_takes next.RecvFrame (act.LoseFrame place ∷ acts) before one = round_takes next.SendFrame acts tt (omega arith)
+round_takes next.RecvFrame (act.LoseAck place ∷ acts) before one = round_takes next.RecvFrame acts tt (omega arith)
+round_takes next.RecvFrame (act.Close ∷ acts) before one = round_takes next.RecvFrame acts tt (omega arith)
+round_takes next.SendAck (a ∷ acts) before one = absurd before
+round_takes next.RecvAck (a ∷ acts) before one = absurd before
 
 -- ---- a part of a schedule
 

@@ -1,5 +1,6 @@
 pub mod Rounds
 pub mod ReadingRounds
+pub mod Kinds
 pub mod Receipts
 pub mod Ignored
 pub mod Slowest

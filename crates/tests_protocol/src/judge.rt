@@ -5,8 +5,8 @@ use crate::reports::{PAIR, REPORT};
 use stab_frames::Item;
 use stab_judge::{
     Broken, Judge, count_picked, is_picked, obeys_complete_law, obeys_half_law,
-    obeys_half_tree_law, obeys_link_law, obeys_link_law_below, obeys_link_law_within,
-    obeys_tree_law,
+    obeys_half_tree_law, obeys_link_law, obeys_link_law_within, obeys_sharper_law_below,
+    obeys_sharper_link_law, obeys_sharper_tree_law, obeys_tree_law,
 };
 use stab_report::read_report;
 
@@ -43,9 +43,11 @@ fn one_link_obeys_up_to_its_bounds(rt: HostRuntime) {
         obeys_half_law(1, &[99], &OFFERED, 3, &[99, 13]),
         obeys_link_law_within(1, 3, &[99], &OFFERED, 3, &[99, 13]),
         obeys_link_law(1, &[99], &OFFERED, 3, &[99, 13]),
-        obeys_link_law_below(1, &[99], &[10, 11, 12, 13, 14], 3, &[99, 13]),
+        obeys_sharper_law_below(1, &[99], &[10, 11, 12, 13, 14], 3, &[99, 13]),
+        obeys_sharper_link_law(1, &[99], &OFFERED, 3, &[99, 13]),
+        obeys_sharper_link_law(1, &[99], &OFFERED, 3, &[12, 13]),
     ];
-    assert!(rt; obeyed == [true; 6], "{obeyed:?}");
+    assert!(rt; obeyed == [true; 8], "{obeyed:?}");
     let broken = [
         is_picked(&[8, 7], &[7, 8, 8]),
         is_picked(&[7, 7], &[7, 8, 8]),
@@ -53,10 +55,12 @@ fn one_link_obeys_up_to_its_bounds(rt: HostRuntime) {
         obeys_link_law_within(1, 2, &[99], &OFFERED, 3, &[99, 13]),
         obeys_link_law_within(0, 3, &[99], &OFFERED, 3, &[99, 13]),
         obeys_link_law(1, &[99], &OFFERED, 4, &[99]),
-        obeys_link_law_below(1, &[99], &[10, 11, 12, 13, 14], 3, &[99, 14]),
-        obeys_link_law_below(1, &[99], &OFFERED, 5, &[99, 13]),
+        obeys_sharper_law_below(1, &[99], &[10, 11, 12, 13, 14], 3, &[99, 14]),
+        obeys_sharper_law_below(1, &[99], &OFFERED, 5, &[99, 13]),
+        obeys_sharper_link_law(1, &[99], &OFFERED, 3, &[13]),
+        obeys_sharper_link_law(1, &[98], &OFFERED, 3, &[99, 13]),
     ];
-    assert!(rt; broken == [false; 8], "{broken:?}");
+    assert!(rt; broken == [false; 10], "{broken:?}");
 }
 
 /// A node's strays, what was published, and what it received.
@@ -79,4 +83,17 @@ fn one_node_obeys_up_to_its_bounds(rt: HostRuntime) {
     assert!(rt; reached.expect(&rt, "memory"));
     let too_few = obeys_tree_law(rt.alloc(), 2, 4, &STRAYS, &PUBLISHED, &RECEIVED);
     assert!(rt; !too_few.expect(&rt, "memory"));
+    // (the one stray lets a fifth item be missing, but not a sixth)
+    for (without_strays, most, obeys) in [(4, 5, true), (3, 5, false), (4, 4, false)] {
+        let sharper = obeys_sharper_tree_law(
+            rt.alloc(),
+            2,
+            without_strays,
+            most,
+            &STRAYS,
+            &PUBLISHED,
+            &RECEIVED,
+        );
+        assert!(rt; sharper.expect(&rt, "memory") == obeys);
+    }
 }

@@ -46,7 +46,7 @@ pub use floor::{read_floor, write_floor};
 #[cfg(unix)]
 pub use folder::{remove, Folder};
 pub use proved::Taker;
-pub use publisher::{Published, Publisher};
+pub use publisher::{differences, Published, Publisher};
 #[cfg(unix)]
 pub use source::{no_key, read_folder, read_plain, too_many, write_folder, Faults, Found, Kept};
 pub use waiting::{Change, Value, Waiting};

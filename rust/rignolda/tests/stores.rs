@@ -1,7 +1,7 @@
 //! Agents whose links lie in a store in memory: what is lost, spoiled, late or old there, and what
 //! each agent received then, judged by C, E and M of the links.
 use rignolda::net::wire::{self, Hello, OLD};
-use rignolda::net::{Body, Call, Children, Line, Parent, Peers, Setup, Turn, Way};
+use rignolda::net::{Body, Call, Children, Line, Parent, Peers, Setup, Turn, Way, Worker, LOST};
 use std::collections::BTreeMap;
 use std::io::{self, Read, Write};
 use std::sync::Arc;
@@ -653,4 +653,18 @@ fn a_parent_without_a_root_is_passed_over_in_a_store_too() {
         net.said("leaf", "closed the parent: its way leads over this agent"),
         1
     );
+}
+
+/// One that is looked at whenever it was given a job has lost none, however late it begins.
+#[test]
+fn a_worker_that_begins_late_has_lost_nothing() {
+    let worker = Worker::start("late", |job: u32| job, || ()).unwrap();
+    for job in 0..3 * LOST {
+        worker.begin(job);
+        assert!(worker.is_asked(1), "{job}");
+        let done = std::iter::repeat_with(|| worker.done()).flatten().next();
+        assert_eq!(done, Some(job));
+    }
+    // (what it was not asked for is)
+    assert!(worker.is_asked(0) && !worker.is_asked(1));
 }

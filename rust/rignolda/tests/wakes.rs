@@ -4,7 +4,7 @@
 use rignolda::net::wire::{self, Expect, Hello, Message, OLD, VERSION};
 use rignolda::net::{Body, Call, Children, Handler, Line, Parent, Peers, Setup, Way};
 use std::cell::{Cell, RefCell};
-use std::collections::{BTreeMap, VecDeque};
+use std::collections::{BTreeMap, BTreeSet, VecDeque};
 use std::fmt;
 use std::io::{self, ErrorKind, Read, Write};
 use std::rc::Rc;
@@ -75,6 +75,7 @@ fn line(clock: &Rc<Cell<u64>>, delays: [u64; 2]) -> (End, End) {
     let [one, two] = delays.map(pipe);
     let end = |from: &Rc<_>, to: &Rc<_>| End {
         called: String::new(),
+        is_socket: false,
         clock: Rc::clone(clock),
         from: Rc::clone(from),
         to: Rc::clone(to),
@@ -85,6 +86,8 @@ fn line(clock: &Rc<Cell<u64>>, delays: [u64; 2]) -> (End, End) {
 /// An end of a line, and whom it was made to, where its agent made it.
 struct End {
     called: String,
+    /// Whether a read of it brings all that came, or little.
+    is_socket: bool,
     clock: Rc<Cell<u64>>,
     from: Rc<RefCell<Pipe>>,
     to: Rc<RefCell<Pipe>>,
@@ -105,12 +108,19 @@ impl End {
         let is_freed = writes && can_write && (std::mem::take(&mut to.has_room) || is_new);
         (is_news || is_new) && (come > 0 || is_over) || is_freed
     }
+
+    /// Whether the system says, where it fires, that the other end has closed it.
+    fn is_over(&self) -> bool {
+        let end = self.from.borrow().end;
+        end.map_or(false, |at| at <= self.clock.get())
+    }
 }
 
 impl Read for End {
     fn read(&mut self, to: &mut [u8]) -> io::Result<usize> {
         let (mut from, now) = (self.from.borrow_mut(), self.clock.get());
-        let count = from.come(now).min(to.len()).min(30);
+        let most = if self.is_socket { to.len() } else { 30 };
+        let count = from.come(now).min(to.len()).min(most);
         if count == 0 && !from.end.map_or(false, |at| at <= now) {
             return Err(ErrorKind::WouldBlock.into());
         }
@@ -157,6 +167,10 @@ impl Line for End {
     fn may_be(&self, _: &str) -> bool {
         true
     }
+
+    fn is_socket(&self) -> bool {
+        self.is_socket
+    }
 }
 
 #[derive(Default)]
@@ -189,7 +203,7 @@ struct Agent {
     peers: Peers<End, String>,
     said: Said,
     /// The lines that are watched, and whether until they can be written too.
-    watched: Vec<(u64, bool)>,
+    watched: BTreeMap<u64, bool>,
     /// Lines that were made to it and are not accepted yet.
     made: Vec<End>,
     /// Look-ups of names that are under way, and until when.
@@ -201,15 +215,25 @@ struct Agent {
 impl Agent {
     /// The lines that fire, and whether anything else is to be done; nothing where it sleeps on.
     fn wakes(&mut self, clock: u64, now: Instant, is_asked: bool) -> Option<(Vec<u64>, bool)> {
-        let (mut ready, mut watched) = (Vec::new(), Vec::new());
-        for (id, line, has_output) in self.peers.lines() {
-            let it = (id, has_output);
-            if line.fires(has_output, !self.watched.contains(&it)) {
-                ready.push(id);
+        let (mut ready, mut new) = (Vec::new(), BTreeSet::new());
+        for (id, _, has_output) in self.peers.touched() {
+            if self.watched.insert(id, has_output) != Some(has_output) {
+                new.insert(id);
             }
-            watched.push(it);
         }
-        self.watched = watched;
+        for (id, has_output) in std::mem::take(&mut self.watched) {
+            // (of one that is closed the system tells nothing more)
+            if let Some((line, _)) = self.peers.line(id) {
+                self.watched.insert(id, has_output);
+                let is_over = line.is_over();
+                if line.fires(has_output, new.contains(&id)) {
+                    ready.push(id);
+                    if is_over {
+                        self.peers.ends(id);
+                    }
+                }
+            }
+        }
         let is_found = self.looks_up.iter().any(|(at, _)| clock >= *at);
         let is_due = self.peers.deadline(now).map_or(false, |at| now >= at);
         let is_due = is_due || is_found || is_asked || !self.made.is_empty();
@@ -301,7 +325,7 @@ impl Net {
         let agent = Agent {
             peers: Peers::new(self.setup(name), life, 16, self.now()),
             said: Said::default(),
-            watched: Vec::new(),
+            watched: BTreeMap::new(),
             made: Vec::new(),
             looks_up: Vec::new(),
             stopped: 0,
@@ -314,10 +338,12 @@ impl Net {
         let (least, most) = self.delays;
         let delays = [(); 2].map(|()| least + self.random.below(most - least + 1));
         let other = self.agents.get_mut(to).ok_or("nobody is there")?;
-        let (mut here, there) = line(&self.clock, delays);
+        let (mut here, mut there) = line(&self.clock, delays);
         here.called = to.into();
+        let calls = self.calls.entry(to.into()).or_default();
+        *calls += 1;
+        (here.is_socket, there.is_socket) = (*calls % 2 == 0, *calls / 2 % 2 == 0);
         other.made.push(there);
-        *self.calls.entry(to.into()).or_default() += 1;
         Ok(here)
     }
 
@@ -639,6 +665,28 @@ fn who_is_slow_now_and_then_is_given_the_time() {
         after.push(timeouts(&net));
     }
     assert!(after[7] > 0 && after[39] == after[7], "{after:?}");
+}
+
+/// Of a line that is like a socket, what came is read once. Where the system tells of the bytes and
+/// of the end at once, it tells of the end no second time.
+#[test]
+fn an_end_that_comes_with_the_last_bytes_is_seen() {
+    let (clock, now) = (Rc::default(), Instant::now());
+    for ends in [false, true] {
+        let (mut here, mut there) = line(&clock, [0, 0]);
+        there.is_socket = true;
+        here.write_all(b"RGND").unwrap();
+        drop(here);
+        let setup = Net::new(1, (0, 0)).setup("root");
+        let mut root: Peers<End, String> = Peers::new(setup, 1, 16, now);
+        root.accept(there, now, &mut Said::default());
+        let id = root.touched().next().unwrap().0;
+        if ends {
+            root.ends(id);
+        }
+        root.read([id], now, &mut Said::default());
+        assert_eq!(root.line(id).is_none(), ends);
+    }
 }
 
 #[test]

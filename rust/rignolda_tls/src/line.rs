@@ -9,7 +9,7 @@ use openssl::ssl::{
 use openssl::x509::X509Ref;
 use rignolda::net::{is_name, serve};
 use socket2::{Domain, SockAddr, Socket, TcpKeepalive, Type};
-use std::io::{self, ErrorKind, Read, Write};
+use std::io::{self, ErrorKind, IoSlice, Read, Write};
 use std::os::unix::io::{AsRawFd, RawFd};
 use std::path::Path;
 use std::time::Duration;
@@ -185,6 +185,11 @@ impl AsRawFd for Line {
 }
 
 impl rignolda::net::Line for Line {
+    /// By TLS, a record comes in parts, and what is left of one is not the socket's any more.
+    fn is_socket(&self) -> bool {
+        matches!(self, Line::Plain(_))
+    }
+
     /// By TLS, whether its certificate has this name.
     fn may_be(&self, name: &str) -> bool {
         match self {
@@ -327,6 +332,15 @@ impl Write for Line {
         match self {
             Line::Plain(socket) => socket.write(from),
             Line::Tls(secure) => secure.act(WRITE, |stream| stream.ssl_write(from)),
+        }
+    }
+
+    fn write_vectored(&mut self, from: &[IoSlice<'_>]) -> io::Result<usize> {
+        match self {
+            Line::Plain(socket) => socket.write_vectored(from),
+            Line::Tls(_) => {
+                self.write(from.iter().find(|it| !it.is_empty()).map_or(&[], |it| &**it))
+            }
         }
     }
 

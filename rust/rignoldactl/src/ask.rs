@@ -1,5 +1,8 @@
 //! The other end of the control socket: asks an agent, and makes text of what it says.
-use crate::{ChildStatus, Compared, Request, Response, Seen, Status};
+use crate::files::{File, Holder};
+use crate::{
+    dotted, unix_now, ChildStatus, Compared, Diff, Difference, Request, Response, Seen, Status,
+};
 use rignolda::settings::is_newer;
 use serde::Serialize;
 use std::collections::BTreeMap;
@@ -7,8 +10,10 @@ use std::fmt::{Display, Write as _};
 use std::io::{self, BufRead, BufReader, Write};
 use std::os::unix::net::UnixStream;
 use std::path::Path;
-use std::time::{Duration, SystemTime, UNIX_EPOCH};
+use std::time::Duration;
 
+/// The longest line of a terminal.
+const LINE: usize = 79;
 /// How long the answer to most may take.
 const ANSWER: Duration = Duration::from_secs(10);
 
@@ -127,6 +132,20 @@ pub fn too_few_harmless(list: &[Seen]) -> Option<String> {
     })
 }
 
+/// How many agents of a tree have a change, and who lacks it, in a line of a terminal.
+pub fn progress(agents: usize, lacking: &[String]) -> String {
+    let mut line = format!("{} of {agents} agents have it", agents - lacking.len());
+    for (at, one) in lacking.iter().enumerate() {
+        let more = format!(", and {} more", lacking.len() - at);
+        if at > 0 && line.len() + 2 + one.len() + more.len() > LINE {
+            return line + &more;
+        }
+        line += if at == 0 { ": " } else { ", " };
+        line.extend(one.chars().take(LINE - 40));
+    }
+    line
+}
+
 /// A text in which nothing but ends of lines tells a terminal something: what other control
 /// characters are in it is written as in JSON.
 pub fn plain(text: &str) -> String {
@@ -166,8 +185,10 @@ fn row<const COLUMNS: usize>(words: [&dyn Display; COLUMNS]) -> Vec<String> {
 pub fn tree_text(list: &[Seen]) -> String {
     // (what is harmless, or a table that changes nothing, is no lag)
     let newest = list.first().map_or(0, |root| root.changed);
-    let head: [&dyn Display; 8] =
-        [&"agent", &"lag", &"backlog", &"strays", &"garbage", &"gaps", &"files", &"state"];
+    let head: [&dyn Display; 10] = [
+        &"agent", &"lag", &"backlog", &"strays", &"garbage", &"gaps", &"mended", &"files",
+        &"version", &"state",
+    ];
     let mut rows = vec![row(head)];
     for (seen, depth) in list.iter().zip(depths(list)) {
         let state = match () {
@@ -176,6 +197,10 @@ pub fn tree_text(list: &[Seen]) -> String {
             () if seen.failing > 0 => format!("{} failing", seen.failing),
             () if !seen.whole => "waits for a whole table".into(),
             () if seen.draining => "drains".into(),
+            () if seen.expires > 0 => {
+                let days = u64::from(seen.expires).saturating_sub(unix_now()) / 86_400;
+                format!("up, certificate for {days} d")
+            }
             () => "up".into(),
         };
         let name = format!("{}{}", "  ".repeat(depth), seen.name);
@@ -191,10 +216,43 @@ pub fn tree_text(list: &[Seen]) -> String {
             Compared::Differs => "differ",
             Compared::NotKnown => "not known",
         };
-        let Seen { strays, garbage, gaps, .. } = seen;
-        rows.push(row([&name, &lag, &backlog, strays, garbage, gaps, &files, &state]));
+        let Seen { strays, garbage, gaps, mended, .. } = seen;
+        let version = if seen.version == 0 { "-".into() } else { dotted::text(seen.version) };
+        rows.push(row([
+            &name, &lag, &backlog, strays, garbage, gaps, mended, &files, &version, &state,
+        ]));
     }
     table(&rows)
+}
+
+/// An agent's settings.
+pub fn list_text(files: &[File]) -> String {
+    let mut rows = vec![row([&"key", &"bytes", &"digest"])];
+    rows.extend(files.iter().map(|it| row([&it.key, &it.bytes, &it.digest])));
+    table(&rows)
+}
+
+/// Which value of a key each agent has.
+pub fn holders_text(holders: &[Holder]) -> String {
+    let mut rows = vec![row([&"agent", &"digest", &""])];
+    let digest = |it: &Holder| if it.digest.is_empty() { "-".into() } else { it.digest.clone() };
+    rows.extend(holders.iter().map(|it| row([&it.agent, &digest(it), &it.note])));
+    table(&rows)
+}
+
+/// What of the root's folder is not published.
+pub fn diff_text(diff: &Diff) -> String {
+    let mut text = String::new();
+    for Difference { key, bytes } in &diff.changes {
+        let _ = match bytes {
+            Some(bytes) => writeln!(text, "set   {key} ({bytes} bytes)"),
+            None => writeln!(text, "unset {key}"),
+        };
+    }
+    if !diff.held.is_empty() {
+        let _ = writeln!(text, "{} {:016x}", diff.held, diff.digest);
+    }
+    text
 }
 
 /// A time in words.
@@ -214,6 +272,7 @@ pub fn status_text(status: &Status) -> String {
         let _ = writeln!(text, "{name:<14} {value}");
     };
     fact("name", &status.name);
+    fact("version", &status.version);
     match &status.parent {
         _ if status.is_root => fact("parent", &"none: it is the root"),
         Some(parent) => {
@@ -231,6 +290,10 @@ pub fn status_text(status: &Status) -> String {
     }
     fact("complete", if status.whole { &"yes" } else { &"no: a round will bring it" });
     fact("settings", &status.settings);
+    if !status.folder.is_empty() {
+        fact("folder", &status.folder);
+        fact("mended", &status.mended);
+    }
     fact("failing", &status.failing);
     fact("hook failures", &status.hook_failures);
     fact("received", &status.received);
@@ -241,8 +304,7 @@ pub fn status_text(status: &Status) -> String {
     fact("reconnects", &status.reconnects);
     fact("refused", &status.refused);
     if status.certificate_expires > 0 {
-        let now = SystemTime::now().duration_since(UNIX_EPOCH).map_or(0, |it| it.as_secs());
-        let left = status.certificate_expires.saturating_sub(now);
+        let left = status.certificate_expires.saturating_sub(unix_now());
         fact("certificate", &format!("expires in {}", age(left * 1_000)));
     }
     if !status.reload_failed.is_empty() {
@@ -250,6 +312,9 @@ pub fn status_text(status: &Status) -> String {
     }
     if status.draining {
         fact("draining", &"yes");
+    }
+    if status.held > 0 {
+        fact("held", &format!("{} settings, until `confirm`", status.held));
     }
     if status.is_root {
         fact("agents", &format!("{}, and {} of them away", status.agents, status.away));

@@ -4,10 +4,13 @@
 //! A request is one line of JSON, and so is its answer; a connection may carry one after the other.
 //! Who may connect is decided by the permissions of the socket's file.
 #![forbid(unsafe_code)]
+use openssl::sha::Sha256;
 use serde::{Deserialize, Serialize};
 use serde_json::Value;
+use std::time::{SystemTime, UNIX_EPOCH};
 
 pub mod ask;
+pub mod files;
 
 #[derive(Clone, Debug, Deserialize, PartialEq, Serialize)]
 #[serde(tag = "do", rename_all = "kebab-case", deny_unknown_fields)]
@@ -39,6 +42,17 @@ pub enum Request {
     Round,
     /// At the root: looks at the settings' folder, and answers when all that it saw is published.
     Look,
+    /// At the root: looks at the settings' folder, and says what of it is not published.
+    Diff,
+    /// At the root: publishes what is held, with this digest where it is not 0.
+    Confirm {
+        #[serde(with = "digits", default)]
+        digest: u64,
+    },
+    /// At the root: what it published of a key.
+    Key {
+        key: String,
+    },
 }
 
 #[derive(Clone, Debug, Deserialize, PartialEq, Serialize)]
@@ -50,6 +64,10 @@ pub enum Response {
     Status(Box<Status>),
     /// The agent itself first, and each agent after its parent.
     Tree(Vec<Seen>),
+    /// What was published of a key.
+    Key(Key),
+    /// What of the settings' folder is not published.
+    Diff(Diff),
     Refused(String),
 }
 
@@ -59,6 +77,8 @@ pub enum Response {
 pub struct Status {
     pub name: String,
     pub is_root: bool,
+    /// Its program's.
+    pub version: String,
     /// The parent that it is connected to.
     pub parent: Option<String>,
     /// What its way costs, 128 and more without a root; and whose names lie on it, its own last.
@@ -77,6 +97,10 @@ pub struct Status {
     pub files: u64,
     #[serde(with = "digits")]
     pub digest: u64,
+    /// Where these files are.
+    pub folder: String,
+    /// How many of them somebody else had changed and were put again.
+    pub mended: u64,
     /// The number that is furthest ahead, of its own, that of its files, and those below.
     pub ahead: u64,
     /// That of the last body which changed something.
@@ -90,6 +114,8 @@ pub struct Status {
     /// How many settings there are.
     pub settings: u64,
     pub draining: bool,
+    /// At the root: of how many settings a change of the folder waits until it is confirmed.
+    pub held: u64,
     /// How many harmless items a round of this root begins with.
     pub harmless: u64,
     /// The limit of the backlog for each child.
@@ -149,6 +175,11 @@ impl Status {
         self.cost >= rignolda::net::parents::NONE
     }
 
+    /// Whether its certificate expires within [`SOON`], or has.
+    pub fn expires_soon(&self) -> bool {
+        self.certificate_expires > 0 && self.certificate_expires < unix_now() + SOON
+    }
+
     /// What the agents above learn of this one.
     pub fn seen(&self) -> Seen {
         Seen {
@@ -174,6 +205,12 @@ impl Status {
             garbage: self.garbage,
             gaps: self.gaps,
             failing: self.failing,
+            mended: self.mended,
+            version: dotted::read(&self.version),
+            expires: u32::try_from(self.certificate_expires)
+                .ok()
+                .filter(|_| self.expires_soon())
+                .unwrap_or(0),
             cut: false,
             age: 0,
         }
@@ -214,27 +251,78 @@ pub struct Seen {
     pub strays: u64,
     pub garbage: u64,
     pub gaps: u64,
-    /// Settings whose file or hook failed last.
+    /// Settings whose file or hook failed last, and files that were changed and put again.
     pub failing: u64,
+    pub mended: u64,
+    /// Its program's; 0 where that does not say it.
+    #[serde(with = "dotted")]
+    pub version: u32,
+    /// When its certificate expires, in seconds since 1970, where that is [`SOON`].
+    #[serde(skip_serializing_if = "is_zero")]
+    pub expires: u32,
     /// Whether agents below it are left out, since the list was too long.
     pub cut: bool,
     /// How many milliseconds ago it said so.
     pub age: u64,
 }
 
+/// What of the root's folder is not published yet.
+#[derive(Clone, Debug, Default, Deserialize, PartialEq, Serialize)]
+pub struct Diff {
+    /// Why it is held until it is confirmed; empty where it is not.
+    pub held: String,
+    /// The sum of the [digests](digest) of the changes.
+    #[serde(with = "digits")]
+    pub digest: u64,
+    pub changes: Vec<Difference>,
+}
+
+/// A setting that would be set, to so many bytes; or be unset, where there is no number.
+#[derive(Clone, Debug, Default, Deserialize, PartialEq, Serialize)]
+pub struct Difference {
+    pub key: String,
+    pub bytes: Option<u64>,
+}
+
+/// What a root published of a key, as [digests](digest).
+#[derive(Clone, Debug, Default, Deserialize, PartialEq, Serialize)]
+pub struct Key {
+    /// That of its value; 0 where it is unset.
+    #[serde(with = "digits")]
+    pub digest: u64,
+    /// The number since which it is that, at the latest.
+    pub number: u64,
+    /// What it was before, and since when. That is not known where the number is 0.
+    #[serde(with = "digits")]
+    pub old: u64,
+    pub old_number: u64,
+}
+
+/// The digest of a setting: the first 8 bytes of the SHA-256 of a byte with the length of its key,
+/// a byte 1, the key and the value. Where it has no value, as its file cannot be read, 0 is that
+/// byte.
+pub fn digest(key: &str, value: Option<&[u8]>) -> u64 {
+    let mut sha = Sha256::new();
+    sha.update(&[key.len() as u8, value.is_some().into()]);
+    sha.update(key.as_bytes());
+    sha.update(value.unwrap_or(&[]));
+    let [a, b, c, d, e, f, g, h, ..] = sha.finish();
+    u64::from_be_bytes([a, b, c, d, e, f, g, h])
+}
+
 /// A list as an agent sends it up: as JSON without what is 0, false or empty, since whoever reads
-/// it takes what is lacking for that, and reports have little room.
+/// it takes what is lacking for that, and reports have little room. Nothing is compared in one.
 pub fn report(list: &[Seen]) -> Vec<u8> {
     let is_nothing = |value: &Value| match value {
         Value::Bool(it) => !it,
         Value::Number(it) => it.as_u64() == Some(0),
-        Value::String(it) => it.is_empty() || it == "nothing",
+        Value::String(it) => it.is_empty(),
         _ => false,
     };
     let entry = |seen: &Seen| {
         let mut entry = serde_json::to_value(seen).expect("texts and numbers are JSON");
         let members = entry.as_object_mut().expect("an agent has names for what is known of it");
-        members.retain(|name, value| name == "name" || !is_nothing(value));
+        members.retain(|name, value| name != "compared" && !is_nothing(value));
         entry
     };
     serde_json::to_vec(&list.iter().map(entry).collect::<Vec<_>>()).expect("all of it is JSON")
@@ -253,6 +341,14 @@ pub enum Compared {
     Differs,
     /// It has not heard from which number they are, or does not remember the digest of that.
     NotKnown,
+}
+
+/// How many seconds before a certificate expires it is told.
+pub const SOON: u64 = 30 * 86_400;
+
+/// Seconds since 1970, by the clock of the machine.
+pub fn unix_now() -> u64 {
+    SystemTime::now().duration_since(UNIX_EPOCH).map_or(0, |it| it.as_secs())
 }
 
 /// A whole number with `ms`, `s`, `m` or `h`.
@@ -286,6 +382,43 @@ mod digits {
             "" => Ok(0),
             digits => u64::from_str_radix(digits, 16).map_err(D::Error::custom),
         }
+    }
+}
+
+fn is_zero(number: &u32) -> bool {
+    *number == 0
+}
+
+/// A version as text, its three numbers with dots between them, or as none where it is 0. (A report
+/// has many, and no room for any text; what is none is taken for 0.)
+pub mod dotted {
+    use serde::{Deserialize, Deserializer, Serializer};
+
+    const BITS: u32 = 10;
+
+    pub fn read(text: &str) -> u32 {
+        let part = |text: &str| text.parse::<u32>().ok().filter(|it| *it < 1 << BITS);
+        let parts: Option<Vec<u32>> = text.split('.').take(4).map(part).collect();
+        match parts.as_deref() {
+            Some([first, second, third]) => first << (2 * BITS) | second << BITS | third,
+            _ => 0,
+        }
+    }
+
+    pub fn text(version: u32) -> String {
+        let part = |at: u32| version >> (at * BITS) & ((1 << BITS) - 1);
+        match version {
+            0 => String::new(),
+            _ => format!("{}.{}.{}", part(2), part(1), part(0)),
+        }
+    }
+
+    pub fn serialize<S: Serializer>(version: &u32, to: S) -> Result<S::Ok, S::Error> {
+        to.serialize_str(&text(*version))
+    }
+
+    pub fn deserialize<'de, D: Deserializer<'de>>(from: D) -> Result<u32, D::Error> {
+        Ok(read(&std::borrow::Cow::<str>::deserialize(from)?))
     }
 }
 

@@ -3,10 +3,11 @@
 use clap::{Parser, Subcommand};
 use rignolda::settings::is_newer;
 use rignoldactl::ask::{self, Agent};
+use rignoldactl::files::{self, File};
 use rignoldactl::{milliseconds, Request, Response, Seen, Status};
 use serde::Serialize;
 use serde_json::json;
-use std::io::{ErrorKind, Read, Write};
+use std::io::{ErrorKind, IsTerminal, Read, Write};
 use std::path::PathBuf;
 use std::process::ExitCode;
 use std::time::{Duration, Instant};
@@ -49,6 +50,15 @@ enum Command {
     Status,
     /// Shows this agent and all below it.
     Tree,
+    /// Shows the settings in this agent's files: their keys, lengths and digests.
+    List,
+    /// Shows the value of a setting in this agent's file.
+    Get {
+        key: String,
+        /// At the root: shows the digest of the value that each agent has instead.
+        #[arg(long)]
+        everywhere: bool,
+    },
     /// Waits until all up to a sequence number is applied, its hooks included.
     Wait {
         /// Without it: the last one that this agent has. The root looks at its folder first, and
@@ -67,6 +77,14 @@ enum Command {
     },
     /// At the root: ends `drain`.
     Resume,
+    /// At the root: shows what of the settings' folder is not published.
+    Diff,
+    /// At the root: publishes a change of the folder that is held, and prints its sequence number.
+    Confirm {
+        /// The digest that `diff` shows: then nothing else is published.
+        #[arg(value_parser = digest)]
+        digest: Option<u64>,
+    },
     /// Adds or removes a child, until the agent ends or reads its configuration again.
     Child {
         #[command(subcommand)]
@@ -85,6 +103,12 @@ enum Child {
 fn time(text: &str) -> Result<Duration, String> {
     let error = || "a time is expected, as 500ms, 2s or 10m".to_string();
     milliseconds(text).map(Duration::from_millis).ok_or_else(error)
+}
+
+fn digest(text: &str) -> Result<u64, String> {
+    let is_one = text.len() == 16 && text.bytes().all(|byte| byte.is_ascii_hexdigit());
+    let error = || "16 hexadecimal digits are expected, as `diff` shows them".to_string();
+    u64::from_str_radix(text, 16).ok().filter(|_| is_one).ok_or_else(error)
 }
 
 /// Why a command was not done, and the status to end with.
@@ -124,6 +148,7 @@ fn run(arguments: &Arguments) -> Result<String, Failed> {
             Request::Publish { key: key.clone(), value: value_of(value.as_deref())? }
         }
         Command::Unset { key } => Request::Unset { key: key.clone() },
+        Command::Confirm { digest } => Request::Confirm { digest: digest.unwrap_or(0) },
         Command::Round => Request::Round,
         Command::Resume => Request::Resume,
         Command::Child { what: Child::Add { name } } => Request::ChildAdd { name: name.clone() },
@@ -141,6 +166,32 @@ fn run(arguments: &Arguments) -> Result<String, Failed> {
                 eprintln!("rignoldactl: {warning}");
             }
             return Ok(shown(is_json, &list, |list| ask::tree_text(list)));
+        }
+        Command::List => {
+            let folder = folder(agent)?;
+            let (files, faults) = files::list(&folder)
+                .map_err(|e| Failed(1, format!("{}: {e}", folder.display())))?;
+            for fault in faults {
+                let _ = writeln!(std::io::stderr(), "rignoldactl: {}", ask::plain(&fault));
+            }
+            return Ok(shown(is_json, &files, |files| ask::list_text(files)));
+        }
+        Command::Get { key, everywhere: false } => {
+            let (value, file) = files::get(&folder(agent)?, key).map_err(|why| Failed(1, why))?;
+            return Ok(said(is_json, &value, &file));
+        }
+        Command::Get { key, everywhere: true } => {
+            let Response::Key(known) = asked(agent, &Request::Key { key: key.clone() })? else {
+                return something_else();
+            };
+            let holders = files::holders(&tree(agent)?, &known);
+            return Ok(shown(is_json, &holders, |holders| ask::holders_text(holders)));
+        }
+        Command::Diff => {
+            let Response::Diff(diff) = asked(agent, &Request::Diff)? else {
+                return something_else();
+            };
+            return Ok(shown(is_json, &diff, ask::diff_text));
         }
         Command::Bounds => {
             if !status(agent)?.is_root {
@@ -175,6 +226,26 @@ fn shown<T: Serialize>(is_json: bool, value: &T, text: impl FnOnce(&T) -> String
     match is_json {
         true => serde_json::to_string(value).expect("texts, numbers and lists are JSON") + "\n",
         false => text(value),
+    }
+}
+
+/// What is shown of a value. Where it is no JSON, and no person who reads it, these are its very
+/// bytes, which are written at once.
+fn said(is_json: bool, value: &[u8], file: &File) -> String {
+    let text = String::from_utf8_lossy(value);
+    match is_json {
+        true => {
+            let value: String = value.iter().map(|byte| format!("{byte:02x}")).collect();
+            let all = json!({
+                "key": file.key, "bytes": file.bytes, "digest": file.digest, "value": value,
+            });
+            format!("{all}\n")
+        }
+        false if std::io::stdout().is_terminal() => format!("{}\n", text.trim_end_matches('\n')),
+        false => {
+            let _ = std::io::stdout().write_all(value);
+            String::new()
+        }
     }
 }
 
@@ -226,6 +297,14 @@ fn tree(agent: &mut Agent) -> Result<Vec<Seen>, Failed> {
     }
 }
 
+/// Where the agent's files are.
+fn folder(agent: &mut Agent) -> Result<PathBuf, Failed> {
+    match status(agent)?.folder {
+        none if none.is_empty() => Err(Failed(1, "this agent keeps no files of settings".into())),
+        folder => Ok(folder.into()),
+    }
+}
+
 /// The number of the last body, after the root has looked at its folder.
 fn newest(agent: &mut Agent, timeout: Duration) -> Result<u64, Failed> {
     let status = status(agent)?;
@@ -263,15 +342,28 @@ fn wait(
     everywhere: bool,
     timeout: Duration,
 ) -> Result<(), Failed> {
-    until(agent, timeout, |mut list| {
+    let shows = everywhere && std::io::stderr().is_terminal();
+    let done = until(agent, timeout, |mut list| {
         if !everywhere {
             list.truncate(1);
         }
         let lacking = list.iter().filter_map(|seen| Some((seen, ask::lacks(seen, sequence)?)));
         let lacking: Vec<String> =
             lacking.map(|(seen, why)| format!("{} {why}", seen.name)).collect();
+        if shows {
+            show(&ask::progress(list.len(), &lacking));
+        }
         (!lacking.is_empty() || list.is_empty()).then(|| lacking.join(", "))
-    })
+    });
+    if shows {
+        show("");
+    }
+    done
+}
+
+/// Shows a line on the terminal in the place of the one before.
+fn show(line: &str) {
+    let _ = write!(std::io::stderr(), "\r\x1b[K{}", ask::plain(line));
 }
 
 /// Waits until each agent has what its parent has, and no backlog, and that twice in turn: for the

@@ -1,5 +1,5 @@
 //! What is said to an agent, and how it is written.
-use rignoldactl::{milliseconds, report, Compared, Request, Response, Seen};
+use rignoldactl::{milliseconds, report, Key, Request, Response, Seen};
 
 #[test]
 fn requests_and_answers_are_json() {
@@ -13,6 +13,18 @@ fn requests_and_answers_are_json() {
     {
         assert!(serde_json::from_str::<Request>(bad).is_err());
     }
+}
+
+#[test]
+fn what_is_known_of_a_key_is_json() {
+    let text = r#"{"do":"key","key":"a"}"#;
+    let request = Request::Key { key: "a".into() };
+    assert_eq!(serde_json::from_str::<Request>(text).unwrap(), request);
+    let known = Key { digest: 0xab, number: 7, old: 0, old_number: 0 };
+    let text = r#"{"key":{"digest":"00000000000000ab","number":7,"old":"","old_number":0}}"#;
+    assert_eq!(serde_json::to_string(&Response::Key(known)).unwrap(), text);
+    // (by another program: `printf '\4\1pathup' | sha256sum`)
+    assert_eq!(rignoldactl::digest("path", Some(b"up")), 0x36e4_557c_afcc_3106);
 }
 
 #[test]
@@ -33,14 +45,16 @@ fn a_report_leaves_out_what_is_nothing() {
     let names = [("a", ""), ("b", "a")].map(|(name, parent)| (name.into(), parent.into()));
     let list = names.map(|(name, parent)| Seen { name, parent, ..Seen::default() });
     assert_eq!(report(&list), br#"[{"name":"a"},{"name":"b","parent":"a"}]"#);
+    // (no name is left out, whatever it means elsewhere)
     let seen = Seen {
+        name: "same".into(),
+        parent: "nothing".into(),
         connected: true,
         applied: u64::MAX,
         applies: true,
         files: 7,
         digest: 0x0123_4567_89ab_cdef,
-        compared: Compared::Differs,
-        ..list[0].clone()
+        ..Seen::default()
     };
     let bytes = report(std::slice::from_ref(&seen));
     let text = String::from_utf8_lossy(&bytes);

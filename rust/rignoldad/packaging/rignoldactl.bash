@@ -1,7 +1,8 @@
 # Completion of rignoldactl for bash.
 _rignoldactl() {
     local word=${COMP_WORDS[COMP_CWORD]} before=${COMP_WORDS[COMP_CWORD - 1]} at command=
-    local commands='publish unset round status tree wait drain resume child bounds help'
+    local commands='publish unset round status tree list get wait drain resume diff confirm'
+    commands="$commands child bounds help"
     for ((at = 1; at < COMP_CWORD; at++)); do
         case ${COMP_WORDS[at]} in
         --socket | --timeout) ((at++)) ;;
@@ -17,6 +18,7 @@ _rignoldactl() {
     case $command in
     '') options="$options --version $commands" ;;
     wait) options="$options --everywhere --timeout" ;;
+    get) options="$options --everywhere" ;;
     drain) options="$options --timeout" ;;
     child) options="$options add remove" ;;
     esac

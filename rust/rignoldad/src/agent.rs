@@ -1,7 +1,7 @@
 //! The loop of an agent: its sockets, timers and files. One thread does all of it but hooks and the
 //! look-up of names, and never waits for anything else than for all of them at once.
 use crate::apply::{Applied, Applier, Outcome};
-use crate::config::{plain, Address, Config, Fault};
+use crate::config::{plain, Address, Apply, Config, Fault};
 use crate::control::{self, Asked, Server};
 use crate::digest::Published;
 use crate::fact;
@@ -56,8 +56,9 @@ pub struct Agent {
     maker: Maker,
     poll: Poll,
     events: Events,
-    /// The lines that are waited for, and whether until they can be written too, in their order.
-    lines: Vec<(u64, RawFd, bool)>,
+    /// The lines that are waited for, each with its descriptor, and whether until they can be
+    /// written too.
+    lines: BTreeMap<u64, (RawFd, bool)>,
     /// The lines that can be read or written.
     ready: Vec<u64>,
     /// Whether there is anything else to do.
@@ -257,10 +258,10 @@ impl Handler for State {
         }
         // (before a line is written, so that the files wait for nothing)
         if let (true, Some(applier)) = (takes, &mut self.applier) {
-            self.applying = true;
             if !applier.take(&meaning, sequence, self.table.heard) {
                 self.table.misses();
             }
+            self.applying |= applier.is_busy();
         }
         if self.table.full && !was_full {
             fact!("full", "{sequence} would be too much: a whole table is waited for");
@@ -306,26 +307,18 @@ impl Agent {
         let listen = |address: &Address| {
             Listener::new(address, Some(0o660)).map_err(of(format!("listen: {address}")))
         };
-        let control = config
-            .control
-            .iter()
-            .map(|path| control::server(path).map_err(of(format!("control: {}", path.display()))));
-        let counts = config
-            .metrics
-            .iter()
-            .map(|address| control::counts(*address).map_err(of(format!("metrics: {address}"))));
+        let at = |path: &Path| of(format!("control: {}", path.display()));
+        let control = config.control.iter().map(|it| control::server(it).map_err(at(it)));
+        let at = |address| of(format!("metrics: {address}"));
+        let counts = config.metrics.iter().map(|it| control::counts(*it).map_err(at(*it)));
         let poll = Poll::new().map_err(of("poll"))?;
         let waker = Waker::new(poll.registry(), WAKE).map_err(of("poll"))?;
         let wake: Arc<dyn Fn() + Send + Sync> = Arc::new(move || drop(waker.wake()));
-        let applier = config.apply.as_ref().map(|apply| {
-            let applier = Applier::new(apply, wake.clone());
-            applier.map_err(of("apply: its threads cannot be started"))
-        });
-        let root = config.root.as_ref().map(|root| {
-            let root = Root::new(root, now, wake.clone());
-            root.map_err(of("root: its thread cannot be started"))
-        });
-        let applier = applier.transpose()?;
+        let applier = config.apply.as_ref().map(|it| Applier::new(it, wake.clone())).transpose();
+        let applier = applier.map_err(of("apply: its threads cannot be started"))?;
+        let applied = applier.as_ref().map_or(BTreeMap::new(), Applier::settings);
+        let root = config.root.as_ref().map(|it| Root::new(it, applied, now, wake.clone()));
+        let root = root.transpose().map_err(of("root: its thread cannot be started"))?;
         let mut table = Table::default();
         table.taker = Taker::new(applier.as_ref().map_or(0, Applier::floor));
         let mut peers = Peers::new(config.peers.clone(), life, config.backlog, now);
@@ -336,7 +329,7 @@ impl Agent {
             maker: maker(&config)?,
             poll,
             events: Events::with_capacity(EVENTS),
-            lines: Vec::new(),
+            lines: BTreeMap::new(),
             ready: Vec::new(),
             is_due: true,
             expires: i64::MAX,
@@ -346,7 +339,7 @@ impl Agent {
             caller: Caller::new(wake.clone()),
             peers,
             stores: Stores::new(config.store.clone(), silence(&config), wake.clone()),
-            root: root.transpose()?,
+            root,
             state: State {
                 is_root: config.root.is_some(),
                 table,
@@ -375,24 +368,23 @@ impl Agent {
         let reads = reads.chain(self.root.as_ref().and_then(Root::descriptor));
         let served = self.servers.iter().flat_map(Server::descriptors);
         let others: Vec<_> = reads.map(|fd| (fd, 0, false)).chain(served).collect();
-        let line = |(id, it, has): (u64, &Line, bool)| (id, it.as_raw_fd(), it.wants_write(has));
-        let lines: Vec<_> = self.peers.lines().map(line).collect();
-        let expires = self.peers.lines().map(|(_, line, _)| line.expires());
-        self.expires = expires.min().unwrap_or(i64::MAX);
         let registry = self.poll.registry();
         for (fd, ..) in self.others.iter().filter(|(fd, ..)| others.iter().all(|it| it.0 != *fd)) {
             // (where it was closed, the system has forgotten it already)
             let _ = registry.deregister(&mut SourceFd(fd));
         }
-        for line in lines.iter().filter(|line| self.lines.binary_search(line).is_err()) {
-            let also = if line.2 { Interest::WRITABLE } else { Interest::READABLE };
-            watch(registry, line.1, Token(line.0 as usize), Interest::READABLE | also)?;
+        let written = |is| if is { Interest::WRITABLE } else { Interest::READABLE };
+        for (id, line, has_output) in self.peers.touched() {
+            self.expires = self.expires.min(line.expires());
+            let it = (line.as_raw_fd(), line.wants_write(has_output));
+            if self.lines.insert(id, it) != Some(it) {
+                watch(registry, it.0, Token(id as usize), Interest::READABLE | written(it.1))?;
+            }
         }
         for it in others.iter().filter(|it| !self.others.contains(it)) {
-            let alone = if it.2 { Interest::WRITABLE } else { Interest::READABLE };
-            watch(registry, it.0, Token(OTHER | it.0 as usize), alone)?;
+            watch(registry, it.0, Token(OTHER | it.0 as usize), written(it.2))?;
         }
-        (self.lines, self.others) = (lines, others);
+        self.others = others;
         let deadline = self.deadline(now);
         let until = deadline.saturating_duration_since(Instant::now()).min(most).as_micros();
         // (rounded up, since the system counts in milliseconds)
@@ -403,6 +395,8 @@ impl Agent {
         }
         let mut fired = HashSet::new();
         self.is_due = Instant::now() >= deadline;
+        let ended = self.events.iter().filter(|it| it.is_read_closed() || it.is_error());
+        ended.for_each(|it| self.peers.ends(it.token().0 as u64));
         for token in self.events.iter().map(|event| event.token()) {
             match token {
                 Token(line) if line & OTHER == 0 => self.ready.push(line as u64),
@@ -469,7 +463,9 @@ impl Agent {
         self.reported = self.reported.min(now);
         let table = &mut self.state.table;
         table.changed = older(table.changed, table.taker.number);
-        self.peers.bound_waiting((descriptors() / 4).max(1));
+        // (all are looked at again)
+        self.expires = i64::MAX;
+        self.lines.retain(|id, _| self.peers.line(*id).is_some());
         self.peers.check(self.caller.looks_up(), now, &mut self.state)?;
         let sockets = self.listeners.iter().chain(self.servers.iter().map(Server::listener));
         let mut listen = sockets.map(|it| it.socket.is_listener().unwrap_or(false));
@@ -515,6 +511,8 @@ impl Agent {
                 let why = "a certificate, of it or of this agent, has expired";
                 self.peers.close(id, why, now, &mut self.state);
             }
+            // (of the others it is known within a second)
+            self.expires = i64::MAX;
         }
     }
 
@@ -534,15 +532,13 @@ impl Agent {
 
     /// Whether something waits to be published, and the quickest child that there is takes it.
     fn may_publish(&self) -> bool {
-        let backlog = self.peers.relay().least_backlog();
-        self.root.as_ref().is_some_and(Root::waits) && backlog.unwrap_or(0) <= 1
+        let backlog = || self.peers.relay().least_backlog();
+        self.root.as_ref().is_some_and(Root::waits) && backlog().unwrap_or(0) <= 1
     }
 
     /// At the root: publishes what waits, as fast as the quickest child takes it.
     fn publish(&mut self, now: Instant) {
-        if let Some(root) = &mut self.root {
-            root.hears(self.state.numbers());
-        }
+        self.root.iter_mut().for_each(|root| root.hears(self.state.numbers()));
         while self.may_publish() {
             let Some(root) = &mut self.root else { return };
             let Some(published) = root.next(self.config.backlog / 2, now) else { break };
@@ -561,6 +557,10 @@ impl Agent {
         for (ticket, done) in self.root.iter_mut().flat_map(Root::answers) {
             let response = done.map_or_else(Response::Refused, |()| Response::Published(sequence));
             say(&mut self.servers, ticket, &control::answer(&response), false);
+        }
+        if let Some((tickets, diff)) = self.root.as_mut().and_then(Root::diffs) {
+            let answer = control::answer(&Response::Diff(diff));
+            tickets.into_iter().for_each(|it| say(&mut self.servers, it, &answer, false));
         }
     }
 
@@ -588,6 +588,7 @@ impl Agent {
         let number = table.taker.number;
         let (relay, parent) = (self.peers.relay(), self.peers.parent());
         let faults = self.root.as_ref().map(Root::faults);
+        let expires = self.maker.expires().and_then(|at| u64::try_from(at).ok());
         // (the table that is lacking may bring changes of any number; and what is applied is asked
         // for first, so that the digest is of that or of something newer)
         let is_whole = table.taker.is_whole();
@@ -609,6 +610,7 @@ impl Agent {
         Status {
             name: self.config.peers.name.clone(),
             is_root: self.root.is_some(),
+            version: env!("CARGO_PKG_VERSION").into(),
             failing: applier.as_ref().map_or(0, Applier::failing),
             parent: parent.map(|(parent, _)| parent.to_string()),
             cost: self.peers.way().cost,
@@ -619,6 +621,8 @@ impl Agent {
             applies: applier.is_some(),
             files: files.map_or(0, |(number, _)| number),
             digest: files.map_or(0, |(_, digest)| digest),
+            folder: self.config.apply.as_ref().map_or(String::new(), Apply::place),
+            mended: applier.as_ref().map_or(0, Applier::mended),
             ahead: furthest(number, self.state.numbers()),
             changed: table.changed,
             round: table.round,
@@ -626,6 +630,7 @@ impl Agent {
             whole: is_whole,
             settings: table.keys.len() as u64,
             draining: self.root.as_ref().is_some_and(Root::is_draining),
+            held: self.root.as_ref().map_or(0, Root::held),
             harmless: self.config.root.as_ref().map_or(0, |root| root.harmless.into()),
             limit: self.config.backlog,
             received: self.state.received,
@@ -640,10 +645,7 @@ impl Agent {
             faults: faults.iter().flat_map(|it| it.texts.iter().take(FAULTS).cloned()).collect(),
             children: children.collect(),
             reload_failed: self.reload_failed.clone(),
-            certificate_expires: self
-                .maker
-                .expires()
-                .map_or(0, |at| u64::try_from(at).unwrap_or(0)),
+            certificate_expires: expires.unwrap_or(0),
             ..Status::default()
         }
     }
@@ -715,6 +717,9 @@ impl Agent {
                 self.config.peers = self.peers.setup().clone();
             }
             (_, None) => return Err("it is not the root".into()),
+            (Request::Key { key }, _) => {
+                return Ok(Some(Response::Key(self.state.published.key(&key))));
+            }
             // (who asked for a change is answered when it is published)
             (Request::Publish { key, value }, Some(root)) => {
                 return root.ask(&key, Some(value), ticket).map(|()| None);
@@ -728,6 +733,13 @@ impl Agent {
                 root.begin_round(now);
             }
             (Request::Round, Some(root)) => root.begin_round(now),
+            (Request::Diff, Some(root)) => {
+                root.ask_diff(now, ticket);
+                return Ok(None);
+            }
+            (Request::Confirm { digest }, Some(root)) => {
+                return root.confirm(digest, now, ticket).map(|()| None);
+            }
             (Request::Look, Some(root)) => {
                 root.look_again(now, ticket);
                 return Ok(None);

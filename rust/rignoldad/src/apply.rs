@@ -12,7 +12,9 @@ use crate::config::{is_key, Apply};
 use crate::digest::Digest;
 use crate::fact;
 use rignolda::net::LOST;
-use rignolda::settings::{older, read_floor, read_plain, remove, write_floor, Change, Folder};
+use rignolda::settings::{
+    older, read_floor, read_folder, read_plain, remove, write_floor, Change, Folder,
+};
 use rignolda::settings::{Heard, Meaning, Waiting, SETTINGS, VALUE_BYTES};
 use std::cell::Cell;
 use std::collections::{BTreeMap, BTreeSet};
@@ -111,6 +113,9 @@ struct State {
     floor: u64,
     /// The first sequence number of what the thread for files has in hand.
     writing: Option<u64>,
+    /// Whether files, or hooks, were taken in hand since the last look.
+    took_files: bool,
+    took_hooks: bool,
     /// The digest of the files, once all were looked at.
     digest: Option<u64>,
     /// The key whose file is being written.
@@ -123,6 +128,8 @@ struct State {
     /// Keys whose file or hook failed last, and how.
     failing: BTreeMap<String, Outcome>,
     failures: u64,
+    /// How many files somebody else had changed and were put again.
+    mended: u64,
     done: Vec<Applied>,
     closed: bool,
 }
@@ -162,6 +169,13 @@ impl Applier {
         read_floor(&self.shared.folder.join(MARKER))
     }
 
+    /// The settings that an earlier life left there; none where the folder is not its own.
+    pub fn settings(&self) -> BTreeMap<String, Vec<u8>> {
+        let folder = Some(&self.shared.folder).filter(|_| self.floor() != 0);
+        let found = folder.and_then(|folder| read_folder(folder).ok());
+        found.unwrap_or_default().settings
+    }
+
     /// Makes the files what this body says, where it `applies`; where it `looks`, whatever was done
     /// to them. One that `fills` a gap may bring older changes, so nothing counts as applied until
     /// it is. Whether there is room: what waits has not many more keys than there may be.
@@ -190,7 +204,10 @@ impl Applier {
             }
             state.looks |= heard.looks;
         }
-        self.shared.files.notify_one();
+        // (mostly it changes nothing: then nobody is woken)
+        let waits = !state.holds && !state.files.is_empty();
+        drop(state);
+        waits.then(|| self.shared.files.notify_one());
         has_room
     }
 
@@ -202,7 +219,7 @@ impl Applier {
     /// Whether files wait or are written, or something was done: then ask again soon.
     pub fn is_busy(&self) -> bool {
         let state = self.shared.lock();
-        let waits = !state.holds && state.files.first().is_some();
+        let waits = !state.holds && !state.files.is_empty();
         waits || state.writing.is_some() || !state.done.is_empty()
     }
 
@@ -232,10 +249,13 @@ impl Applier {
 
     /// What of its state cannot be, where something cannot: to be asked once a second.
     pub fn fault(&self, config: &Apply) -> Option<&'static str> {
-        let state = self.shared.lock();
+        let mut state = self.shared.lock();
         let (files, hooks) = (state.files.first(), state.hooks.first());
-        let is_lost = files.is_some() && !state.holds && state.writing.is_none()
-            || hooks.is_some() && state.running.is_empty();
+        // (what came before each look may not have been taken yet)
+        let took_files = std::mem::take(&mut state.took_files) || state.writing.is_some();
+        let took_hooks = std::mem::take(&mut state.took_hooks) || !state.running.is_empty();
+        let is_lost =
+            files.is_some() && !state.holds && !took_files || hooks.is_some() && !took_hooks;
         self.lost.set(if is_lost { self.lost.get() + 1 } else { 0 });
         match () {
             () if self.threads.iter().any(JoinHandle::is_finished) || self.lost.get() >= LOST => {
@@ -256,6 +276,11 @@ impl Applier {
     /// How many hooks failed since the start.
     pub fn hook_failures(&self) -> u64 {
         self.shared.lock().failures
+    }
+
+    /// How many files somebody else had changed and were put again, since the start.
+    pub fn mended(&self) -> u64 {
+        self.shared.lock().mended
     }
 }
 
@@ -301,12 +326,15 @@ fn keep_files(shared: &Shared) {
     let take = |state: &mut State| {
         state.writing = state.files.first().filter(|_| !state.holds);
         state.writing?;
+        state.took_files = true;
         let (files, due) = (std::mem::take(&mut state.files), std::mem::take(&mut state.due));
         let looks = std::mem::take(&mut state.looks) || !files.is_whole();
         Some((files, due, looks, state.floor, state.config.clone()))
     };
     let (mut folder, mut others) = (Folder::new(shared.folder.clone()), Vec::new());
     let (mut is_taken, mut digest) = (false, None);
+    // (whether its files were never looked at with this mode)
+    let (mut is_first, mut mode) = (true, 0);
     while let Some((mut files, mut due, looks, floor, config)) = shared.next(&shared.files, take) {
         if folder.path() != config.folder {
             // (the memory is spoiled)
@@ -316,12 +344,12 @@ fn keep_files(shared: &Shared) {
         // also where a table names all that is in it, so that nothing would go)
         let there = || folder.names().into_iter().chain(folder.others()).filter(|it| is_key(it));
         let is_known = is_taken || files.is_whole() && there().all(|name| files.has(&name));
-        let refused = refusal(&config).filter(|_| !is_known);
+        let refused = (!is_known).then(|| refusal(&config)).flatten();
         // (what came while it was refused was dropped, so a change alone is not enough)
         let lacks = shared.lock().failing.get(MARKER).cloned().filter(|_| !files.is_whole());
         let refused = refused.map(Outcome::File).or(lacks);
         // (else older ones could follow what is written now, by a process that is ended meanwhile)
-        let outcome = refused.unwrap_or_else(|| mark(&folder, floor));
+        let outcome = refused.unwrap_or_else(|| mark(&folder, floor, files.is_whole()));
         is_taken = outcome == Outcome::Done;
         if !is_taken || shared.lock().failing.contains_key(MARKER) {
             let (mut state, sequence) = (shared.lock(), files.first().unwrap_or(0));
@@ -338,13 +366,19 @@ fn keep_files(shared: &Shared) {
             let there = if looks { folder.names() } else { folder.keys() };
             files.unset_others(there.into_iter().chain(due.iter().cloned()));
             if looks {
-                digest = Some(Digest::default());
+                is_first = digest.replace(Digest::default()).is_none() || mode != config.mode;
+                mode = config.mode;
             }
         }
+        let mut mended = Vec::new();
         for (key, change) in files.in_order() {
             let (value, was_due) = (change.value.as_deref(), due.remove(&key));
-            let had = !looks && value.is_some_and(|value| folder.had(&key, value));
+            let put = value.map_or(!folder.knows(&key), |value| folder.had(&key, value));
+            let had = !looks && value.is_some() && put;
             let differs = !had && folder.differs(&key, value, config.mode);
+            if looks && !is_first && put && differs {
+                mended.push(key.clone());
+            }
             if differs || was_due {
                 keep_file(shared, &mut folder, &config, &key, change.clone(), differs);
             }
@@ -358,7 +392,11 @@ fn keep_files(shared: &Shared) {
         if looks {
             say_others(&folder, &mut others);
         }
+        if let [first, ..] = &mended[..] {
+            fact!("mended", "{} files were not as they were put, as {first}", mended.len());
+        }
         let mut state = shared.lock();
+        state.mended += mended.len() as u64;
         state.due.append(&mut due);
         state.writing = None;
         state.digest = digest.as_ref().map(|it| it.sum);
@@ -366,12 +404,13 @@ fn keep_files(shared: &Shared) {
 }
 
 /// Says in the folder that it is an agent's, and up to which number its files will be.
-fn mark(folder: &Folder, floor: u64) -> Outcome {
+fn mark(folder: &Folder, floor: u64, is_whole: bool) -> Outcome {
     let _ = folder.mend();
     let marked = write_floor(&folder.path().join(MARKER), floor);
     // (one that cannot be listed may have what no table names)
-    let marked = marked.and_then(|()| fs::read_dir(folder.path()));
-    marked.map_or_else(|error| Outcome::File(error.to_string()), |_| Outcome::Done)
+    let listed = || if is_whole { fs::read_dir(folder.path()).map(drop) } else { Ok(()) };
+    let marked = marked.and_then(|()| listed());
+    marked.map_or_else(|error| Outcome::File(error.to_string()), |()| Outcome::Done)
 }
 
 /// Names once what is in the folder and is nothing of the agent's, and not removed either.
@@ -450,6 +489,7 @@ fn run_hooks(shared: &Shared) {
     let take = |state: &mut State| {
         let (key, change) = state.hooks.pop_of(|key| !state.running.contains_key(key))?;
         state.running.insert(key.clone(), Running { first: change.first, unmarks: false });
+        state.took_hooks = true;
         Some((key, change, state.config.clone()))
     };
     while let Some((key, change, config)) = shared.next(&shared.hooks, take) {

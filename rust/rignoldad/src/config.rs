@@ -52,6 +52,10 @@ pub struct Root {
     pub round: Duration,
     /// How many harmless items a round begins with.
     pub harmless: u32,
+    /// Whether each change of the folder waits until it is confirmed; and how many settings it may
+    /// unset without that: half of them where there is no number.
+    pub hold: bool,
+    pub unsets: Option<usize>,
 }
 
 #[derive(Clone, Debug, Default, PartialEq)]
@@ -63,6 +67,13 @@ pub struct Apply {
     pub mode: u32,
     pub hook: Option<PathBuf>,
     pub hook_timeout: Duration,
+}
+
+impl Apply {
+    /// The folder, as text.
+    pub fn place(&self) -> String {
+        self.folder.display().to_string()
+    }
 }
 
 /// What is wrong with a configuration, and where.
@@ -162,7 +173,8 @@ impl Config {
 
 /// All keys that there are, those of a table behind its name.
 const KEYS: &str = "name listen children parents insecure control metrics metrics_open \
-    root.settings root.round root.harmless link.ack_timeout link.backlog link.evict \
+    root.settings root.round root.harmless root.hold root.unsets \
+    link.ack_timeout link.backlog link.evict \
     store.user store.password store.database store.poll \
     tls.certificate tls.key tls.authority apply.folder apply.take apply.mode apply.hook \
     apply.hook_timeout";
@@ -329,6 +341,10 @@ impl<'a> Check<'a> {
                 settings: self.needed("root.settings"),
                 round: self.time("root.round", 30_000, 100..=86_400_000),
                 harmless: self.number("root.harmless", 23, 1..=10_000) as u32,
+                hold: self.is_set("root.hold"),
+                unsets: self
+                    .get("root.unsets")
+                    .map(|_| self.number("root.unsets", 0, 0..=65_536) as usize),
             }),
             tls: self.has("tls").then(|| Tls {
                 certificate: self.needed("tls.certificate"),

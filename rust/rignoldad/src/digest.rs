@@ -1,7 +1,6 @@
 //! Digests of settings, by which the root sees whether an agent's files are what it published.
-use openssl::sha::Sha256;
 use rignolda::settings::{is_newer, Meaning};
-use rignoldactl::{Compared, Seen};
+use rignoldactl::{Compared, Key, Seen};
 use std::collections::{BTreeMap, VecDeque};
 
 /// For how many of its last changes a root remembers the digest, and for how many rounds.
@@ -10,8 +9,8 @@ const ROUNDS: u8 = 32;
 
 /// A digest of settings: the same ones have the same digest, in whatever order they came.
 ///
-/// It is the sum of the first 8 bytes of the SHA-256 of each one, so a change costs no more than
-/// its own bytes. It tells what came about by a fault, and is no signature.
+/// It is the sum of [that of each one](rignoldactl::digest), so a change costs no more than its own
+/// bytes. It tells what came about by a fault, and is no signature.
 #[derive(Debug, Default)]
 pub struct Digest {
     each: BTreeMap<String, u64>,
@@ -21,12 +20,7 @@ pub struct Digest {
 impl Digest {
     /// A setting has this value now; or none, where its file is there and cannot be read.
     pub fn set(&mut self, key: &str, value: Option<&[u8]>) {
-        let mut sha = Sha256::new();
-        sha.update(&[key.len() as u8, value.is_some().into()]);
-        sha.update(key.as_bytes());
-        sha.update(value.unwrap_or(&[]));
-        let [a, b, c, d, e, f, g, h, ..] = sha.finish();
-        let part = u64::from_be_bytes([a, b, c, d, e, f, g, h]);
+        let part = rignoldactl::digest(key, value);
         let old = self.each.insert(key.into(), part).unwrap_or(0);
         self.sum = self.sum.wrapping_sub(old).wrapping_add(part);
     }
@@ -64,6 +58,8 @@ pub struct Published {
     /// Its digests, the last one first, each with the number from which on it was that, and how
     /// many rounds ended since.
     since: VecDeque<(u64, u64, u8)>,
+    /// Of each key that is set, what it is and was.
+    keys: BTreeMap<String, Key>,
 }
 
 impl Published {
@@ -72,6 +68,7 @@ impl Published {
     pub fn take(&mut self, number: u64, meaning: &Meaning<'_>, round: bool) {
         self.digest.take(meaning);
         self.number = number;
+        self.take_keys(number, meaning);
         if round {
             self.since.iter_mut().for_each(|(.., rounds)| *rounds = rounds.saturating_add(1));
             self.since.retain(|(at, _, rounds)| *rounds <= ROUNDS && !is_newer(*at, number));
@@ -80,6 +77,33 @@ impl Published {
             self.since.push_front((number, self.digest.sum, 0));
             self.since.truncate(CHANGES);
         }
+    }
+
+    fn take_keys(&mut self, number: u64, meaning: &Meaning<'_>) {
+        let (Meaning::Changes(entries) | Meaning::Table(entries)) = meaning else { return };
+        for (key, _) in entries {
+            match self.digest.each.get(*key) {
+                Some(digest) => {
+                    let it = self.keys.entry((*key).into()).or_default();
+                    // (no earlier one may count from later on)
+                    if it.digest != *digest || is_newer(it.number, number) {
+                        *it =
+                            Key { digest: *digest, number, old: it.digest, old_number: it.number };
+                    }
+                }
+                None => drop(self.keys.remove(*key)),
+            }
+        }
+        if matches!(meaning, Meaning::Table(_)) {
+            self.keys.retain(|key, _| self.digest.each.contains_key(key));
+        }
+    }
+
+    /// What is known of a key. Of one that is unset, that is no more than since when all settings
+    /// are as they are.
+    pub fn key(&self, key: &str) -> Key {
+        let since = self.since.front().map_or(0, |(number, ..)| *number);
+        self.keys.get(key).cloned().unwrap_or(Key { number: since, ..Key::default() })
     }
 
     /// The digest as of this number, unless that is not known.
@@ -196,6 +220,39 @@ mod tests {
                 assert_eq!(published.compared(&seen(at, 6)), Compared::Differs);
             }
         }
+    }
+
+    /// Of a key it is known what it is and was, and from which numbers on.
+    #[test]
+    fn what_a_key_was_is_remembered() {
+        let of = |value: &[u8]| rignoldactl::digest("key", Some(value));
+        let with = |value: &'static [u8]| vec![("key", Some(value)), ("other", Some(&b"1"[..]))];
+        let is = |it: &Published| {
+            let Key { digest, number, old, old_number } = it.key("key");
+            (digest, number, old, old_number)
+        };
+        let mut it = Published::default();
+        assert_eq!(is(&it), (0, 0, 0, 0));
+        it.take(10, &Meaning::Table(with(b"1")), true);
+        assert_eq!(is(&it), (of(b"1"), 10, 0, 0));
+        it.take(11, &Meaning::Changes(with(b"2")), false);
+        it.take(12, &Meaning::Changes(with(b"2")), false);
+        it.take(13, &Meaning::Table(with(b"2")), true);
+        assert_eq!(is(&it), (of(b"2"), 11, of(b"1"), 10));
+        it.take(14, &Meaning::Table(with(b"3")), true);
+        assert_eq!(is(&it), (of(b"3"), 14, of(b"2"), 11));
+        // (what is unset is that since all settings are as they are)
+        it.take(15, &Meaning::Changes(vec![("key", None)]), false);
+        it.take(16, &Meaning::Harmless, false);
+        assert_eq!(is(&it), (0, 15, 0, 0));
+        it.take(17, &Meaning::Changes(with(b"3")), false);
+        it.take(18, &Meaning::Table(vec![]), true);
+        assert_eq!((is(&it), it.keys.len()), ((0, 18, 0, 0), 0));
+        // whatever its memory holds, of who is at a table or later all is known from that
+        let spoilt = Key { digest: of(b"4"), number: u64::MAX / 3, old: 1, old_number: 2 };
+        it.keys.insert("key".into(), spoilt);
+        it.take(20, &Meaning::Table(with(b"4")), true);
+        assert_eq!((it.key("key").digest, it.key("key").number), (of(b"4"), 20));
     }
 
     #[test]

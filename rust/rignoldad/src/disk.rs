@@ -31,9 +31,12 @@ pub enum Done {
     Read(Result<Found, Empty>),
     /// These alone changed.
     Keys(Vec<Kept>),
-    /// Each change, and why it was not done.
-    Written(Vec<(Kept, Result<(), String>)>),
+    /// And whether somebody else has changed something meanwhile.
+    Written(Vec<Written>, bool),
 }
+
+/// A change, and why it was not done.
+pub type Written = (Kept, Result<(), String>);
 
 /// Why there are no settings.
 pub struct Empty {
@@ -46,6 +49,8 @@ pub struct Empty {
 struct Place {
     settings: Arc<Path>,
     notify: Option<Inotify>,
+    /// The keys that changed and were not read since; nothing where all are to be read.
+    keys: Option<BTreeSet<String>>,
 }
 
 /// The thread, and what can be read when something changed. It calls `wake` after each job.
@@ -53,7 +58,7 @@ pub fn start(
     settings: Arc<Path>,
     wake: Arc<dyn Fn() + Send + Sync>,
 ) -> io::Result<(Worker<Job, Done>, Option<RawFd>)> {
-    let mut place = Place { settings, notify: Inotify::init().ok() };
+    let mut place = Place { settings, notify: Inotify::init().ok(), keys: Some(BTreeSet::new()) };
     let descriptor = place.notify.as_ref().map(AsRawFd::as_raw_fd);
     let worker = Worker::start("disk", move |job| place.work(job), move || wake())?;
     Ok((worker, descriptor))
@@ -67,29 +72,33 @@ impl Place {
                 Some(changes) => Done::Keys(changes),
                 None => Done::Read(self.read()),
             },
-            Job::Write(changes) => Done::Written(self.write(changes)),
+            Job::Write(changes) => self.write(changes),
+        }
+    }
+
+    /// Notes what changed. Of each of these keys the first change is its own: so where somebody
+    /// else has changed it too, before or after that, it is noted.
+    fn note(&mut self, mut own: BTreeSet<&str>) {
+        let (mut space, mut is_more) = ([0; 4_096], true);
+        while std::mem::take(&mut is_more) {
+            let events = self.notify.as_mut().map(|it| it.read_events(&mut space));
+            for event in events.into_iter().flatten().flatten() {
+                is_more = true;
+                match (event.name.and_then(|name| name.to_str()), &mut self.keys) {
+                    (Some(name), _) if own.remove(name) => (),
+                    (Some(name), Some(keys)) if is_key(name) => drop(keys.insert(name.to_owned())),
+                    // (its own, before they are moved to their places)
+                    (Some(name), _) if name.starts_with(".rignolda") => (),
+                    _ => self.keys = None,
+                }
+            }
         }
     }
 
     /// The settings that changed, where it is known which; else all are to be read.
     fn changed(&mut self) -> Option<Vec<Kept>> {
-        let mut space = [0; 4_096];
-        let (mut keys, mut came, mut all) = (BTreeSet::new(), 0, !self.settings.is_dir());
-        while let Some(Ok(events)) = self.notify.as_mut().map(|it| it.read_events(&mut space)) {
-            let before = came;
-            for event in events {
-                came += 1;
-                match event.name.and_then(|name| name.to_str()) {
-                    Some(name) if is_key(name) => drop(keys.insert(name.to_owned())),
-                    // (its own, before they are moved to their places)
-                    Some(name) if name.starts_with(".rignolda") => (),
-                    _ => all = true,
-                }
-            }
-            if came == before {
-                break;
-            }
-        }
+        self.note(BTreeSet::new());
+        let keys = self.keys.replace(BTreeSet::new()).filter(|keys| !keys.is_empty())?;
         let mut bytes = 0;
         let value = |key: String| match read_plain(&self.settings.join(&key), VALUE_BYTES) {
             Ok(value) => {
@@ -101,20 +110,19 @@ impl Place {
             }
             Err(_) => None,
         };
-        if all || came == 0 {
-            None
-        } else {
-            keys.into_iter().map(value).collect()
-        }
+        keys.into_iter().map(value).collect()
     }
 
     /// Writes files, and waits until the disk has them. No two are of one key.
-    fn write(&self, changes: Vec<Kept>) -> Vec<(Kept, Result<(), String>)> {
-        let done = match self.settings.is_file() {
+    fn write(&mut self, changes: Vec<Kept>) -> Done {
+        let done: Vec<_> = match self.settings.is_file() {
             true => changes.iter().map(|_| Err("all settings are in one file".into())).collect(),
             false => write_folder(&self.settings, &changes),
         };
-        changes.into_iter().zip(done).collect()
+        let own = changes.iter().zip(&done).filter(|(_, done)| done.is_ok());
+        self.note(own.map(|((key, _), _)| &**key).collect());
+        let others = self.keys.as_ref().is_none_or(|keys| !keys.is_empty());
+        Done::Written(changes.into_iter().zip(done).collect(), others)
     }
 
     /// Reads all settings, and waits for changes from before that.

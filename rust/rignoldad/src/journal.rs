@@ -46,7 +46,8 @@ pub fn lines(fact: &str, all: impl IntoIterator<Item = String>) {
             queue.lines.push_back(line);
         }
     }
-    CHANGED.notify_all();
+    // (mostly there is no line)
+    (!queue.lines.is_empty()).then(|| CHANGED.notify_all());
 }
 
 /// Waits until all lines are written, but not for long: to be called at the end.
@@ -100,8 +101,8 @@ fn priority(fact: &str, words: &str) -> &'static str {
         _ if !IS_READ.get_or_init(|| is_read() == Some(true)) => "",
         "certificate" | "failed" | "settings" => "<3>",
         "reload" if words != "done" => "<3>",
-        "child" | "closed" | "evicted" | "garbage" | "journal" | "left-behind" | "parent"
-        | "refused" | "stray" => "<4>",
+        "child" | "closed" | "evicted" | "garbage" | "journal" | "left-behind" | "mended"
+        | "parent" | "refused" | "stray" => "<4>",
         "applied" | "published" | "received" => "<6>",
         _ => "<5>",
     }

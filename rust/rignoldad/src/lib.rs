@@ -11,6 +11,7 @@ pub mod config;
 pub mod control;
 pub mod digest;
 pub mod disk;
+pub mod hold;
 pub mod journal;
 pub mod metrics;
 pub mod root;

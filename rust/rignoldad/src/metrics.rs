@@ -5,7 +5,7 @@ use std::fmt::Write;
 /// A number of an agent: its name, its kind, what it is, and how to get it.
 type Number<T> = (&'static str, &'static str, &'static str, fn(&T) -> u64);
 
-const OF_AGENT: [Number<Status>; 25] = [
+const OF_AGENT: [Number<Status>; 27] = [
     ("connected", "gauge", "Whether the agent has its parent; 1 at the root.", |s| {
         u64::from(s.parent.is_some() || s.is_root)
     }),
@@ -18,6 +18,7 @@ const OF_AGENT: [Number<Status>; 25] = [
     ("whole", "gauge", "Whether nothing is known to be missing.", |s| u64::from(s.whole)),
     ("settings", "gauge", "How many settings there are.", |s| s.settings),
     ("draining", "gauge", "Whether the root publishes nothing.", |s| u64::from(s.draining)),
+    ("held", "gauge", "Settings whose change the root holds back.", |s| s.held),
     ("backlog_limit", "gauge", "The limit of the backlog for each child.", |s| s.limit),
     ("received_total", "counter", "Bodies that came, or were published.", |s| s.received),
     ("strays_total", "counter", "Bodies older than the last one.", |s| s.strays),
@@ -28,6 +29,7 @@ const OF_AGENT: [Number<Status>; 25] = [
     ("refused_total", "counter", "Connections that were refused.", |s| s.refused),
     ("hook_failures_total", "counter", "Hooks that failed.", |s| s.hook_failures),
     ("failing", "gauge", "Settings whose file or hook failed last.", |s| s.failing),
+    ("mended_total", "counter", "Files that were changed and put again.", |s| s.mended),
     ("unpublished", "gauge", "What the root cannot publish.", |s| s.unpublished),
     ("agents", "gauge", "At the root: agents that it knows, itself with them.", |s| s.agents),
     ("agents_away", "gauge", "At the root: those that are connected nowhere.", |s| s.away),

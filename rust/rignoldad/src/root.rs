@@ -4,12 +4,15 @@
 //! is of what the folder had when it was asked for; where the disk does not answer in time, it is
 //! of what was known before.
 use crate::config::{is_key, Root as Config};
-use crate::disk::{self, Done, Empty, Job};
+use crate::disk::{self, Done, Empty, Job, Written};
 use crate::fact;
+use crate::hold;
 use rignolda::net::{Worker, BODY_BYTES};
 use rignolda::settings::{
-    entry_bytes, no_key, Faults, Found, Kept, Published, Publisher, SETTINGS,
+    differences, entry_bytes, no_key, Faults, Found, Kept, Published, Publisher, SETTINGS,
 };
+use rignoldactl::Diff;
+use std::collections::{BTreeMap, BTreeSet};
 use std::io;
 use std::os::unix::io::RawFd;
 use std::path::Path;
@@ -45,6 +48,15 @@ pub struct Root<W> {
     holds: bool,
     /// Whether the folder is empty, and the first setting may be published.
     is_new: bool,
+    /// What was applied here by an earlier life; it is what is published before the first table.
+    applied: BTreeMap<String, Vec<u8>>,
+    /// The keys that the last round had, but those that somebody asked to unset.
+    had: BTreeSet<String>,
+    /// What of the folder waits until it is confirmed, and the digest of what was confirmed.
+    held: Option<Diff>,
+    confirmed: Option<u64>,
+    /// Who asked for what is not published yet.
+    diffing: Vec<W>,
     next_round: Instant,
     next_scan: Option<Instant>,
     /// How often the disk was asked to read, and has not answered.
@@ -80,6 +92,7 @@ impl<W> Root<W> {
     /// Begins to read the folder, in a thread that calls `wake` whenever it has something to say.
     pub fn new(
         config: &Config,
+        applied: BTreeMap<String, Vec<u8>>,
         now: Instant,
         wake: Arc<dyn Fn() + Send + Sync>,
     ) -> io::Result<Root<W>> {
@@ -98,6 +111,11 @@ impl<W> Root<W> {
             known: false,
             holds: false,
             is_new: false,
+            had: applied.keys().cloned().collect(),
+            applied,
+            held: None,
+            confirmed: None,
+            diffing: Vec::new(),
             next_round: now,
             next_scan: None,
             reads: 0,
@@ -128,7 +146,7 @@ impl<W> Root<W> {
 
     /// What can be read when the folder has changed, while that is not known already.
     pub fn descriptor(&self) -> Option<RawFd> {
-        self.changes.filter(|_| self.next_scan.is_none() && self.reads == 0)
+        self.changes.filter(|_| self.next_scan.is_none() && !self.is_busy())
     }
 
     pub fn settings(&self) -> u64 {
@@ -156,6 +174,44 @@ impl<W> Root<W> {
 
     pub fn is_draining(&self) -> bool {
         self.draining
+    }
+
+    /// Of how many settings a change waits until it is confirmed.
+    pub fn held(&self) -> u64 {
+        self.held.as_ref().map_or(0, |it| it.changes.len() as u64)
+    }
+
+    /// Looks at the folder for somebody who asks what of it is not published.
+    pub fn ask_diff(&mut self, now: Instant, who: W) {
+        self.diffing.push(who);
+        self.look_anew(now);
+    }
+
+    /// Those who asked for that, once the folder is read, and what it is.
+    pub fn diffs(&mut self) -> Option<(Vec<W>, Diff)> {
+        if self.diffing.is_empty() || self.reads > 0 && !self.is_late {
+            return None;
+        }
+        let waits = || hold::diff(self.publisher.changed(), String::new());
+        let diff = self.held.clone().unwrap_or_else(waits);
+        Some((std::mem::take(&mut self.diffing), diff))
+    }
+
+    /// Publishes what is held, where the folder has it still: `digest` is that of what was seen, or
+    /// 0. It is answered as a look is.
+    pub fn confirm(&mut self, digest: u64, now: Instant, who: W) -> Result<(), String> {
+        match &self.held {
+            None => Err("nothing is held".into()),
+            _ if self.draining => Err("it is draining".into()),
+            Some(held) if digest != 0 && digest != held.digest => {
+                Err(format!("another change is held since, {:016x}", held.digest))
+            }
+            Some(held) => {
+                self.confirmed = Some(held.digest);
+                self.look_again(now, who);
+                Ok(())
+            }
+        }
     }
 
     /// What of its state cannot be, where something cannot.
@@ -195,7 +251,7 @@ impl<W> Root<W> {
         self.mend(now);
         while let Some(done) = self.disk.done() {
             match done {
-                Done::Written(all) => self.is_written(all, now),
+                Done::Written(all, others) => self.is_written(all, others, now),
                 Done::Keys(changes) => self.have_changed(changes, now),
                 Done::Read(read) => self.is_read(read, now),
             }
@@ -242,6 +298,10 @@ impl<W> Root<W> {
     /// saw is published.
     pub fn look_again(&mut self, now: Instant, who: W) {
         self.looking.push(who);
+        self.look_anew(now);
+    }
+
+    fn look_anew(&mut self, now: Instant) {
         let reads = self.reads;
         self.look(now);
         if self.reads == reads && !self.is_late {
@@ -295,7 +355,11 @@ impl<W> Root<W> {
             self.for_table = true;
             self.look(now);
         }
+        let was_in_a_round = self.publisher.is_in_a_round();
         let next = self.waits().then(|| self.publisher.next(limit))??;
+        if was_in_a_round && !self.publisher.is_in_a_round() {
+            self.had = self.publisher.settings().keys().cloned().collect();
+        }
         self.fresh = self.fresh.filter(|_| !next.is_table);
         for (key, who) in std::mem::take(&mut self.written) {
             match next.keys.contains(&key) {
@@ -327,6 +391,7 @@ impl<W> Root<W> {
         let bytes = entry_bytes(&(key, value.as_deref()));
         match &value {
             _ if self.draining => Err("it is draining".into()),
+            _ if self.held.is_some() => Err("a change of its folder is held: see `diff`".into()),
             _ if !self.known && !self.is_new => {
                 let first = self.faults.texts.first().map_or("it is not read yet", |it| it);
                 Err(format!("{settings} is not known: {first}"))
@@ -364,7 +429,8 @@ impl<W> Root<W> {
         }
     }
 
-    fn is_written(&mut self, all: Vec<(Kept, Result<(), String>)>, now: Instant) {
+    fn is_written(&mut self, all: Vec<Written>, others: bool, now: Instant) {
+        others.then(|| self.notified(now));
         let writing = std::mem::take(&mut self.writing);
         for (((key, value), done), who) in all.into_iter().zip(writing) {
             let bytes = entry_bytes(&(&key, value.as_deref()));
@@ -372,6 +438,9 @@ impl<W> Root<W> {
             match done {
                 // (also where it is as it was: whoever asked for it is told a number)
                 Ok(()) => {
+                    if value.is_none() {
+                        self.had.remove(&key);
+                    }
                     self.publisher.put(&key, value);
                     self.written.push((key, who));
                 }
@@ -385,13 +454,21 @@ impl<W> Root<W> {
     }
 
     fn have_changed(&mut self, changes: Vec<Kept>, now: Instant) {
-        let mut again = !self.known;
+        let settings = self.publisher.settings();
+        let differs = |(key, value): &Kept| settings.get(key) != value.as_ref();
+        let changes: Vec<Kept> = changes.into_iter().filter(differs).collect();
+        let unset: BTreeSet<&str> =
+            changes.iter().filter(|it| it.1.is_none()).map(|it| &*it.0).collect();
+        let stays = |key: &str| settings.contains_key(key) && !unset.contains(key);
+        let gone = || hold::gone(&self.config, &self.had, stays).is_some();
+        // (then it is looked at as a whole)
+        let may_hold = self.config.hold && !changes.is_empty() || !unset.is_empty() && gone();
+        let mut again = !self.known || self.held.is_some() || may_hold;
+        let changes = if again { Vec::new() } else { changes };
         for (key, value) in changes {
-            let differs = self.publisher.settings().get(&key) != value.as_ref();
-            let fits = value.as_ref().is_none_or(|value| self.publisher.has_room(&key, value));
-            again |= differs && !fits;
-            if differs && fits {
-                self.publisher.put(&key, value);
+            match value.as_ref().is_none_or(|value| self.publisher.has_room(&key, value)) {
+                true => self.publisher.put(&key, value),
+                false => again = true,
             }
         }
         self.has_answered(now);
@@ -423,9 +500,24 @@ impl<W> Root<W> {
                 if Publisher::bytes_of(&found.settings) > BODY_BYTES {
                     faults.add(format!("all settings have more than {BODY_BYTES} bytes"));
                 } else {
-                    (self.known, self.holds) = (true, holds);
-                    self.publisher.replace(found.settings);
-                    self.publisher.hold(holds);
+                    let old = self.publisher.settings();
+                    let old = if self.known { old } else { &self.applied };
+                    let changes = differences(old, &found.settings);
+                    let held = hold::held(&self.config, &self.had, &found.settings, changes);
+                    let confirmed = self.confirmed.take();
+                    self.held = held.filter(|it| Some(it.digest) != confirmed);
+                    if let Some(held) = &self.held {
+                        faults.add(held.held.clone());
+                        self.publisher.hold(true);
+                    } else {
+                        if confirmed.is_some() {
+                            self.had = found.settings.keys().cloned().collect();
+                        }
+                        (self.known, self.holds) = (true, holds);
+                        self.applied = BTreeMap::new();
+                        self.publisher.replace(found.settings);
+                        self.publisher.hold(holds);
+                    }
                 }
             }
         }

@@ -30,7 +30,8 @@ fn read(child: &str, bytes: &[u8]) -> Option<Vec<Seen>> {
     // (a list of very many would take much more memory than its bytes)
     let many = bytes.iter().filter(|byte| **byte == b'{').count();
     let is_short = bytes.len() <= REPORT_BYTES && many <= AGENTS;
-    let mut list: Vec<Seen> = serde_json::from_slice(bytes).ok().filter(|_| is_short)?;
+    let list = is_short.then(|| serde_json::from_slice(bytes).ok());
+    let mut list: Vec<Seen> = list.flatten()?;
     list.first_mut().filter(|first| first.name == child)?.parent.clear();
     let (mut depths, mut is_deeper) = (BTreeMap::from([(String::new(), 0)]), false);
     list.retain(|seen| {
@@ -104,8 +105,10 @@ impl Below {
                 }
             }
         }
-        let kept = all().filter(|(at, seen)| taken.get(&*seen.name) == Some(at));
-        let kept = kept.map(|(_, seen)| seen.clone());
+        let kept = all().map(|(at, seen)| taken.get(&*seen.name) == Some(&at));
+        let kept: Vec<bool> = kept.collect();
+        let kept = lists.into_iter().flatten().zip(kept).filter(|(_, is_kept)| *is_kept);
+        let kept = kept.map(|(seen, _)| seen);
         share(std::iter::once(status.seen()).chain(kept).collect(), KNOWN)
     }
 

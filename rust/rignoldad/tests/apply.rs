@@ -265,6 +265,37 @@ fn a_table_between_rounds_looks_at_no_file_that_is_as_it_was_put() {
     assert_eq!(place.files(), map([("a", "1"), ("b", "4")]));
 }
 
+/// Of what is not as it should be, what the agent itself had put, or not put, was somebody else's.
+#[test]
+fn what_somebody_else_changed_is_counted() {
+    let place = Place::new();
+    let mut applier = start(&place.config());
+    let folder = place.folder();
+    let mended = |it: &mut Applier, sequence| {
+        it.table([("a", b"1"), ("b", b"2")], sequence);
+        applied(it, sequence);
+        assert_eq!(place.files(), map([("a", "1"), ("b", "2")]));
+        it.mended()
+    };
+    assert_eq!(mended(&mut applier, 1), 0);
+    applier.set("a", b"0", 2);
+    applier.set("c", b"3", 3);
+    assert_eq!(mended(&mut applier, 4), 0);
+    fs::write(folder.join("a"), "spoiled").unwrap();
+    fs::remove_file(folder.join("b")).unwrap();
+    fs::write(folder.join("c"), "3").unwrap();
+    assert_eq!(mended(&mut applier, 5), 3);
+    assert_eq!(mended(&mut applier, 6), 3);
+    // (one that has just begun has put nothing)
+    drop(applier);
+    fs::write(folder.join("a"), "spoiled").unwrap();
+    fs::write(folder.join("c"), "3").unwrap();
+    let mut applier = start(&place.config());
+    assert_eq!(mended(&mut applier, 7), 0);
+    fs::write(folder.join("c"), "3").unwrap();
+    assert_eq!(mended(&mut applier, 8), 1);
+}
+
 #[test]
 fn a_key_never_leaves_the_folder() {
     let place = Place::new();

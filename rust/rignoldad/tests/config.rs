@@ -45,6 +45,13 @@ fn reads_every_key() {
     assert_eq!((apply.mode, apply.hook_timeout), (0o600, Duration::from_secs(60)));
     assert_eq!(config.root, None);
     assert!(!config.insecure);
+    let root = |more: &str| {
+        let text = format!("name = \"a\"\n[root]\nsettings = \"/s\"\n{more}");
+        let root = Config::parse(&text).unwrap().root.unwrap();
+        (root.hold, root.unsets)
+    };
+    assert_eq!(root(""), (false, None));
+    assert_eq!(root("hold = true\nunsets = 0"), (true, Some(0)));
 }
 
 #[test]
@@ -79,6 +86,8 @@ fn says_each_fault_with_its_line_and_key() {
         ("name = \"a\"\n[root]\nsettings = \"/s\"\nround = \"5\"", 4, "root.round", "a time"),
         ("name = \"a\"\n[root]\nsettings = \"/s\"\nround = \"1ms\"", 4, "root.round", "100ms"),
         ("name = \"a\"\n[root]\nsettings = \"/s\"\nharmless = 0", 4, "root.harmless", "1 to"),
+        ("name = \"a\"\n[root]\nsettings = \"/s\"\nhold = 1", 4, "root.hold", "true or false"),
+        ("name = \"a\"\n[root]\nsettings = \"/s\"\nunsets = -1", 4, "root.unsets", "0 to 65536"),
         ("name = \"a", 1, "", "unterminated"),
         ("name = \"a\"", 0, "parents", "has a parent"),
         (

@@ -104,9 +104,22 @@ impl std::ops::DerefMut for Tried {
 
 /// A root, whose first round is over where `settled`.
 fn root(settings: &Path, settled: bool) -> (Tried, Instant) {
+    root_of(config(settings), BTreeMap::new(), settled)
+}
+
+fn config(settings: &Path) -> config::Root {
+    let (round, settings) = (ROUND, settings.into());
+    config::Root { settings, round, harmless: 3, hold: false, unsets: None }
+}
+
+/// One with settings that an earlier life applied.
+fn root_of(
+    config: config::Root,
+    applied: BTreeMap<String, Vec<u8>>,
+    settled: bool,
+) -> (Tried, Instant) {
     let now = Instant::now();
-    let config = config::Root { settings: settings.into(), round: ROUND, harmless: 3 };
-    let root = Root::new(&config, now, Arc::new(|| ())).unwrap();
+    let root = Root::new(&config, applied, now, Arc::new(|| ())).unwrap();
     let mut root = Tried { root, now };
     if settled {
         root.tick(now);
@@ -376,6 +389,33 @@ fn of_a_folder_what_changed_is_seen_whoever_changed_it() {
     seen(&|it| fs::remove_file(it.join("c")).unwrap(), vec![entry("c", None)]);
 }
 
+/// What was asked for is not read back, so nothing is due after it. Where somebody else has changed
+/// something beside it, that is read.
+#[test]
+fn what_others_change_beside_what_is_asked_for_is_seen() {
+    let folder = Folder::new("beside");
+    let path = |key: &str| folder.0.join(key);
+    let (mut root, now) = root(&folder.0, true);
+    let mut asks = |others: &dyn Fn(), value: Option<&str>, is_due: bool| {
+        others();
+        root.change("a", value.map(str::as_bytes)).unwrap();
+        assert_eq!(root.deadline() < now + ROUND, is_due, "{value:?}");
+        assert_eq!(next(&mut root), Some(('C', vec![entry("a", value)])));
+        if is_due {
+            root.tick(root.deadline());
+        }
+        next(&mut root)
+    };
+    assert_eq!(asks(&|| (), Some("1"), false), None);
+    assert_eq!(asks(&|| (), Some("2"), false), None);
+    assert_eq!(asks(&|| (), None, false), None);
+    let other = Some(('C', vec![entry("b", Some("3"))]));
+    assert_eq!(asks(&|| fs::write(path("b"), "3").unwrap(), Some("4"), true), other);
+    assert_eq!(asks(&|| fs::write(path("a"), "5").unwrap(), Some("6"), true), None);
+    assert_eq!(asks(&|| fs::remove_file(path("a")).unwrap(), Some("7"), true), None);
+    assert_eq!(asks(&|| fs::write(path("a"), "8").unwrap(), None, true), None);
+}
+
 #[test]
 fn what_cannot_be_read_unsets_nothing() {
     let folder = Folder::new("unread");
@@ -625,4 +665,163 @@ fn what_is_asked_for_while_the_disk_is_busy_is_bounded() {
     let value = vec![0; VALUE_BYTES];
     let taken = (0..100).filter(|_| root.ask("a", Some(&value)).is_ok()).count();
     assert!(taken <= 16, "{taken} values of 1 MiB wait");
+}
+
+/// Makes a folder's settings these.
+fn put(folder: &Folder, keys: &[&str]) {
+    for entry in fs::read_dir(&folder.0).unwrap().flatten() {
+        let name = entry.file_name().into_string().unwrap();
+        if name != ".empty" && !keys.contains(&&*name) {
+            fs::remove_file(entry.path()).unwrap();
+        }
+    }
+    keys.iter().for_each(|key| fs::write(folder.0.join(key), *key).unwrap());
+}
+
+/// What is not published, with the reason why it is held, as one line.
+fn diff(root: &mut Tried) -> (String, String) {
+    let now = root.now;
+    root.ask_diff(now, "who".into());
+    root.wait();
+    let (who, diff) = root.diffs().unwrap();
+    assert_eq!(who, ["who"]);
+    let sign = |bytes: Option<u64>| bytes.map_or("-".into(), |bytes| format!("{bytes} "));
+    let changes = diff.changes.iter().map(|it| format!("{}{}", sign(it.bytes), it.key));
+    let why = diff.held.split(": held").next().unwrap().to_owned();
+    (why, changes.collect::<Vec<_>>().join(", "))
+}
+
+fn said_of(why: &str, changes: &str) -> (String, String) {
+    (why.into(), changes.into())
+}
+
+/// Everything that is published until nothing waits.
+fn all(root: &mut Tried) -> Vec<Said> {
+    let next = std::iter::from_fn(|| next(root));
+    next.filter(|(kind, _)| *kind != 'H').map(|(_, said)| said).collect()
+}
+
+#[test]
+fn what_unsets_more_than_half_is_held_until_it_is_confirmed() {
+    let folder = Folder::new("held");
+    put(&folder, &["a", "b", "c", "d", "e"]);
+    let (mut root, now) = root(&folder.0, true);
+    // (as many as half of five, rounded down, may go)
+    put(&folder, &["a", "b", "c", "f"]);
+    root.notified(now);
+    root.tick(root.deadline());
+    assert_eq!(root.held(), 0);
+    let change = vec![entry("d", None), entry("e", None), entry("f", Some("f"))];
+    assert_eq!(all(&mut root), [change]);
+    // what goes since the last round counts together, however it comes
+    put(&folder, &["a", "b", "f"]);
+    root.notified(now);
+    root.tick(root.deadline());
+    let why = "3 of 5 settings would be unset";
+    assert_eq!((root.held(), all(&mut root)), (1, vec![]));
+    assert_eq!(diff(&mut root), said_of(why, "-c"));
+    assert_eq!(root.faults(), [format!("{why}: held until `rignoldactl confirm`")]);
+    // nothing is published of it, nor anything that is asked for, and no round's table
+    assert!(root.change("g", Some(b"g")).unwrap_err().contains("is held"));
+    root.tick(now + ROUND);
+    assert_eq!(all(&mut root), [] as [Said; 0]);
+    // what is confirmed is what was seen, and nothing that came since
+    assert_eq!(
+        root.confirm(1, now, "who".into()).unwrap_err()[..26],
+        *"another change is held sin"
+    );
+    put(&folder, &["a"]);
+    root.confirm(0, now, "who".into()).unwrap();
+    root.wait();
+    let answers = root.answers();
+    assert!(matches!(&answers[..], [(_, Err(why))] if why.contains("4 of 5")), "{answers:?}");
+    assert_eq!(diff(&mut root), said_of("4 of 5 settings would be unset", "-b, -c, -f"));
+    root.confirm(0, now, "who".into()).unwrap();
+    root.wait();
+    let table = vec![entry("a", Some("a"))];
+    assert_eq!(all(&mut root).last(), Some(&table));
+    assert_eq!(root.answers(), [("who".into(), Ok(()))]);
+    assert_eq!((root.held(), root.faults().len()), (0, 0));
+    assert!(root.confirm(0, now, "who".into()).unwrap_err().contains("nothing is held"));
+    // one setting alone may always go
+    put(&folder, &[]);
+    root.notified(now);
+    root.tick(root.deadline());
+    assert_eq!(all(&mut root), [vec![entry("a", None)]]);
+}
+
+#[test]
+fn what_comes_back_is_held_no_more() {
+    let folder = Folder::new("back");
+    put(&folder, &["a", "b", "c", "d"]);
+    let (mut root, now) = root(&folder.0, true);
+    // (who asks for it unsets as much as he wants to)
+    for key in ["a", "b", "c"] {
+        root.change(key, None).unwrap();
+    }
+    put(&folder, &["a", "b", "c", "d"]);
+    root.tick(now + ROUND);
+    all(&mut root);
+    put(&folder, &["a"]);
+    root.notified(now + ROUND);
+    root.tick(root.deadline());
+    assert_eq!((root.held(), all(&mut root)), (3, vec![]));
+    put(&folder, &["a", "b", "c", "d"]);
+    root.notified(now + ROUND);
+    root.tick(root.deadline());
+    assert_eq!((root.held(), all(&mut root)), (0, vec![]));
+    assert_eq!(diff(&mut root), said_of("", ""));
+}
+
+#[test]
+fn a_root_that_begins_anew_holds_what_its_own_files_lack() {
+    let folder = Folder::new("anew");
+    put(&folder, &["a"]);
+    let applied = |keys: &[&str]| keys.iter().map(|key| (key.to_string(), (*key).into())).collect();
+    let (mut root, now) = root_of(config(&folder.0), applied(&["a", "b", "c"]), false);
+    root.tick(now);
+    let why = "2 of 3 settings would be unset";
+    assert_eq!((root.held(), all(&mut root)), (2, vec![]));
+    assert_eq!(diff(&mut root), said_of(why, "-b, -c"));
+    assert!(root.change("a", Some(b"2")).unwrap_err().contains("is held"));
+    root.confirm(0, now, "who".into()).unwrap();
+    root.wait();
+    assert_eq!(all(&mut root).last(), Some(&vec![entry("a", Some("a"))]));
+    // one that holds each change has what it applied confirmed
+    let hold = config::Root { hold: true, ..config(&folder.0) };
+    let (mut root, now) = root_of(hold, applied(&["a"]), true);
+    assert_eq!((root.held(), all(&mut root)), (0, vec![]));
+    put(&folder, &["a", "b"]);
+    root.notified(now);
+    root.tick(root.deadline());
+    assert_eq!((root.held(), all(&mut root)), (1, vec![]));
+    assert_eq!(diff(&mut root), said_of("1 settings would change", "1 b"));
+}
+
+#[test]
+fn a_number_says_how_many_may_go() {
+    for (unsets, held) in [(0, 1), (1, 0)] {
+        let folder = Folder::new(&format!("number{unsets}"));
+        put(&folder, &["a", "b", "c", "d"]);
+        let config = config::Root { unsets: Some(unsets), ..config(&folder.0) };
+        let (mut root, now) = root_of(config, BTreeMap::new(), true);
+        put(&folder, &["a", "b", "c"]);
+        root.notified(now);
+        root.tick(root.deadline());
+        assert_eq!(root.held(), held, "{unsets}");
+    }
+}
+
+/// What waits while it drains is shown, and goes its way then.
+#[test]
+fn what_waits_for_the_end_of_a_drain_is_shown() {
+    let folder = Folder::new("drains");
+    put(&folder, &["a", "b"]);
+    let (mut root, now) = root(&folder.0, true);
+    root.drain(now);
+    put(&folder, &["a", "c"]);
+    assert_eq!(diff(&mut root), said_of("", "-b, 1 c"));
+    assert!(root.confirm(0, now, "who".into()).is_err());
+    root.resume();
+    assert_eq!(all(&mut root), [vec![entry("b", None), entry("c", Some("c"))]]);
 }

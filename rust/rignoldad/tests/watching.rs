@@ -1,6 +1,6 @@
 //! What is known of the agents below, and what is made of it.
 use rignoldactl::ask::{
-    bounds, depths, harmless_needed, lacks, too_few_harmless, tree_text, Bounds,
+    bounds, depths, harmless_needed, lacks, progress, too_few_harmless, tree_text, Bounds,
 };
 use rignoldactl::{ChildStatus, Compared, Seen, Status};
 use rignoldad::tree::{Below, REPORT_BYTES};
@@ -238,11 +238,11 @@ fn the_tree_is_a_line_for_each_agent() {
     let lines: Vec<&str> = text.lines().collect();
     assert_eq!(lines.len(), 6);
     assert!(lines[5].starts_with("      d"), "{text}");
-    assert!(lines.iter().skip(1).all(|line| line.ends_with("-      up")), "{text}");
+    assert!(lines.iter().skip(1).all(|line| line.ends_with("-      -        up")), "{text}");
     let compared = [Compared::Same, Compared::Differs, Compared::NotKnown];
     let list = compared.map(|compared| Seen { compared, ..seen("a", "", true) });
     let text = tree_text(&list);
-    let ends = ["same       up", "differ     up", "not known  up"];
+    let ends = ["same       -        up", "differ     -        up", "not known  -        up"];
     assert!(text.lines().skip(1).zip(ends).all(|(line, end)| line.ends_with(end)), "{text}");
     let lack = list.each_ref().map(|seen| lacks(seen, 5));
     assert_eq!(lack[0], None);
@@ -391,4 +391,40 @@ fn what_is_harmless_is_no_lag() {
     assert_eq!(lags, ["1", "1", "1", "2", "-"], "{text}");
     list[0].changed = 4;
     assert!(tree_text(&list).lines().nth(2).unwrap().contains(" 0 "));
+}
+
+/// What is said of a version is three numbers, and a certificate is said while it ends soon.
+#[test]
+fn what_an_agent_says_of_its_program_is_short() {
+    for (text, kept) in [
+        ("0.6.0", "0.6.0"),
+        ("1.0.1023", "1.0.1023"),
+        ("1.2", ""),
+        ("1.2.3.4", ""),
+        ("1.2.1024", ""),
+        ("1.2.-3", ""),
+        ("a", ""),
+    ] {
+        let bytes = format!(r#"[{{"name":"a","version":"{text}"}}]"#);
+        let (now, mut root) = (Instant::now(), Below::default());
+        assert!(root.heard("a", bytes.as_bytes(), now), "{text}");
+        let version = root.tree(&status("root", &["a"]), now)[1].version;
+        assert_eq!(rignoldactl::dotted::text(version), kept);
+    }
+    let expires = |certificate_expires| Status { certificate_expires, ..Status::default() };
+    let soon = rignoldactl::unix_now() + rignoldactl::SOON;
+    let said: [u64; 4] = [0, 1, soon - 60, soon + 60].map(|at| expires(at).seen().expires.into());
+    assert_eq!(said, [0, 1, soon - 60, 0]);
+}
+
+#[test]
+fn progress_is_a_short_line() {
+    let lacking =
+        |count| (0..count).map(|at| format!("n{at} is not connected")).collect::<Vec<_>>();
+    assert_eq!(progress(3, &[]), "3 of 3 agents have it");
+    assert_eq!(progress(3, &lacking(1)), "2 of 3 agents have it: n0 is not connected");
+    let line = "270 of 300 agents have it: n0 is not connected, and 29 more";
+    assert_eq!(progress(300, &lacking(30)), line);
+    let long = ["x".repeat(200), "y".repeat(200)];
+    assert!(progress(2, &long).len() <= 79 && progress(2, &long).ends_with(", and 1 more"));
 }

@@ -1,12 +1,13 @@
 //! The connections of an agent: who connects to whom, what is said first, and who is waited for.
 use super::parents::{Parents, Way, BEAT, NONE, SILENCE};
 use super::relay::Came;
-use super::wire::{self, Expect, Hello, Message, OLD, VERSION};
+use super::wire::{self, Expect, Hello, Message, FRAME_HEAD, OLD, VERSION};
 use super::{Body, Relay, Result};
 use crate::Connection;
+use std::cell::Cell;
 use std::collections::{BTreeMap, BTreeSet, VecDeque};
 use std::fmt;
-use std::io::{ErrorKind, Read, Write};
+use std::io::{ErrorKind, IoSlice, Read, Write};
 use std::mem;
 use std::sync::Arc;
 use std::time::{Duration, Instant};
@@ -35,8 +36,10 @@ const TURN_READS: usize = 128;
 const TURN_GREETINGS: usize = 8;
 /// How much is read at once: as much as TLS has in one record.
 const READ_BYTES: usize = 16 << 10;
-/// Up to this length a body is written together with its head.
+/// Up to this length a body is copied behind its head, where else it would go alone.
 const JOINED: usize = 16 << 10;
+/// A body that is longer than this is read to its place.
+const LONG: usize = READ_BYTES;
 /// How long a connection has to stand to count as one that did, and how often a refusal is said.
 const SHORT: Duration = Duration::from_secs(1);
 
@@ -48,6 +51,13 @@ pub trait Line: Read + Write {
     /// Where the other end is, and who, as far as that is known: for the journal.
     fn place(&self) -> String {
         "somewhere".into()
+    }
+
+    /// Whether it is a socket, or like one: a read that does not fill its room has taken all that
+    /// there was, so no other one follows it, unless [the other end closed](Peers::ends) the line;
+    /// and what is written by one call goes together.
+    fn is_socket(&self) -> bool {
+        false
     }
 }
 
@@ -201,6 +211,8 @@ struct Conn<L> {
     since: Instant,
     state: State,
     input: Vec<u8>,
+    /// The body that comes.
+    part: Option<Part>,
     output: VecDeque<Chunk>,
     /// How much of the first chunk is written.
     written: usize,
@@ -213,6 +225,8 @@ struct Conn<L> {
     is_old: bool,
     has_said: bool,
     is_mute: bool,
+    /// Whether its end comes behind what can be read.
+    ends: bool,
     /// The name that its hello had, right or not, in words.
     says: String,
 }
@@ -256,11 +270,55 @@ impl<L> Conn<L> {
 
     /// What is under way from a parent has its time by its length, however its bytes come.
     fn waits_for_rest(&mut self, now: Instant) {
-        let head = wire::head(&self.input).filter(|_| !self.is_timed);
-        self.is_timed |= head.is_some();
-        if head.is_some() || (self.until.is_none() && !self.input.is_empty()) {
-            let length = head.map_or(0, |(.., length)| length);
+        let part = self.part.as_ref().map(|part| part.body.bytes.len());
+        let length = part.or_else(|| wire::head(&self.input).map(|head| head.2));
+        let length = length.filter(|_| !self.is_timed);
+        self.is_timed |= length.is_some();
+        if length.is_some() || (self.until.is_none() && !self.input.is_empty()) {
+            let length = length.unwrap_or(0);
             self.until = Some(now + SILENCE + travels(length));
+        }
+    }
+}
+
+/// A long body of which the first bytes have come.
+struct Part {
+    label: u16,
+    body: Body,
+    come: usize,
+}
+
+impl<L> Conn<L> {
+    /// The next whole message of what came.
+    fn next(&mut self, expect: Expect) -> Result<Option<Message>> {
+        if self.part.is_none() {
+            let message = wire::take(&mut self.input, expect)?;
+            if message.is_some() || expect != Expect::Frames {
+                return Ok(message);
+            }
+            self.begin_part();
+        }
+        match self.part.take() {
+            Some(part) if part.come == part.body.bytes.len() => {
+                Ok(Some(Message::Frame(part.label, Arc::new(part.body))))
+            }
+            part => {
+                self.part = part;
+                Ok(None)
+            }
+        }
+    }
+
+    /// What has come of a long body goes to its place, and the rest is read there.
+    fn begin_part(&mut self) {
+        let head = wire::head(&self.input).filter(|(.., length)| *length > LONG);
+        if let Some((label, item, length)) = head {
+            let first = &self.input[FRAME_HEAD..];
+            let (mut bytes, come) = (vec![0; length], first.len());
+            bytes[..come].copy_from_slice(first);
+            self.input.clear();
+            let body = Body { item, bytes };
+            self.part = Some(Part { label, body, come });
         }
     }
 }
@@ -273,14 +331,19 @@ fn travels(length: usize) -> Duration {
 enum Chunk {
     Bytes(Vec<u8>),
     Way(Vec<u8>),
-    Body(Arc<Body>),
+    /// A frame: what is before its body, and that.
+    Frame([u8; FRAME_HEAD], Arc<Body>),
 }
 
 impl Chunk {
-    fn bytes(&self) -> &[u8] {
+    /// Its bytes from this place on, in two parts.
+    fn from(&self, place: usize) -> [&[u8]; 2] {
         match self {
-            Chunk::Bytes(bytes) | Chunk::Way(bytes) => bytes,
-            Chunk::Body(body) => &body.bytes,
+            Chunk::Bytes(bytes) | Chunk::Way(bytes) => [&[], &bytes[place..]],
+            Chunk::Frame(head, body) => match place.checked_sub(FRAME_HEAD) {
+                Some(place) => [&[], &body.bytes[place..]],
+                None => [&head[place..], &body.bytes],
+            },
         }
     }
 }
@@ -296,8 +359,13 @@ pub struct Peers<L, A> {
     relay: Relay,
     conns: BTreeMap<u64, Conn<L>>,
     made: u64,
-    /// Those of which more may be read at once.
+    /// Those of which more may be read at once, and those that have something new to write.
     again: Vec<u64>,
+    unsent: BTreeSet<u64>,
+    /// Those that were made, read or written since the caller asked for them.
+    touched: BTreeSet<u64>,
+    /// Before when there is nothing to do unless something comes, where that is known.
+    due: Cell<Option<Instant>>,
     dials: BTreeMap<Whom, Dial>,
     children: BTreeMap<String, u64>,
     /// The stores in which links lie, and these links.
@@ -314,8 +382,10 @@ pub struct Peers<L, A> {
     said_refused: Option<Instant>,
     /// How often a hello was late on a connection that was accepted: nobody knows whose.
     late: u32,
-    /// How many connections may wait without a hello, whatever else allows more.
+    /// How many connections may wait without a hello, whatever else allows more; and the same with
+    /// each bit turned, since nobody else knows it.
     waiting: usize,
+    not_waiting: usize,
     /// When the children are told the way again, and whether those in stores are.
     beat: Instant,
     says_again: bool,
@@ -337,6 +407,9 @@ impl<L: Line, A: Clone + PartialEq + fmt::Display> Peers<L, A> {
             conns: BTreeMap::new(),
             made: 0,
             again: Vec::new(),
+            unsent: BTreeSet::new(),
+            touched: BTreeSet::new(),
+            due: Cell::new(None),
             dials: BTreeMap::new(),
             children: BTreeMap::new(),
             stores: Vec::new(),
@@ -349,6 +422,7 @@ impl<L: Line, A: Clone + PartialEq + fmt::Display> Peers<L, A> {
             said_refused: None,
             late: 0,
             waiting: usize::MAX,
+            not_waiting: 0,
             beat: now + BEAT,
             says_again: false,
             space: vec![0; READ_BYTES].into_boxed_slice(),
@@ -395,6 +469,7 @@ impl<L: Line, A: Clone + PartialEq + fmt::Display> Peers<L, A> {
 
     /// Each child of the set-up is one, and all are called who have an address.
     fn dial_all(&mut self, now: Instant) {
+        self.due.set(None);
         let mut whoms = BTreeSet::new();
         for (at, parent) in self.setup.parents.iter().enumerate() {
             whoms.insert(Whom::Parent);
@@ -512,22 +587,50 @@ impl<L: Line, A: Clone + PartialEq + fmt::Display> Peers<L, A> {
         all.map(|(id, conn)| (*id, &conn.line, !conn.output.is_empty()))
     }
 
+    /// The line of this number, if there is one, and whether it has something to write.
+    pub fn line(&self, id: u64) -> Option<(&L, bool)> {
+        let conn = self.conns.get(&id)?;
+        Some((&conn.line, !conn.output.is_empty()))
+    }
+
+    /// Those of [`Peers::lines`] that were made, read or written since this was asked last: of all
+    /// others the same is waited for as before. After [`Peers::check`] they are all.
+    pub fn touched(&mut self) -> impl Iterator<Item = (u64, &L, bool)> {
+        let all = mem::take(&mut self.touched).into_iter();
+        all.filter_map(|id| {
+            self.line(id)
+                .map(|(line, has_output)| (id, line, has_output))
+        })
+    }
+
     /// The numbers of all connections of which this holds.
     fn all_that(&self, holds: impl Fn(&Conn<L>) -> bool) -> Vec<u64> {
         let all = self.conns.iter().filter(|(_, conn)| holds(conn));
         all.map(|(id, _)| *id).collect()
     }
 
-    /// When there is something to do although nothing comes.
+    /// When there may be something to do although nothing comes.
     pub fn deadline(&self, now: Instant) -> Option<Instant> {
-        let again = (!self.again.is_empty()).then_some(now);
+        if !self.again.is_empty() {
+            return Some(now);
+        }
+        // (a store may have something to do at any time)
+        let due = self.due.get();
+        let due = due.filter(|at| *at > now && self.words.is_empty());
+        let is_before = |due| self.first_due(now).map_or(true, |at| at >= due);
+        debug_assert!(due.map_or(true, is_before));
+        self.due.set(due.or_else(|| self.first_due(now)));
+        self.due.get()
+    }
+
+    fn first_due(&self, now: Instant) -> Option<Instant> {
         let beat = (!self.children.is_empty()).then_some(self.beat);
         let evicts = self.relay.evicts_at(self.setup.evict);
         let dials = self.dials.iter();
         let dials = dials.filter(|(whom, dial)| self.is_idle(whom, dial));
         let conns = self.conns.values().filter_map(|conn| conn.until);
         let all = conns.chain(dials.map(|(_, dial)| dial.next.unwrap_or(now)));
-        let all = all.chain(again).chain(beat).chain(evicts);
+        let all = all.chain(beat).chain(evicts);
         all.chain(self.turn_due()).min()
     }
 
@@ -535,7 +638,7 @@ impl<L: Line, A: Clone + PartialEq + fmt::Display> Peers<L, A> {
 
     /// At most so many connections wait for a hello from now on, as few descriptors are there, say.
     pub fn bound_waiting(&mut self, most: usize) {
-        self.waiting = most;
+        (self.waiting, self.not_waiting) = (most, !most);
     }
 
     /// Takes a line that was accepted. Of those whose hello has not come, one too many drives the
@@ -564,6 +667,7 @@ impl<L: Line, A: Clone + PartialEq + fmt::Display> Peers<L, A> {
             since: now,
             state,
             input: Vec::new(),
+            part: None,
             output: VecDeque::new(),
             written: 0,
             until: Some(until),
@@ -571,9 +675,12 @@ impl<L: Line, A: Clone + PartialEq + fmt::Display> Peers<L, A> {
             is_old: false,
             has_said: false,
             is_mute: false,
+            ends: false,
             says: String::new(),
         };
         self.conns.insert(self.made, conn);
+        self.touched.insert(self.made);
+        self.due.set(None);
         self.made
     }
 
@@ -628,6 +735,7 @@ impl<L: Line, A: Clone + PartialEq + fmt::Display> Peers<L, A> {
 
     /// A connection that is to be made now. What became of it is to be told to [`Peers::called`].
     pub fn next_call(&mut self, now: Instant, to: &mut dyn Handler) -> Option<Call<A>> {
+        self.due.set(None);
         let is_due = |dial: &Dial| dial.next.map_or(true, |at| now >= at);
         let is = |(whom, dial): &(&Whom, &Dial)| is_due(dial) && self.is_idle(whom, dial);
         let (whom, _) = self.dials.iter().find(is)?;
@@ -651,6 +759,7 @@ impl<L: Line, A: Clone + PartialEq + fmt::Display> Peers<L, A> {
 
     /// A call has ended: whether it is wanted still.
     fn is_wanted(&mut self, call: &Call<A>) -> bool {
+        self.due.set(None);
         let is_same = self.address(&call.whom) == Some(&call.address);
         let dial = self.dials.get_mut(&call.whom);
         let was_under_way = dial.map_or(false, |dial| mem::take(&mut dial.under_way));
@@ -706,6 +815,7 @@ impl<L: Line, A: Clone + PartialEq + fmt::Display> Peers<L, A> {
     }
 
     fn dial_with(&mut self, whom: &Whom, change: impl FnOnce(&mut Dial)) {
+        self.due.set(None);
         if let Some(dial) = self.dials.get_mut(whom) {
             change(dial);
         }
@@ -752,7 +862,7 @@ impl<L: Line, A: Clone + PartialEq + fmt::Display> Peers<L, A> {
                 conn.output.pop_back();
             }
             let way = wire::way(self.parents.says());
-            conn.output.push_back(Chunk::Way(way));
+            self.push(id, Chunk::Way(way));
         }
     }
 
@@ -790,12 +900,20 @@ impl<L: Line, A: Clone + PartialEq + fmt::Display> Peers<L, A> {
     }
 
     fn send(&mut self, id: u64, bytes: Vec<u8>) {
-        self.conn_with(id, |conn| conn.output.push_back(Chunk::Bytes(bytes)));
+        self.push(id, Chunk::Bytes(bytes));
+    }
+
+    /// This is to be written behind all that is to be written already.
+    fn push(&mut self, id: u64, chunk: Chunk) {
+        self.conn_with(id, |conn| conn.output.push_back(chunk));
+        self.unsent.insert(id);
+        self.touched.insert(id);
     }
 
     /// Somebody cannot be connected to now: the next one is tried after a while.
     fn fails(&mut self, whom: &Whom, why: &str, cx: &mut Context<'_>) {
         let (all, at) = (self.all(whom), self.parents.at());
+        self.due.set(None);
         let dial = match self.dials.get_mut(whom) {
             Some(dial) => dial,
             None => return,
@@ -849,6 +967,8 @@ impl<L: Line, A: Clone + PartialEq + fmt::Display> Peers<L, A> {
             Some(conn) => conn,
             None => return,
         };
+        self.due.set(None);
+        self.touched.remove(&id);
         let place = conn.line.place();
         match &conn.state {
             State::Answered => (),
@@ -919,6 +1039,7 @@ impl<L: Line, A: Clone + PartialEq + fmt::Display> Peers<L, A> {
     /// Who was left is called again after a while, or the next one is.
     fn redial(&mut self, whom: &Whom, greeted: Option<Instant>, why: &str, cx: &mut Context<'_>) {
         let all = self.all(whom);
+        self.due.set(None);
         let dial = match self.dials.get_mut(whom) {
             Some(dial) => dial,
             None => return,
@@ -942,6 +1063,7 @@ impl<L: Line, A: Clone + PartialEq + fmt::Display> Peers<L, A> {
 
     /// Closes what waited too long, and drops the backlog of who is away too long.
     pub fn tick(&mut self, now: Instant, to: &mut dyn Handler) {
+        self.due.set(None);
         let cx = &mut Context { now, to };
         for id in self.all_that(|conn| conn.until.map_or(false, |at| now >= at)) {
             match self.conns.get(&id).map(|conn| &conn.state) {
@@ -968,6 +1090,11 @@ impl<L: Line, A: Clone + PartialEq + fmt::Display> Peers<L, A> {
 
     // ---- Bytes
 
+    /// The other end has closed this line: it is read to its end.
+    pub fn ends(&mut self, id: u64) {
+        self.conn_with(id, |conn| conn.ends = true);
+    }
+
     /// Reads lines that can be read, and those of which there is more: each whole message is
     /// handled, and what follows from it is written.
     pub fn read(&mut self, ids: impl IntoIterator<Item = u64>, now: Instant, to: &mut dyn Handler) {
@@ -989,20 +1116,40 @@ impl<L: Line, A: Clone + PartialEq + fmt::Display> Peers<L, A> {
                     self.leave_line(id, &why, cx);
                 }
             }
+            self.comes_until(self.conns.get(&id).and_then(|conn| conn.until));
         }
         self.tell(now);
+    }
+
+    /// There may be something to do by then.
+    fn comes_until(&self, at: Option<Instant>) {
+        let due = self.due.get();
+        self.due
+            .set(due.map(|due| at.map_or(due, |at| due.min(at))));
     }
 
     fn read_one(&mut self, id: u64, cx: &mut Context<'_>) -> Result<(), String> {
         let (mut total, mut reads) = (0, 0);
         while let Some(conn) = self.conns.get_mut(&id) {
             reads += 1;
-            match conn.line.read(&mut self.space) {
+            let room = match &mut conn.part {
+                Some(part) => &mut part.body.bytes[part.come..],
+                None => &mut self.space[..],
+            };
+            let most = room.len().min(TURN_BYTES);
+            match conn.line.read(&mut room[..most]) {
                 Ok(0) => return Err("the other end closed it".into()),
                 Ok(count) => {
                     total += count;
-                    conn.input.extend_from_slice(&self.space[..count]);
+                    let is_all = count < most && !conn.ends && conn.line.is_socket();
+                    match &mut conn.part {
+                        Some(part) => part.come += count,
+                        None => conn.input.extend_from_slice(&self.space[..count]),
+                    }
                     self.messages(id, cx)?;
+                    if is_all {
+                        break;
+                    }
                 }
                 Err(e) if e.kind() == ErrorKind::WouldBlock => break,
                 Err(e) if e.kind() == ErrorKind::Interrupted => (),
@@ -1020,7 +1167,7 @@ impl<L: Line, A: Clone + PartialEq + fmt::Display> Peers<L, A> {
     /// Writes what can be written now.
     pub fn write(&mut self, now: Instant, to: &mut dyn Handler) {
         let cx = &mut Context { now, to };
-        for id in self.all_that(|conn| !conn.output.is_empty()) {
+        for id in mem::take(&mut self.unsent) {
             self.write_one(id, cx);
         }
     }
@@ -1030,14 +1177,18 @@ impl<L: Line, A: Clone + PartialEq + fmt::Display> Peers<L, A> {
             Some(conn) => conn,
             None => return,
         };
+        self.touched.insert(id);
         while let Some(chunk) = conn.output.front() {
-            let left = &chunk.bytes()[conn.written..];
-            if left.is_empty() {
-                conn.output.pop_front();
-                conn.written = 0;
-                continue;
-            }
-            match conn.line.write(left) {
+            let done = match chunk.from(conn.written) {
+                [&[], &[]] => {
+                    conn.output.pop_front();
+                    conn.written = 0;
+                    continue;
+                }
+                [&[], left] | [left, &[]] => conn.line.write(left),
+                both => conn.line.write_vectored(&both.map(IoSlice::new)),
+            };
+            match done {
                 Ok(0) => return self.leave_line(id, "it takes nothing", cx),
                 Ok(count) => conn.written += count,
                 Err(e) if e.kind() == ErrorKind::WouldBlock => return,
@@ -1055,7 +1206,7 @@ impl<L: Line, A: Clone + PartialEq + fmt::Display> Peers<L, A> {
             }
             conn.has_said = true;
             let expect = conn.expects();
-            let message = wire::take(&mut conn.input, expect)?;
+            let message = conn.next(expect)?;
             match (expect, &message) {
                 (Expect::Frames, Some(_)) => conn.is_alive(cx.now),
                 (Expect::Frames, None) => conn.waits_for_rest(cx.now),
@@ -1071,6 +1222,12 @@ impl<L: Line, A: Clone + PartialEq + fmt::Display> Peers<L, A> {
 
     fn message(&mut self, id: u64, message: Message, cx: &mut Context<'_>) -> Result {
         let conn = self.conns.get_mut(&id).ok_or("it is gone")?;
+        if !matches!(
+            message,
+            Message::Frame(..) | Message::Ack(_) | Message::Report(_)
+        ) {
+            self.due.set(None);
+        }
         match (conn.link(), message) {
             (_, Message::Hello(hello)) => return self.greets(id, hello, false, cx),
             (link, Message::Look(hello)) => {
@@ -1350,8 +1507,8 @@ impl<L: Line, A: Clone + PartialEq + fmt::Display> Peers<L, A> {
         let conn = self.above.and_then(|id| self.conns.get_mut(&id));
         // (what waits there already is not added to)
         let conn = conn.filter(|conn| conn.greeted().is_some() && conn.output.is_empty());
-        let report = || Chunk::Bytes(wire::report(report));
-        conn.map(|conn| conn.output.push_back(report())).is_some()
+        let id = conn.and(self.above);
+        id.map(|id| self.send(id, wire::report(report))).is_some()
     }
 
     /// How long a child's next answer may take.
@@ -1369,19 +1526,18 @@ impl<L: Line, A: Clone + PartialEq + fmt::Display> Peers<L, A> {
 
     /// Sends a child what is to be sent to it now.
     fn poll(&mut self, name: &str, now: Instant) {
-        let patience = self.patience(name);
         let id = self.children.get(name).copied();
         let frame = id.and_then(|_| self.relay.poll(name, now));
-        let conn = id.and_then(|id| self.conns.get_mut(&id));
-        if let (Some(conn), Some((label, body))) = (conn, frame) {
-            conn.until = Some(now + patience + travels(body.bytes.len()));
-            let mut head = wire::frame(label, &body);
-            if body.bytes.len() <= JOINED {
-                head.extend_from_slice(&body.bytes);
-                conn.output.push_back(Chunk::Bytes(head));
-            } else {
-                conn.output.extend([Chunk::Bytes(head), Chunk::Body(body)]);
-            }
+        if let (Some(id), Some((label, body))) = (id, frame) {
+            let until = Some(now + self.patience(name) + travels(body.bytes.len()));
+            self.conn_with(id, |conn| conn.until = until);
+            self.comes_until(until);
+            let is_socket = self.line(id).map_or(false, |(line, _)| line.is_socket());
+            let frame = match is_socket || body.bytes.len() > JOINED {
+                true => Chunk::Frame(wire::frame_head(label, &body), body),
+                false => Chunk::Bytes([&wire::frame_head(label, &body), &*body.bytes].concat()),
+            };
+            self.push(id, frame);
         }
     }
 }

@@ -1,6 +1,7 @@
 //! A node of the tree with the bodies of its items, and its children.
 use super::{Body, BODY_BYTES};
 use crate::{Child, Connection, Frame, Node, Params, Session};
+use std::cell::Cell;
 use std::collections::{BTreeMap, VecDeque};
 use std::sync::Arc;
 use std::time::{Duration, Instant};
@@ -71,8 +72,13 @@ pub struct Relay {
     /// A child that is never sent to: its place is the last whole table.
     table: Option<Child>,
     children: BTreeMap<String, Link>,
-    /// Whether a child's place has changed since what is needed by none was forgotten.
+    /// Whether more may be forgotten than was; and how many children lacked the first item that was
+    /// kept then, and have not been offered it since. While there is one, nothing more may.
     moved: bool,
+    front: usize,
+    /// The place that a connected child has acknowledged furthest, where that is known, and there
+    /// is such a child.
+    quickest: Cell<Option<Option<u64>>>,
 }
 
 /// The link to a child.
@@ -155,6 +161,8 @@ impl Relay {
             table: None,
             children: BTreeMap::new(),
             moved: false,
+            front: 0,
+            quickest: Cell::new(None),
         }
     }
 
@@ -263,6 +271,8 @@ impl Relay {
             Above::Below(session) => session.forget(lacking),
         }
         let node = self.above.node();
+        let first = |link: &&Link| !link.left && link.session.offered() == node.forgotten();
+        self.front = self.children.values().filter(first).count();
         let kept = (node.length() - node.forgotten()) as usize;
         let dropped = self.bodies.drain(..self.bodies.len() - kept);
         self.bytes -= dropped.map(|body| body.bytes.len()).sum::<usize>();
@@ -347,6 +357,7 @@ impl Relay {
     /// A child is one no longer.
     pub fn remove(&mut self, name: &str) {
         self.children.remove(name);
+        self.quickest.set(None);
         self.forget();
     }
 
@@ -354,6 +365,7 @@ impl Relay {
     pub fn made_to(&mut self, name: &str) -> Option<Connection> {
         let link = self.children.get_mut(name)?;
         (link.connection, link.words) = (None, false);
+        self.quickest.set(None);
         link.session.made()
     }
 
@@ -387,6 +399,7 @@ impl Relay {
     /// begins anew at the last whole table, with this label. Whether it did.
     fn begin(&mut self, name: &str, life: u64, label: u16) -> Option<bool> {
         let since = self.since_table();
+        self.quickest.set(None);
         let (link, node) = (self.children.get_mut(name)?, self.above.node());
         let anew = link.lives.front() != Some(&life) || link.left;
         if anew {
@@ -412,6 +425,7 @@ impl Relay {
             link.session.ended(connection);
             if link.connection == Some(connection) {
                 (link.connection, link.sent, link.since) = (None, None, now);
+                self.quickest.set(None);
             }
         }
     }
@@ -426,7 +440,10 @@ impl Relay {
         let is_word = frame.is_none() && !link.left;
         let frame = frame.or_else(|| session.poll_word(node).filter(|_| is_word))?;
         if session.offered() != before {
-            self.moved = true;
+            if before == node.forgotten() {
+                self.front = self.front.saturating_sub(1);
+                self.moved |= self.front == 0;
+            }
             let place = (before - node.forgotten()) as usize;
             (link.held, link.sent) = (self.bodies.get(place).cloned(), None);
         }
@@ -449,6 +466,12 @@ impl Relay {
         };
         if taken {
             link.held = None;
+            let node = self.above.node();
+            let place = node
+                .length()
+                .saturating_sub(node.backlog(link.session.end()));
+            let quickest = self.quickest.get().map(|it| it.max(Some(place)));
+            self.quickest.set(quickest.filter(|_| link.is_connected()));
         }
         // (the first one on a connection may be no answer, and a word may show an old one)
         if taken || by.is_some() {
@@ -487,6 +510,7 @@ impl Relay {
         if let Some(link) = self.children.get_mut(name).filter(|link| link.words) {
             link.words = false;
             link.since = now;
+            self.quickest.set(None);
         }
     }
 
@@ -495,6 +519,7 @@ impl Relay {
         if let Some(link) = self.children.get_mut(name) {
             (link.left, link.held) = (true, None);
             self.moved = true;
+            self.quickest.set(None);
         }
     }
 
@@ -536,7 +561,17 @@ impl Relay {
 
     /// The backlog of the child that is least behind, of those that are connected.
     pub fn least_backlog(&self) -> Option<u64> {
-        let links = self.children.values().filter(|link| link.is_connected());
-        links.map(|link| self.backlog(link)).min()
+        let length = self.above.node().length();
+        // (for one that was left behind nothing waits, whatever comes)
+        let place = |link: &Link| match link.left {
+            true => u64::MAX,
+            false => length.saturating_sub(self.backlog(link)),
+        };
+        let links = || self.children.values().filter(|link| link.is_connected());
+        let quickest = self.quickest.get();
+        debug_assert!(quickest.map_or(true, |it| it == links().map(place).max()));
+        let quickest = quickest.unwrap_or_else(|| links().map(place).max());
+        self.quickest.set(Some(quickest));
+        quickest.map(|place| length.saturating_sub(place))
     }
 }

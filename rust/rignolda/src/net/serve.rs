@@ -154,7 +154,8 @@ impl<T, L: Listener> Server<T, L> {
             if now >= client.until || !client.write() {
                 return false;
             }
-            if client.asked || !client.output.is_empty() {
+            let is_ready = client.again || fired.contains(&client.socket.as_raw_fd());
+            if client.asked || !client.output.is_empty() || !is_ready {
                 return true;
             }
             client.again = false;
@@ -207,7 +208,8 @@ impl<T, L: Listener> Server<T, L> {
                         input: Vec::new(),
                         output: Vec::new(),
                         asked: false,
-                        again: false,
+                        // (it may have sent a request already)
+                        again: true,
                         last: false,
                         until,
                     });
@@ -223,12 +225,22 @@ impl<T, L: Listener> Server<T, L> {
 }
 
 impl<S: Read + Write> Client<S> {
-    /// Reads what there is, up to the bound. Whether the connection goes on.
+    /// Reads what there is, up to the bound. Whether the connection goes on, as far as is known: a
+    /// read that does not fill its room has taken all that there was, and is the last one.
     fn read(&mut self, most: usize) -> bool {
-        let room = most.saturating_sub(self.input.len()) as u64;
-        match (&mut self.socket).take(room).read_to_end(&mut self.input) {
-            Ok(_) => self.input.len() >= most,
-            Err(error) => error.kind() == ErrorKind::WouldBlock,
+        let mut space = [0; 4_096];
+        loop {
+            let room = most.saturating_sub(self.input.len()).min(space.len());
+            match self.socket.read(&mut space[..room]) {
+                Ok(count) => {
+                    self.input.extend_from_slice(&space[..count]);
+                    if count < space.len() {
+                        return count > 0 || room == 0;
+                    }
+                }
+                Err(error) if error.kind() == ErrorKind::Interrupted => (),
+                Err(error) => return error.kind() == ErrorKind::WouldBlock,
+            }
         }
     }
 

@@ -37,8 +37,10 @@ pub struct Worker<J, D> {
     thread: thread::JoinHandle<()>,
     /// Whether it does one now.
     works: Arc<AtomicBool>,
-    /// How many jobs have no answer yet; and at how many looks in turn it did none of them.
+    /// How many jobs have no answer yet, and whether none was waited for since the last look; and at
+    /// how many looks in turn it did none of them.
     waits: Cell<u32>,
+    rested: Cell<bool>,
     lost: Cell<u32>,
 }
 
@@ -77,6 +79,7 @@ impl<J: Send + 'static, D: Send + 'static> Worker<J, D> {
             thread,
             works,
             waits: Cell::new(0),
+            rested: Cell::new(true),
             lost: Cell::new(0),
         })
     }
@@ -91,12 +94,15 @@ impl<J: Send + 'static, D: Send + 'static> Worker<J, D> {
     pub fn done(&self) -> Option<D> {
         let done = self.done.try_recv().ok()?;
         self.waits.set(self.waits.get().saturating_sub(1));
+        self.rested.set(self.rested.get() || self.waits.get() == 0);
         Some(done)
     }
 
     /// Whether so many jobs have no answer yet, and it does them: to be asked once a second.
     pub fn is_asked(&self, count: u32) -> bool {
-        let is_idle = count > 0 && !self.works.load(Ordering::Relaxed);
+        // (one that is given a job before each look may not have begun it)
+        let rested = self.rested.replace(false);
+        let is_idle = count > 0 && !rested && !self.works.load(Ordering::Relaxed);
         self.lost.set(if is_idle { self.lost.get() + 1 } else { 0 });
         let can = !self.thread.is_finished() && self.lost.get() < LOST;
         can && self.waits.get() == count

@@ -29,7 +29,6 @@
 //! ```
 use super::parents::{Way, NAMES};
 use super::{is_name, Body, Result, BODY_BYTES, NAME_BYTES};
-use std::mem;
 use std::sync::Arc;
 
 /// The version of the protocol, and the one before it, which is spoken to those that know no other.
@@ -112,9 +111,14 @@ impl Hello {
 
 /// The head of a frame: its body follows.
 pub fn frame(label: u16, body: &Body) -> Vec<u8> {
-    let (label, item) = (label.to_be_bytes(), body.item.to_be_bytes());
-    let length = (body.bytes.len() as u32).to_be_bytes();
-    [b"F", &label[..], &item, &length].concat()
+    frame_head(label, body).to_vec()
+}
+
+pub(super) fn frame_head(label: u16, body: &Body) -> [u8; FRAME_HEAD] {
+    let [a, b] = label.to_be_bytes();
+    let [c, d, e, f] = body.item.to_be_bytes();
+    let [g, h, i, j] = (body.bytes.len() as u32).to_be_bytes();
+    [b'F', a, b, c, d, e, f, g, h, i, j]
 }
 
 /// A way.
@@ -193,11 +197,8 @@ pub fn take(input: &mut Vec<u8>, expect: Expect) -> Result<Option<Message>> {
             return Err("a body is too long");
         }
         (Expect::Frames, Some((label, item, length))) if input.len() >= FRAME_HEAD + length => {
-            // (the buffer itself becomes the body where nothing follows, as is usual)
-            let after = input.split_off(FRAME_HEAD + length);
-            let mut bytes = mem::replace(input, after);
-            bytes.drain(..FRAME_HEAD);
-            bytes.shrink_to_fit();
+            let bytes = input[FRAME_HEAD..FRAME_HEAD + length].to_vec();
+            input.drain(..FRAME_HEAD + length);
             return Ok(Some(Message::Frame(label, Arc::new(Body { item, bytes }))));
         }
         _ => parse(&mut rest, expect),

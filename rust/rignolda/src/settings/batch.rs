@@ -98,12 +98,14 @@ impl Batch {
         let all = std::mem::take(&mut self.new);
         let done = sync(&all);
         let mut failed = Vec::new();
-        for (new, synced) in all.into_iter().zip(done) {
-            match synced.and_then(|()| fs::rename(&new.beside, &new.path)) {
-                Ok(()) => self.folders.extend(new.path.parent().map(Path::to_owned)),
+        for (New { file, beside, path }, synced) in all.into_iter().zip(done) {
+            // (who watches the folder sees one change of a file that comes to its place closed)
+            drop(file);
+            match synced.and_then(|()| fs::rename(&beside, &path)) {
+                Ok(()) => self.folders.extend(path.parent().map(Path::to_owned)),
                 Err(error) => {
-                    let _ = fs::remove_file(&new.beside);
-                    failed.push((new.path, error));
+                    let _ = fs::remove_file(&beside);
+                    failed.push((path, error));
                 }
             }
         }

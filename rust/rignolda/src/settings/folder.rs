@@ -25,7 +25,7 @@ const NEW: &str = ".new";
 /// folder.put("colour", Some(b"red"), 0o640)?;
 /// assert!(!folder.differs("colour", Some(b"red"), 0o640));
 /// assert!(folder.differs("colour", Some(b"blue"), 0o640));
-/// assert!(folder.had("colour", b"red"));
+/// assert!(folder.had("colour", b"red") && folder.knows("colour"));
 /// assert_eq!(folder.names(), ["colour"]);
 /// std::fs::remove_dir_all(path)?;
 /// # Ok::<(), std::io::Error>(())
@@ -82,8 +82,12 @@ impl Folder {
     ///
     /// Where the system refuses it.
     pub fn mend(&self) -> io::Result<()> {
-        fs::create_dir_all(&self.path)?;
-        let mode = fs::metadata(&self.path)?.permissions().mode();
+        let there = fs::metadata(&self.path).ok().filter(|it| it.is_dir());
+        let there = there.map_or_else(
+            || fs::create_dir_all(&self.path).and_then(|()| fs::metadata(&self.path)),
+            Ok,
+        );
+        let mode = there?.permissions().mode();
         match mode & 0o700 {
             0o700 => Ok(()),
             _ => fs::set_permissions(&self.path, Permissions::from_mode(mode | 0o700)),
@@ -107,6 +111,11 @@ impl Folder {
     /// else did in the folder is not seen.
     pub fn had(&self, key: &str, value: &[u8]) -> bool {
         self.put.get(key) == Some(&self.digest(value))
+    }
+
+    /// Whether any value of this key was put, or found there, last.
+    pub fn knows(&self, key: &str) -> bool {
+        self.put.contains_key(key)
     }
 
     /// The keys of the values that were put, or found there, last.

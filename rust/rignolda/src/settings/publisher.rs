@@ -1,5 +1,5 @@
 //! What the root publishes.
-use super::{entry_bytes, proved, Meaning, HEAD, SETTINGS, VALUE_BYTES};
+use super::{entry_bytes, proved, Entry, Meaning, HEAD, SETTINGS, VALUE_BYTES};
 use crate::net::{Body, BODY_BYTES};
 use std::collections::{BTreeMap, BTreeSet, VecDeque};
 use std::sync::Arc;
@@ -30,6 +30,28 @@ pub struct Published {
     pub is_table: bool,
     /// The keys of those changes that were waiting and are in it.
     pub keys: BTreeSet<String>,
+}
+
+/// What has to be changed to make these settings those: each key with its new value, and then those
+/// that are unset, with none.
+///
+/// ```
+/// use rignolda::settings::differences;
+///
+/// let all = |all: &[(&str, &str)]| all.iter().map(|it| (it.0.into(), it.1.into())).collect();
+/// let (old, new) = (all(&[("a", "1"), ("b", "2"), ("c", "3")]), all(&[("a", "1"), ("c", "4")]));
+/// assert_eq!(differences(&old, &new), [("c", Some(&b"4"[..])), ("b", None)]);
+/// ```
+pub fn differences<'a>(
+    old: &'a BTreeMap<String, Vec<u8>>,
+    new: &'a BTreeMap<String, Vec<u8>>,
+) -> Vec<Entry<'a>> {
+    let set = new
+        .iter()
+        .filter(|(key, value)| old.get(*key) != Some(value));
+    let set = set.map(|(key, value)| (key.as_str(), Some(value.as_slice())));
+    let gone = old.keys().filter(|key| !new.contains_key(*key));
+    set.chain(gone.map(|key| (key.as_str(), None))).collect()
 }
 
 impl Publisher {
@@ -106,13 +128,20 @@ impl Publisher {
 
     /// Takes all settings anew: what differs is published.
     pub fn replace(&mut self, settings: BTreeMap<String, Vec<u8>>) {
+        let differ = differences(&self.settings, &settings).into_iter();
+        let differ: Vec<String> = differ.map(|(key, _)| key.to_owned()).collect();
         self.bytes = Publisher::bytes_of(&settings);
-        let old = std::mem::replace(&mut self.settings, settings);
-        let new = self.settings.iter();
-        let new = new.filter(|(key, value)| old.get(*key) != Some(value));
-        let gone = old.keys().filter(|key| !self.settings.contains_key(*key));
-        let differ: Vec<String> = new.map(|(key, _)| key).chain(gone).cloned().collect();
+        self.settings = settings;
         differ.iter().for_each(|key| self.changes(key));
+    }
+
+    /// The keys whose last value is not published yet, each with this value, or none where it is
+    /// unset.
+    pub fn changed(&self) -> impl Iterator<Item = Entry<'_>> {
+        let value = |key: &String| self.settings.get(key).map(Vec::as_slice);
+        self.changed
+            .iter()
+            .map(move |key| (key.as_str(), value(key)))
     }
 
     /// A round with `harmless` harmless items begins, 65,535 at most. One that is under way goes on

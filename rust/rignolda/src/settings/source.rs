@@ -130,10 +130,13 @@ pub fn read_plain(path: &Path, most: usize) -> io::Result<Vec<u8>> {
         Err(_) if !is_file() => return Err(other(NO_FILE)),
         file => file?,
     };
-    if !file.metadata()?.is_file() {
+    let is = file.metadata()?;
+    if !is.is_file() {
         return Err(other(NO_FILE));
     }
-    let mut bytes = Vec::new();
+    // (with room for its end too, so that nothing is read or copied twice)
+    let room = is.len().min(most as u64) as usize + 32;
+    let mut bytes = Vec::with_capacity(room);
     file.take(most as u64 + 1).read_to_end(&mut bytes)?;
     match bytes.len() > most {
         true => Err(other(&format!("it has more than {most} bytes"))),

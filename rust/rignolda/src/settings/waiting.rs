@@ -101,6 +101,11 @@ impl Waiting {
             .for_each(|change| change.first = 0);
     }
 
+    /// Whether nothing waits.
+    pub fn is_empty(&self) -> bool {
+        self.changes.is_empty() && self.whole.is_none()
+    }
+
     /// How many changes wait.
     pub fn count(&self) -> usize {
         self.changes.len()

@@ -14,5 +14,5 @@ pub returns : goal.returns
 returns c job params start = record {
   offered = all_picked (offers_of job.events) (replay job.params (initial job.start) job.events)
       (replay_offers job.params (initial job.start) job.events);
-  law = c.every_replay_obeys_the_link_law.ensures job.params job.start job.events params start;
+  law = c.every_replay_obeys_the_sharper_link_law.ensures job.params job.start job.events params start;
 }

@@ -1,5 +1,3 @@
-use Rattle.std.proofs.Common.{refl}
-use Rattle.stab_treecore.specs.NodeLaws.{most_missing}
 use Rattle.rignolda_logs.proofs.AnyGarbage.{half_of, is_ordered}
 use Rattle.rignolda_logs.proofs.judged.is_ordered.Goals as goal
 
@@ -9,10 +7,10 @@ returns c =
     let logs = c.args.logs.now in
     let node = c.args.node in (
       λ yes.
-          is_ordered net logs node c.strays_at-strays.result (most_missing net node) c.counted-counted.result.now c.received_at-received.result.now
-          c.strays_at-strays.ensures refl c.counted-counted.ensures c.received_at-received.ensures (c.obeys_half_tree_law.ensures.0 yes),
+          is_ordered net logs node c.strays_at-strays.result c.counted-counted.result.now c.received_at-received.result.now
+          c.strays_at-strays.ensures c.counted-counted.ensures c.received_at-received.ensures (c.obeys_half_tree_law.ensures.0 yes),
       λ is.
           c.obeys_half_tree_law.ensures.1
-          (half_of net logs node c.strays_at-strays.result (most_missing net node) c.counted-counted.result.now c.received_at-received.result.now
-          c.strays_at-strays.ensures refl c.counted-counted.ensures c.received_at-received.ensures is),
+          (half_of net logs node c.strays_at-strays.result c.counted-counted.result.now c.received_at-received.result.now
+          c.strays_at-strays.ensures c.counted-counted.ensures c.received_at-received.ensures is),
     )

@@ -22,14 +22,9 @@ links-preserved c =
     let one : left ≡ suc more = omega (arith, depth_is, c.links-test.true) in
     let is_child : parent_at parents at ≡ Some up =
     ap (λ (t : Nodes). parent_at t.parents at) same ∙ sym c.in-Some.ensures.value in
-    let capacity_is : c.from.result ≡ capacity_into net at = c.from.ensures ∙ c.capacity_into.ensures in
-    let kept_is : c.from-in-links.result ≡ kept_for parents net.openings.hold at =
-    c.from-in-links.ensures ∙ (c.kept_for.ensures
-    ∙ (ap (λ (t : Nodes). kept_for t.parents c.args.hold at) (sym same)
-    ∙ ap (λ (h : ℕ). kept_for parents h at) (sym c.requires.same_hold))) in
-    let added : c.from.result + c.from-in-links.result ≡ number at = omega (arith, capacity_is, kept_is) in (
+    let added : c.strays_into-strays.result ≡ number at = c.strays_into-strays.ensures.is in (
       c.in-Some.ensures.known,
-      omega (arith, c.links.invariant.1, c.from.ensures, c.capacity_into.type_inv, c.from-in-links.ensures, c.kept_for.type_inv),
+      omega (arith, c.links.invariant.1, c.strays_into-strays.ensures.few),
       subst (λ (n : ℕ). Climbing parents number more up (c.links.strays + n) (strays_at net node)) (sym added)
           (climbed parents number left more at up c.links.strays (strays_at net node) one is_child c.links.invariant.2),
     )

@@ -15,7 +15,6 @@ returns c net r tree fit entries nodes =
       root = root;
       links = links;
       handed_on = handed;
-      tree_law = tree_law net r tree fit root links handed c.tree_law_at_every_node.ensures;
-      complete = complete net r tree fit root links handed c.root_obeys_the_complete_law.ensures c.complete_law_of_the_child.ensures
-          c.tree_law_past_an_opening.ensures.complete_law c.laws_of_larger_bounds.ensures.complete;
+      tree_law = tree_law net r tree fit root links handed c.tree_law_along_a_path.ensures.sharper;
+      complete = complete net r tree fit root links handed;
     }

@@ -7,7 +7,7 @@ pub returns-clause-obeys : goal.returns-clause-obeys
 returns-clause-obeys c net events is =
     let t = tree_replay (initial_tree net) events in
     let run = schedule_is_run c.reachable_steps.ensures net events is in
-    let obey = c.every_replay_obeys_the_link_law.ensures in
+    let obey = c.every_replay_obeys_the_sharper_link_law.ensures in
     c.explained_reports_obey.ensures.report net (report_of t) is.tree is.openings_fit
     (all_shown t net.tree.parents run.parents_stay) (root_shown obey net t run is) (links_shown obey net t run is)
     (none_ended obey net t run is)

@@ -44,6 +44,9 @@ impl<L: Line, A: Clone + PartialEq + fmt::Display> Peers<L, A> {
 
     fn mend(&mut self, looks_up: bool, now: Instant) {
         self.dial_all(now);
+        self.touched.extend(self.conns.keys());
+        let has_output = |conn: &Conn<L>| !conn.output.is_empty();
+        self.unsent.extend(self.all_that(has_output));
         let most = now + self.setup.ack_timeout * (1 << LATER) + SILENCE + travels(BODY_BYTES);
         let mut called = BTreeSet::new();
         for conn in self.conns.values_mut() {
@@ -132,6 +135,7 @@ impl<L: Line, A: Clone + PartialEq + fmt::Display> Peers<L, A> {
         let prices = parents.iter().map(|it| it.price);
         match () {
             () if !is_set_up => Some("its children are other ones"),
+            () if self.waiting != !self.not_waiting => Some("other ones may wait"),
             () if !self.parents.are(name, prices) => Some("its parents are other ones"),
             () if self.dials.len() != calls || !self.dials.keys().all(is_called) => {
                 Some("it calls other ones")

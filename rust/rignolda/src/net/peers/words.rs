@@ -170,6 +170,7 @@ impl<L: Line, A: Clone + PartialEq + fmt::Display> Peers<L, A> {
     /// What lies in a store for somebody is left.
     pub(super) fn leave_words(&mut self, whom: &Whom, now: Instant) -> Option<Words> {
         let words = self.words.remove(whom)?;
+        self.due.set(None);
         if let Whom::Child(name) = whom {
             self.relay.word_away(name, now);
         }

@@ -24,6 +24,7 @@ impl Link {
 impl Relay {
     /// Brings back to its bound what has one.
     pub(crate) fn mend(&mut self, now: Instant) {
+        self.quickest.set(None);
         for link in self.children.values_mut() {
             link.since = link.since.min(now);
             link.sent = link.sent.map(|sent| sent.min(now));

@@ -1,0 +1,108 @@
+#!/usr/bin/env -S python3 -B
+"""Measures what agents cost that have nothing to do: a root with children, by the settings that
+they have by themselves, of whose folder nothing changes; and what one change costs the root.
+
+    bench/idle.py [--children N] [--seconds S] [--changes C] [FOLDER ...]
+
+Each folder has the two programs of a daemon; all of them are measured at the same time, and the
+changes are made in turn, so that other work on the machine slows them alike. Without one it is what
+cargo built, or what is kept. The seconds are to be some rounds, which are 30 s here. Printed are
+seconds of processor an hour, as the kernel counts them for each thread, and how often in a second a
+thread waited, of leaves the median; and the same for each of the changes, which are published one
+after the other.
+"""
+import argparse
+import json
+import pathlib
+import statistics
+import sys
+import time
+
+HERE = pathlib.Path(__file__).resolve().parent
+sys.path.insert(0, str(HERE.parent / "tests/daemon"))
+from daemons import Tree, binaries, until  # noqa: E402
+
+
+def spent(process):
+    """Nanoseconds of processor, and how often a thread waited."""
+    ran = waits = 0
+    for task in pathlib.Path(f"/proc/{process}/task").iterdir():
+        ran += int((task / "schedstat").read_text().split()[0])
+        lines = (task / "status").read_text().splitlines()
+        waits += next(int(line.split()[1]) for line in lines if line.startswith("voluntary"))
+    return ran, waits
+
+
+def begin(folder, children):
+    """A root and so many leaves, each with 8 settings."""
+    tree = Tree({f"leaf{at}": "root" for at in range(children)})
+    tree.bin = folder
+    for agent in tree:
+        agent.env = {}
+        del agent.tables["link"]
+    del tree.root.tables["root"]["round"]
+    for at in range(8):
+        tree.write(f"key{at}", f"value {at}")
+    tree.start()
+    return tree
+
+
+def publish(sock, answers, changes):
+    """Publishes so many changes of one setting, each after the answer to the one before."""
+    for at in range(changes):
+        words = {"do": "publish", "key": "key0", "value": f"{at:016}".encode().hex()}
+        sock.sendall(json.dumps(words).encode() + b"\n")
+        if b"published" not in answers.readline():
+            sys.exit("idle: a change was refused")
+
+
+def cost_of_changes(trees, changes):
+    """Prints what each change costs the root, where a tenth of them is made at each in turn."""
+    socks = [tree.root.client() for tree in trees]
+    answers = [sock.makefile("rb") for sock in socks]
+    costs = [[] for _ in trees]
+    for _ in range(10):
+        for tree, sock, lines, cost in zip(trees, socks, answers, costs):
+            before = spent(tree.root.process.pid)
+            publish(sock, lines, changes // 10)
+            after = spent(tree.root.process.pid)
+            cost.append([(b - a) / (changes // 10) for a, b in zip(before, after)])
+    for tree, cost in zip(trees, costs):
+        ran, waits = (statistics.median(column) for column in zip(*cost))
+        print(f"{tree.bin} change: {ran / 1e3:.1f} us, {waits:.2f} waits")
+
+
+def main():
+    parser = argparse.ArgumentParser()
+    parser.add_argument("--children", type=int, default=2)
+    parser.add_argument("--seconds", type=int, default=60)
+    parser.add_argument("--changes", type=int, default=0)
+    parser.add_argument("folders", type=pathlib.Path, nargs="*")
+    words = parser.parse_args()
+    trees = [begin(folder, words.children) for folder in words.folders or [binaries()]]
+    try:
+        for tree in trees:
+            if not until(lambda it=tree: not it.wrong(), 60):
+                sys.exit(f"idle: {len(tree.wrong())} agents of {tree.bin} lack settings")
+        # (reports after the start come to their rest)
+        time.sleep(15)
+        before = [[spent(agent.process.pid) for agent in tree] for tree in trees]
+        began = time.monotonic()
+        time.sleep(words.seconds)
+        after = [[spent(agent.process.pid) for agent in tree] for tree in trees]
+        took = time.monotonic() - began
+        for tree, old, new in zip(trees, before, after):
+            each = [[b - a for a, b in zip(*pair)] for pair in zip(old, new)]
+            leaf = [statistics.median(column) for column in zip(*each[1:])]
+            for name, (ran, waits) in ("root", each[0]), ("leaf", leaf):
+                print(f"{tree.bin} {name}: {ran / took * 3.6e-6:.3f} s an hour, "
+                      f"{waits / took:.2f} waits a second")
+        if words.changes:
+            cost_of_changes(trees, words.changes)
+    finally:
+        for tree in trees:
+            tree.__exit__(None, None, None)
+
+
+if __name__ == "__main__":
+    main()

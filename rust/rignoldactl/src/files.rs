@@ -1,0 +1,86 @@
+//! Who has what: the files that an agent applied, and which value of a key each agent has.
+//!
+//! An agent's files are read by whoever asks, and not by the agent: so they show what is there now,
+//! and nobody sees more than the rights of the folder let him.
+use crate::{digest, Compared, Key, Seen};
+use rignolda::settings::{is_key, is_newer, no_key, read_folder, read_plain, VALUE_BYTES};
+use serde::Serialize;
+use std::collections::BTreeSet;
+use std::io::{self, ErrorKind};
+use std::path::Path;
+
+/// A setting, as its file is.
+#[derive(Debug, PartialEq, Serialize)]
+pub struct File {
+    pub key: String,
+    pub bytes: usize,
+    /// Its [digest], in hexadecimal digits.
+    pub digest: String,
+}
+
+impl File {
+    fn new(key: &str, value: &[u8]) -> File {
+        let digest = digits(digest(key, Some(value)));
+        File { key: key.into(), bytes: value.len(), digest }
+    }
+}
+
+/// The settings of a folder in the order of their keys, and what there is no file of one, and why.
+pub fn list(folder: &Path) -> io::Result<(Vec<File>, BTreeSet<String>)> {
+    let found = read_folder(folder)?;
+    let files = found.settings.iter().map(|(key, value)| File::new(key, value));
+    Ok((files.collect(), found.faults.texts))
+}
+
+/// The value of a setting, and what is said of it.
+pub fn get(folder: &Path, key: &str) -> Result<(Vec<u8>, File), String> {
+    if !is_key(key) {
+        return Err(no_key(key));
+    }
+    let path = folder.join(key);
+    let value = read_plain(&path, VALUE_BYTES).map_err(|error| match error.kind() {
+        ErrorKind::NotFound if folder.is_dir() => format!("`{key}` is not set at this agent"),
+        _ => format!("{}: {error}", path.display()),
+    })?;
+    let file = File::new(key, &value);
+    Ok((value, file))
+}
+
+/// Which value of a key an agent has.
+#[derive(Debug, PartialEq, Serialize)]
+pub struct Holder {
+    pub agent: String,
+    /// The digest of the value; empty where it has none, or it is not known.
+    pub digest: String,
+    /// What is to be said besides.
+    pub note: String,
+}
+
+/// Which value each agent of the root's list has, as far as its files are known to be what was
+/// published up to a number.
+pub fn holders(list: &[Seen], key: &Key) -> Vec<Holder> {
+    list.iter().map(|seen| holder(seen, key)).collect()
+}
+
+fn holder(seen: &Seen, key: &Key) -> Holder {
+    let is_as_of = |number| !is_newer(number, seen.files);
+    let is_heard = seen.connected || seen.sequence != 0;
+    let (digest, note) = match seen.compared {
+        _ if !is_heard => (0, "never heard of"),
+        Compared::Nothing => (0, "keeps no files"),
+        Compared::NotKnown => (0, "not known"),
+        Compared::Differs => (0, "not known: its files differ"),
+        Compared::Same if is_as_of(key.number) && key.digest == 0 => (0, "unset"),
+        Compared::Same if is_as_of(key.number) => (key.digest, ""),
+        Compared::Same if key.old_number != 0 && is_as_of(key.old_number) => (key.old, "older"),
+        Compared::Same => (0, "not known: an older one"),
+    };
+    let away = if is_heard && !seen.connected { "away" } else { "" };
+    let notes: Vec<&str> = [note, away].into_iter().filter(|it| !it.is_empty()).collect();
+    let digest = if digest == 0 { String::new() } else { digits(digest) };
+    Holder { agent: seen.name.clone(), digest, note: notes.join(", ") }
+}
+
+fn digits(digest: u64) -> String {
+    format!("{digest:016x}")
+}

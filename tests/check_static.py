@@ -1,0 +1,106 @@
+#!/usr/bin/env -S python3 -B
+"""What programs call besides the C library (tools/shims.c): each function, on x86-64, and on arm64
+where qemu-aarch64 is here, and planted bugs in it, each of which has to be found.
+
+It needs the kit, and Debian's package musl-dev, which tools/debian.py unpacks where it is not
+installed. What could not be tried is said, and not counted. The last line is 'N passed, M failed'.
+"""
+import re
+import shutil
+import subprocess
+import sys
+import tempfile
+from pathlib import Path
+
+TOP = Path(__file__).resolve().parent.parent
+sys.path.insert(0, str(TOP / "tools"))
+import static  # noqa: E402
+from programs import Cases  # noqa: E402
+
+CALLS = TOP / "tests/static/calls.c"
+WORDS = "", "four", "a b"
+# What the calls ask of a processor, by the names that the system has for it.
+FLAGS = "pni ssse3 cx16 sse4_1 sse4_2 movbe popcnt aes lahf_lm abm 3dnowprefetch".split()
+# Planted bugs: what is in the file, and what stands there instead.
+PLANTED = [
+    ("malloc(size ? size : align)", "malloc(size / 64)"),
+    ("{at != NULL, at ? at : &nothing}", "{true, at ? at : &nothing}"),
+    ("at ? at : &nothing", "at"),
+    ("realloc(block, size ? size : align)", "malloc(size ? size : align)"),
+    ("place >= count ||", "place > count + 1 ||"),
+    ("length == room", "length + 1 == room"),
+    ("            return -2;", "            return -1;"),
+    ("buffer[length++] = *it", "buffer[length++] = *it, buffer[length] = 0"),
+    ("argc > 0 ? (size_t)argc : 0", "argc > 1 ? (size_t)argc - 1 : 0"),
+    ("    return errno;", "    return 0;"),
+    ("    errno = error;", "    static int own; own = error; (void)own;"),
+    ("write(file, bytes, length)", "write(file, bytes, length - 1)"),
+    ("index >= 3", "index >= 300"),
+    ("{1, 7, 0x80000001}", "{7, 1, 0x80000001}"),
+    ("{1, 7, 0x80000001}", "{1, 7, 1}"),
+]
+PLANTED_IN_STEPS = [
+    ("__atomic_fetch_and(at, (type)~it, __ATOMIC_SEQ_CST)", "__atomic_fetch_and(at, it, 5)"),
+    ("__atomic_fetch_add(at, it, __ATOMIC_SEQ_CST)", "*at; *at = (type)(*at + it)"),
+    ("(at, &wanted, next, 0,", "(at, &wanted, wanted, 0,"),
+]
+
+
+def build(library, architecture, shims, room, *words):
+    """A program of the calls and of these shims, compiled with these words, or None."""
+    made = []
+    for source in CALLS, shims:
+        made.append(f"{room}/{source.stem}.o")
+        compiles = static.compiled(library, architecture, source, made[-1], *words)
+        if subprocess.call([*map(str, compiles)]):
+            return None
+    links = static.linked(library, f"{room}/calls", *made, options=["--wrap=main"])
+    return None if subprocess.call([*map(str, links)]) else f"{room}/calls"
+
+
+def flags():
+    """What the system says of the processor."""
+    found = re.search("^flags\\s*: (.*)$", Path("/proc/cpuinfo").read_text(), re.M)
+    return {*(found[1] if found else "").split()}
+
+
+def faults(program, before):
+    """What the calls find wrong, which is nothing where all is well."""
+    done = subprocess.run([*before, program, *WORDS], capture_output=True, text=True)
+    said = done.stdout if done.returncode else ""
+    if done.returncode and not said:
+        said = f"it ended with status {done.returncode}"
+    if not before:
+        leaves = subprocess.run([program, "leaves"], capture_output=True, text=True)
+        wanted = flags() & {*FLAGS}
+        if leaves.returncode or {*leaves.stdout.split()} != wanted:
+            said += f"it found {leaves.stdout.split()}, and not {sorted(wanted)}"
+    return said
+
+
+def main():
+    cases = Cases()
+    for architecture, command in ("x86_64", None), ("aarch64", "qemu-aarch64"):
+        before = [command] if command else []
+        library = static.musl(architecture)
+        if not library or command and not shutil.which(command):
+            print(f"what programs call on {architecture} is NOT TRIED: it needs Debian's musl-dev"
+                  + (" for arm64, and qemu-user" if command else ""))
+            continue
+        with tempfile.TemporaryDirectory() as room:
+            program = build(library, architecture, static.SHIMS, room)
+            cases.holds(f"what programs call, on {architecture}",
+                        program and not faults(program, before),
+                        program and faults(program, before))
+            text, changed = static.SHIMS.read_text(), Path(room, "changed.c")
+            for old, new in PLANTED_IN_STEPS if command else PLANTED:
+                changed.write_text(text.replace(old, new))
+                program = text.count(old) and build(library, architecture, changed, room, "-w")
+                cases.holds(f"a planted bug is found: {' '.join(new.split())}",
+                            program and faults(program, before), "it was not, or does not fit",
+                            quiet=True)
+    return cases.sum_up()
+
+
+if __name__ == "__main__":
+    sys.exit(main())

@@ -1,0 +1,106 @@
+#!/usr/bin/env -S python3 -B
+"""Links a program that needs no C library where it runs: the C library musl is inside.
+
+    tools/static.py ARCHITECTURE OBJECT PROGRAM
+        links a program for Linux on x86_64 or aarch64, of the object that the compiler of the kit
+        has made
+
+The compiler and the linker are those of the kit. What a program calls and musl has not is in
+tools/shims.c. musl is that of Debian's package musl-dev: the one that is installed, or else one
+that is unpacked in out/, where apt-get has it. RIGNOLDA_MUSL names a folder of others: in it, each
+by the name of an architecture, a folder with lib/ and include/.
+"""
+import hashlib
+import os
+import subprocess
+import sys
+import tempfile
+from collections import namedtuple
+from pathlib import Path
+
+import debian
+from crates import kit
+
+SHIMS = Path(__file__).resolve().parent / "shims.c"
+# What Debian calls an architecture.
+DEBIAN = {"x86_64": "amd64", "aarch64": "arm64"}
+# The files of musl that a program is linked with, in this order: its objects stand before the last
+# two.
+FILES = "rcrt1.o", "crti.o", "libc.a", "crtn.o"
+# The bytes of each thread's stack, as glibc has it: that of musl is 128 KiB, and a program may need
+# more.
+STACK = 8 << 20
+
+# A C library: its folders, and what it is called.
+Library = namedtuple("Library", "lib include name")
+
+
+def digest_of(data):
+    return hashlib.sha256(data).hexdigest()
+
+
+def musl(architecture):
+    """musl for an architecture, or None where there is none."""
+    part = f"{architecture}-linux-musl"
+    named = os.environ.get("RIGNOLDA_MUSL")
+    if named:
+        lib, include = (Path(named, architecture, it) for it in ("lib", "include"))
+    else:
+        home = Path("/")
+        if not Path("/usr/lib", part, "libc.a").is_file():
+            home = debian.unpacked(DEBIAN[architecture], "musl-dev")
+        if not home:
+            return None
+        lib, include = home / "usr/lib" / part, home / "usr/include" / part
+    if not all((lib / it).is_file() for it in FILES):
+        return None
+    data = b"".join((lib / it).read_bytes() for it in FILES)
+    return Library(lib, include, f"musl {digest_of(data)}")
+
+
+def compiled(library, architecture, source, to, *words):
+    """The words that compile a file of C over musl."""
+    own = ["-mno-outline-atomics"] if architecture == "aarch64" else []
+    return [f"{kit()}/toolchain/bin/clang", f"--target={architecture}-unknown-linux-musl",
+            "-std=gnu11", "-O2", "-fPIE", "-Wall", "-Wextra", "-Werror", "-nostdinc", "-isystem",
+            library.include, *own, *words, "-c", source, "-o", to]
+
+
+def linked(library, program, *files, options=()):
+    """The words that link a program of these objects and musl. It can be placed anywhere in memory,
+    and nothing of it that need not change can be written to."""
+    first, second, archive, last = (library.lib / it for it in FILES)
+    return [f"{kit()}/toolchain/bin/ld.lld", "-static", "-pie", "--no-dynamic-linker", "-z", "text",
+            "-z", "relro", "-z", "now", "-z", "noexecstack", "-z", f"stack-size={STACK}",
+            "--gc-sections", "--strip-debug", *options, "-o", program, first, second, *files,
+            archive, last]
+
+
+def link(library, architecture, made, program, does=lambda words: subprocess.call(words) == 0):
+    """Links a program of an object, and answers whether it does. The digest of the object is in the
+    program, as its build identifier. Commands are run by `does`."""
+    with tempfile.TemporaryDirectory() as room:
+        shims, own = f"{room}/shims.o", digest_of(Path(made).read_bytes())
+        return all(does([*map(str, words)]) for words in (
+            compiled(library, architecture, SHIMS, shims),
+            linked(library, program, made, shims,
+                   options=["--wrap=main", f"--build-id=0x{own}"])))
+
+
+def has_object(program, made):
+    """Whether a program was linked of the object with this digest, as it says itself."""
+    return bytes.fromhex(made) in program
+
+
+def main(words):
+    if len(words) != 3 or words[0] not in DEBIAN:
+        sys.exit(__doc__)
+    library = musl(words[0])
+    if not library:
+        sys.exit(f"static: Debian's package musl-dev for {DEBIAN[words[0]]} is needed")
+    if not link(library, *words):
+        sys.exit("static: the program was not linked")
+
+
+if __name__ == "__main__":
+    main(sys.argv[1:])
