@@ -197,7 +197,9 @@ def a_root_whose_clock_was_set_back_goes_on_above():
         tree.root.start()
         # (no round comes)
         colour(tree["leaf"], 2)
-        sure(before < number(tree["leaf"]) == number(tree.root), number(tree.root))
+        # (what follows the colour may still be on its way)
+        sure(until(lambda: before < number(tree["leaf"]) == number(tree.root)),
+             before, number(tree["leaf"]), number(tree.root))
 
 
 @test(needs=lacking)
