@@ -1,5 +1,5 @@
 #!/usr/bin/env -S python3 -B
-"""What programs call besides the C library (tools/shims.c): each function, on x86-64, and on arm64
+"""What programs call besides the C library (tools/shims): each function, on x86-64, and on arm64
 where qemu-aarch64 is here, and planted bugs in it, each of which has to be found.
 
 It needs the kit, and Debian's package musl-dev, which tools/debian.py unpacks where it is not
@@ -23,10 +23,17 @@ WORDS = "", "four", "a b"
 FLAGS = "pni ssse3 cx16 sse4_1 sse4_2 movbe popcnt aes lahf_lm abm 3dnowprefetch".split()
 # Planted bugs: what is in the file, and what stands there instead.
 PLANTED = [
-    ("malloc(size ? size : align)", "malloc(size / 64)"),
+    ("size + NUMBER + UNIT - 1", "size + UNIT - 1"),
+    ("kept[units] = *block;", "(void)block;"),
+    ("rest += units * UNIT;", "rest += units * NUMBER;"),
+    ("rest = piece + UNIT;", "rest = piece + NUMBER;"),
+    ("end = piece + PIECE;", "end = piece + 2 * PIECE;"),
+    ("static _Thread_local void **kept", "static void **kept"),
+    ("? block : large(block, size)", "? block : block"),
+    ("units ? block : large(block, size)", "units ? block : large(NULL, size)"),
+    ("memcpy(next.at, block, used)", "memcpy(next.at, block, used / 2)"),
     ("{at != NULL, at ? at : &nothing}", "{true, at ? at : &nothing}"),
     ("at ? at : &nothing", "at"),
-    ("realloc(block, size ? size : align)", "malloc(size ? size : align)"),
     ("place >= count ||", "place > count + 1 ||"),
     ("length == room", "length + 1 == room"),
     ("            return -2;", "            return -1;"),
@@ -49,13 +56,22 @@ PLANTED_IN_STEPS = [
 def build(library, architecture, shims, room, *words):
     """A program of the calls and of these shims, compiled with these words, or None."""
     made = []
-    for source in CALLS, shims:
+    for source in CALLS, *shims:
         made.append(f"{room}/{source.stem}.o")
         compiles = static.compiled(library, architecture, source, made[-1], *words)
         if subprocess.call([*map(str, compiles)]):
             return None
     links = static.linked(library, f"{room}/calls", *made, options=["--wrap=main"])
     return None if subprocess.call([*map(str, links)]) else f"{room}/calls"
+
+
+def planted(room, old, new):
+    """The shims with a planted bug, of which one has the old text, or none if that is not so."""
+    texts = {source.name: source.read_text() for source in static.SHIMS}
+    for name, text in texts.items():
+        Path(room, name).write_text(text.replace(old, new))
+    fits = sum(old in text for text in texts.values()) == 1
+    return [Path(room, name) for name in texts] if fits else []
 
 
 def flags():
@@ -92,10 +108,8 @@ def main():
             cases.holds(f"what programs call, on {architecture}",
                         program and not faults(program, before),
                         program and faults(program, before))
-            text, changed = static.SHIMS.read_text(), Path(room, "changed.c")
             for old, new in PLANTED_IN_STEPS if command else PLANTED:
-                changed.write_text(text.replace(old, new))
-                program = text.count(old) and build(library, architecture, changed, room, "-w")
+                program = build(library, architecture, planted(room, old, new), room, "-w")
                 cases.holds(f"a planted bug is found: {' '.join(new.split())}",
                             program and faults(program, before), "it was not, or does not fit",
                             quiet=True)

@@ -12,6 +12,7 @@ import time
 from pathlib import Path
 
 TOP = Path(__file__).resolve().parent.parent
+SHIMS = "tools/shims/kit.c", "tools/shims/processor.c"
 sys.path.insert(0, str(TOP / "tools"))
 from programs import Cases  # noqa: E402
 
@@ -162,7 +163,7 @@ class House(Cases):
 
     def bring_kit(self):
         """Brings what builds the programs, over a kit of small commands."""
-        self.bring("release.sh", "tools/launch", "tools/shims.c", *(f"tools/{it}.py" for it in (
+        self.bring("release.sh", "tools/launch", *SHIMS, *(f"tools/{it}.py" for it in (
             "release", "crates", "programs", "running", "index_page", "static", "debian")))
         self.command(self.bin / "rt", RT)
         self.command(self.work / "a kit/bin/rattle", COMPILER)

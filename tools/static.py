@@ -6,7 +6,7 @@
         has made
 
 The compiler and the linker are those of the kit. What a program calls and musl has not is in
-tools/shims.c. musl is that of Debian's package musl-dev: the one that is installed, or else one
+tools/shims. musl is that of Debian's package musl-dev: the one that is installed, or else one
 that is unpacked in out/, where apt-get has it. RIGNOLDA_MUSL names a folder of others: in it, each
 by the name of an architecture, a folder with lib/ and include/.
 """
@@ -21,7 +21,7 @@ from pathlib import Path
 import debian
 from crates import kit
 
-SHIMS = Path(__file__).resolve().parent / "shims.c"
+SHIMS = [*map(Path(__file__).resolve().parent.joinpath, ("shims/kit.c", "shims/processor.c"))]
 # What Debian calls an architecture.
 DEBIAN = {"x86_64": "amd64", "aarch64": "arm64"}
 # The files of musl that a program is linked with, in this order: its objects stand before the last
@@ -80,10 +80,11 @@ def link(library, architecture, made, program, does=lambda words: subprocess.cal
     """Links a program of an object, and answers whether it does. The digest of the object is in the
     program, as its build identifier. Commands are run by `does`."""
     with tempfile.TemporaryDirectory() as room:
-        shims, own = f"{room}/shims.o", digest_of(Path(made).read_bytes())
+        shims = {source: f"{room}/{source.stem}.o" for source in SHIMS}
+        own = digest_of(Path(made).read_bytes())
         return all(does([*map(str, words)]) for words in (
-            compiled(library, architecture, SHIMS, shims),
-            linked(library, program, made, shims,
+            *(compiled(library, architecture, *it) for it in shims.items()),
+            linked(library, program, made, *shims.values(),
                    options=["--wrap=main", f"--build-id=0x{own}"])))
 
 

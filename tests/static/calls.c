@@ -1,4 +1,4 @@
-// Calls each function of tools/shims.c, and prints what differs from what its contract says. The
+// Calls each function of tools/shims, and prints what differs from what its contract says. The
 // program gets the words "", "four" and "a b". With the first word `leaves` it prints what the
 // processor can do instead.
 #include <errno.h>
@@ -64,6 +64,72 @@ static void memory(void) {
     rattle_dealloc(none.at);
 }
 
+// Each of these blocks has its own byte in all its places, and another thread gives it back.
+enum { BLOCKS = 500 };
+static struct {
+    unsigned char *at;
+    size_t size;
+} blocks[BLOCKS];
+
+static bool is_whole(int place) {
+    for (size_t at = 0; at < blocks[place].size; at++) {
+        if (blocks[place].at[at] != (unsigned char)place) {
+            return false;
+        }
+    }
+    return true;
+}
+
+static void *changes_blocks(void *unused) {
+    uint32_t drawn = 1;
+    bool are_whole = true, are_aligned = true;
+    for (int turn = 0; turn < 100000; turn++) {
+        drawn = drawn * 1664525 + 1013904223;
+        int place = drawn % BLOCKS;
+        size_t size = drawn >> 24 ? (drawn >> 12) % 200 : (drawn >> 12) % 4000;
+        size_t had = blocks[place].size;
+        are_whole = are_whole && is_whole(place);
+        if (turn % 3 && blocks[place].at) {
+            size_t least = size < had ? size : had;
+            blocks[place].at = rattle_realloc(blocks[place].at, least, size, 8).at;
+            blocks[place].size = least;
+            are_whole = are_whole && is_whole(place);
+        } else {
+            if (blocks[place].at) {
+                rattle_dealloc(blocks[place].at);
+            }
+            blocks[place].at = rattle_alloc(size, 8).at;
+        }
+        are_aligned = are_aligned && (uintptr_t)blocks[place].at % 16 == 0;
+        blocks[place].size = size;
+        memset(blocks[place].at, place, size);
+    }
+    holds("no block changes where another one does", are_whole);
+    holds("all are aligned to 16 bytes", are_aligned);
+    return unused;
+}
+
+static void *takes_another(void *block) {
+    // (without a lock, two threads must never look at the same list)
+    holds("what a thread has given back, no other one gets", rattle_alloc(100, 8).at != block);
+    return block;
+}
+
+static bool in_a_thread(void *(*does)(void *), void *of) {
+    pthread_t thread;
+    return pthread_create(&thread, NULL, does, of) == 0 && pthread_join(thread, NULL) == 0;
+}
+
+static void many_blocks(void) {
+    unsigned char *block = rattle_alloc(100, 8).at;
+    rattle_dealloc(block);
+    holds("a thread takes another block", in_a_thread(takes_another, block));
+    holds("who gave it back gets it", rattle_alloc(100, 8).at == block);
+    changes_blocks(NULL);
+    holds("a thread changes them on", in_a_thread(changes_blocks, NULL));
+    changes_blocks(NULL);
+}
+
 static void words(void) {
     char buffer[8];
     holds("the words are counted, with the name of the program", rattle_arg_count() == 4);
@@ -92,14 +158,12 @@ static void *of_thread(void *set) {
 }
 
 static void errors(void) {
-    pthread_t thread;
     int set = 7;
     rattle_set_errno(5);
     holds("an error that was set is there", rattle_errno() == 5 && errno == 5);
     errno = 6;
     holds("that of the last call is there", rattle_errno() == 6);
-    holds("a thread can be started", pthread_create(&thread, NULL, of_thread, &set) == 0
-          && pthread_join(thread, NULL) == 0);
+    holds("a thread can be started", in_a_thread(of_thread, &set));
     holds("and has an error of its own", rattle_errno() == 6);
 }
 
@@ -211,6 +275,7 @@ int main(int argc, char **argv) {
         return faults;
     }
     memory();
+    many_blocks();
     words();
     errors();
     output();
