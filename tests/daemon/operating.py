@@ -8,6 +8,7 @@ import hashlib
 import os
 import pty
 import shutil
+import signal
 import subprocess
 import sys
 import threading
@@ -139,14 +140,18 @@ def what_somebody_else_did_to_files_is_counted_and_named():
 
 
 def mount(tree, files):
-    """Has another folder in the place of the root's, with these files, as a mount does."""
+    """Has another folder in the place of the root's, with these files, as a mount does. The root
+    sees first that one file of the other folder is gone, and nothing else."""
     old, new = (tree.root.home / name for name in ("old", "new"))
+    shutil.rmtree(old, ignore_errors=True)
     new.mkdir()
     for name, value in {".empty": b"", **files}.items():
         (new / name).write_bytes(value)
+    tree.root.process.send_signal(signal.SIGSTOP)
     tree.root.truth.rename(old)
     new.rename(tree.root.truth)
-    shutil.rmtree(old)
+    (old / "key7").unlink(missing_ok=True)
+    tree.root.process.send_signal(signal.SIGCONT)
 
 
 def held(tree, count=None):

@@ -14,6 +14,9 @@ use std::os::unix::io::{AsRawFd, RawFd};
 use std::path::Path;
 use std::sync::Arc;
 
+/// How often a folder is read that is another one each time.
+const READS: u32 = 3;
+
 const EMPTY: &str = "it is empty: is a mount missing, or else `.empty`?";
 
 /// What is to be done. One comes after the other.
@@ -51,6 +54,15 @@ struct Place {
     notify: Option<Inotify>,
     /// The keys that changed and were not read since; nothing where all are to be read.
     keys: Option<BTreeSet<String>>,
+    /// Which folder all settings were read from last, if they were.
+    read: Option<Identity>,
+}
+
+/// What tells a folder from another one at its place.
+type Identity = (u64, u64);
+
+fn identity(path: &Path) -> Option<Identity> {
+    fs::metadata(path).ok().map(|it| (it.dev(), it.ino()))
 }
 
 /// The thread, and what can be read when something changed. It calls `wake` after each job.
@@ -58,7 +70,8 @@ pub fn start(
     settings: Arc<Path>,
     wake: Arc<dyn Fn() + Send + Sync>,
 ) -> io::Result<(Worker<Job, Done>, Option<RawFd>)> {
-    let mut place = Place { settings, notify: Inotify::init().ok(), keys: Some(BTreeSet::new()) };
+    let (notify, keys) = (Inotify::init().ok(), Some(BTreeSet::new()));
+    let mut place = Place { settings, notify, keys, read: None };
     let descriptor = place.notify.as_ref().map(AsRawFd::as_raw_fd);
     let worker = Worker::start("disk", move |job| place.work(job), move || wake())?;
     Ok((worker, descriptor))
@@ -95,7 +108,8 @@ impl Place {
         }
     }
 
-    /// The settings that changed, where it is known which; else all are to be read.
+    /// The settings that changed, where it is known which; else all are to be read, as where another
+    /// folder is in the place of the one that changed.
     fn changed(&mut self) -> Option<Vec<Kept>> {
         self.note(BTreeSet::new());
         let keys = self.keys.replace(BTreeSet::new()).filter(|keys| !keys.is_empty())?;
@@ -110,7 +124,8 @@ impl Place {
             }
             Err(_) => None,
         };
-        keys.into_iter().map(value).collect()
+        let changes = keys.into_iter().map(value).collect::<Option<_>>();
+        changes.filter(|_| self.read.is_some() && self.read == identity(&self.settings))
     }
 
     /// Writes files, and waits until the disk has them. No two are of one key.
@@ -125,8 +140,23 @@ impl Place {
         Done::Written(changes.into_iter().zip(done).collect(), others)
     }
 
-    /// Reads all settings, and waits for changes from before that.
+    /// Reads all settings, and waits for changes from before that. Where another folder takes the
+    /// place of the one that is read, which may have lost some of them, it reads again.
     fn read(&mut self) -> Result<Found, Empty> {
+        self.read = None;
+        for _ in 0..READS {
+            let before = identity(&self.settings);
+            let found = self.read_once();
+            if self.settings.is_file() || identity(&self.settings) == before {
+                self.read = before.filter(|_| found.is_ok());
+                return found;
+            }
+        }
+        let why = format!("{}: another folder takes its place each time", self.settings.display());
+        Err(Empty { why, is_new: false, faults: Faults::default() })
+    }
+
+    fn read_once(&mut self) -> Result<Found, Empty> {
         let path = &self.settings;
         let folder = if path.is_dir() { Some(&**path) } else { path.parent() };
         let mask = WatchMask::CLOSE_WRITE | WatchMask::MOVE | WatchMask::DELETE;
