@@ -108,8 +108,8 @@ impl Place {
         }
     }
 
-    /// The settings that changed, where it is known which; else all are to be read, as where another
-    /// folder is in the place of the one that changed.
+    /// The settings that changed, where it is known which; else all are to be read, as where
+    /// another folder is in the place of the one that changed.
     fn changed(&mut self) -> Option<Vec<Kept>> {
         self.note(BTreeSet::new());
         let keys = self.keys.replace(BTreeSet::new()).filter(|keys| !keys.is_empty())?;
