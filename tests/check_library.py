@@ -179,8 +179,9 @@ class Library(Cases):
         self.works("the inline calls are those of the archive", "tools/inline_header.py", "--check")
         self.by_python("4", "2")
         for name, part in ("librignolda.a", ""), ("librignolda_settings.a", "-settings"):
-            self.works(f"the crate for Rust has {name} of the release", "cmp",
-                       f"rust/rignolda/lib/x86_64-linux{part}.a", f"release/{name}")
+            for machine, folder in ("x86_64", ""), ("aarch64", "arm64/"):
+                self.works(f"the crate for Rust has {folder}{name} of the release", "cmp",
+                           f"rust/rignolda/lib/{machine}-linux{part}.a", f"release/{folder}{name}")
         self.works("all of the archive needs nothing else", clang()[0], "-nostdlib", "-static",
                    "-fuse-ld=lld", "-Wl,--whole-archive", self.archive,
                    "-Wl,-e,rignolda_params_check", "-o", self.room / "alone")

@@ -314,15 +314,20 @@ holds("the page of claims is written into the archive", said.stdout == b"claims\
 holds("the archive has all of it", [
     it for it in names_in(archive) if not re.search(r"/$|^$|^examples|^[A-Z]|\.md$", it)] == [
         "agents/agent.c", "docs/schema/job.json", "include/rignolda.h", "lib/librignolda.a",
-        "lib/librignolda_settings.a",         "man/stab.1", "page/index.html", "page/rignolda.wasm", "rust/rignolda/Cargo.toml",
+        "lib/librignolda_settings.a", "man/stab.1", "page/index.html", "page/rignolda.wasm", "rust/rignolda/Cargo.toml",
         "rust/rignolda/lib/x86_64-linux-settings.a", "rust/rignolda/lib/x86_64-linux.a",
         "rust/rignolda/src/lib.rs", "stab"])
 
 # The daemon, whose programs another compiler makes.
 DAEMON = ["rignoldad", "rignoldactl"]
-command(house.bin / "cargo", """mkdir -p target/release
+command(house.bin / "cargo", """to=target/release
+case $* in
+    --version) echo cargo 1.0; exit ;;
+    *--target-dir*) to=target/arm64/aarch64-unknown-linux-gnu/release ;;
+esac
+mkdir -p "$to"
 for program in rignoldad rignoldactl; do
-    cat "$program/src/main.rs" rignolda/lib/* >"target/release/$program"
+    cat "$program/src/main.rs" rignolda/lib/* >"$to/$program"
 done""")
 command(house.bin / "rustc", 'echo "rustc ${RUSTC:-1.0}"')
 command(house.bin / "dpkg-deb", "")
@@ -424,4 +429,62 @@ holds("a package is made of the same programs, of the day of the version",
       + program.read_text() + "1.2.0 amd64 1795478400\n")
 holds("both have their digests beside them", sums_are_right(top / "out")
       and (top / "out/SHA256SUMS").read_text().count("\n") == 2)
+
+# For arm64 too: its compilers come from Debian's packages.
+command(house.bin / "apt-get", """[ -z "${NO_DEBIAN-}" ] || exit 1
+tools="$WORK/a house/out/debian-amd64/usr"
+mkdir -p "$tools/bin" "$tools/lib/rustlib"
+printf '#!/bin/sh\\necho rustc 3.0\\n' >"$tools/bin/rustc"
+chmod 755 "$tools/bin/rustc" """)
+house.releases_arm64(True)
+house.musl("musl", "x86_64", "aarch64")
+BUILT = [f"arm64/{it}" for it in ("stab", "librignolda.a", "librignolda_settings.a")]
+BY_CARGO = [f"arm64/{it}" for it in DAEMON]
+checked("a release that has nothing for arm64 fails", 18, WHOLE, MANIFEST,
+        *[case for it in BUILT for case in of(it)],
+        *[case for it in BY_CARGO for case in of(it)[:2]])
+house.env["IDENTIFIED"] = "1"
+refused("and is not packed", "the release of arm64/stab was made from other sources", "--archive")
+for musl, text in ("", "Debian's package musl-dev is needed for arm64"), ("musl", ""):
+    house.musl(musl, "aarch64")
+    run("--prove")
+    holds(f"a release of both needs the C library of both ({musl})",
+          house.ended.status == (0 if musl else 3) and text in house.ended.err)
+said("without Debian's compilers there is no daemon for arm64", 3,
+     "Debian's compilers for arm64 cannot be had here", "--arm64", NO_DEBIAN="1")
+said("with them there is", 0, "", "--arm64", "--keep")
+said("which is what is built again", 0, "", "--arm64", "--check")
+holds("by their compilers", re.findall("^arm64/rignoldad .* compared with (.*)$",
+                                       manifest.read_text(), re.M) == ["rustc 3.0, cargo 1.0"])
+checked("then nothing is wrong", 33)
+compiled = house.read("compiled")
+holds("each was compiled for its machine", compiled.count("--target aarch64-unknown-linux-gnu") >= 3
+      and compiled.count("--target x86_64-unknown-linux-gnu") >= 2)
+holds("and the crate for Rust has the archives of both", sorted(
+    it.name for it in (top / "rust/rignolda/lib").iterdir()) == [
+        f"{machine}-linux{part}.a" for machine in ("aarch64", "x86_64")
+        for part in ("-settings", "")])
+sources = daemon("--sources").out
+add("rust/rignolda/lib/aarch64-linux.a", "more\n")
+holds("an archive is one of the sources of its own machine's daemon alone",
+      daemon("--sources").out == sources)
+checked("and of that", 31, *[of(it)[0] for it in BY_CARGO])
+run()
+keep()
+for text in "another", "":
+    house.musl(text, "aarch64")
+    checked(f"of another C library or none one for arm64 passes that is of the object ({text})",
+            33)
+    holds("which is said", "arm64/stab is NOT COMPARED as a whole" in house.ended.out)
+house.musl("musl", "aarch64")
+(release / "arm64/stab.gz").write_bytes(gzip.compress(b"proved 2\n"))
+checked("another program for arm64 fails", 31, *of("arm64/stab")[1:])
+restore("arm64/stab.gz")
+run("--archive")
+holds("there are an archive and a package of both", sums_are_right(top / "out")
+      and re.findall("  (.*)$", (top / "out/SHA256SUMS").read_text(), re.M) == [
+          "rignolda-1.2.0-x86_64-linux.tar.xz", "rignoldad_1.2.0_amd64.deb",
+          "rignolda-1.2.0-aarch64-linux.tar.xz", "rignoldad_1.2.0_arm64.deb"])
+holds("with the same names inside", *[names == others for names, others in [[
+    names_in(top / f"out/rignolda-1.2.0-{it}-linux.tar.xz") for it in ("x86_64", "aarch64")]]])
 sys.exit(house.sum_up())

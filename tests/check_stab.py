@@ -537,6 +537,25 @@ remove(work / "without/uname")
 command(work / "without/uname", "echo Darwin arm64")
 for words in [], ["--prove"]:
     refused(stab(*words, PATH=f"{work}/without:{house.bin}"), f"on another system it is said what "
-            f"is needed {words}", "for Linux on x86-64, and this is Darwin arm64")
+            f"is needed {words}", "for Linux on x86-64 and arm64, and this is Darwin arm64")
     holds("and nothing is done", calls() == 0)
+
+# On arm64 the program of the release for it runs, and none is built.
+command(work / "arm64/uname", "echo Linux aarch64")
+ARM64 = {"PATH": f"{work}/arm64:{house.env['PATH']}"}
+house.releases_arm64(True)
+refused(stab(**ARM64), "on arm64 it is said that a release has nothing for it",
+        "the release has no arm64/stab: the Rattle kit proves and builds the program, and runs on "
+        "x86-64 alone")
+house.musl("musl", "x86_64", "aarch64")
+make_release()
+remove(release / "stab.gz", out)
+stab("one", **ARM64)
+holds("and else its program runs",
+      house.ended.status == 7 and house.ended.out.endswith("; one; in\n"))
+its = digest(gzip.decompress((release / "arm64/stab.gz").read_bytes()))
+holds("from out/, by its own name",
+      [it.name for it in out.glob("*-release-*")] == [f"arm64-stab-release-{its}"])
+refused(stab("--prove", **ARM64), "with --prove it is said where it can be built",
+        "as asked: the Rattle kit proves and builds the program, and runs on x86-64 alone")
 sys.exit(house.sum_up())

@@ -3,6 +3,7 @@ they start. Nothing is proved there, and nothing of this repository is touched."
 import atexit
 import hashlib
 import os
+import re
 import shutil
 import signal
 import subprocess
@@ -172,12 +173,22 @@ class House(Cases):
         self.command(self.work / "a kit/toolchain/bin/clang", 'touch "${@: -1}"')
         self.env["RIGNOLDA_MUSL"] = str(self.work / "musl")
         self.musl("musl")
+        self.releases_arm64(False)
 
-    def musl(self, text):
-        """Says which C library there is for programs: one whose files have this text, or none."""
-        remove(self.work / "musl")
-        for name in ("rcrt1.o", "crti.o", "libc.a", "crtn.o") if text else ():
-            self.write(self.work / "musl/x86_64/lib" / name, text)
+    def releases_arm64(self, is_so):
+        """Says whether the release has rows for arm64."""
+        self.bring("tools/launch")
+        if not is_so:
+            text = (self.top / "tools/launch").read_text()
+            self.write("tools/launch", re.sub("(?m)^    'arm64/.*\n", "", text))
+
+    def musl(self, text, *machines):
+        """Says which C library there is for programs, of x86-64 or of these machines: one whose
+        files have this text, or none."""
+        for machine in machines or ("x86_64",):
+            remove(self.work / "musl" / machine)
+            for name in ("rcrt1.o", "crti.o", "libc.a", "crtn.o") if text else ():
+                self.write(self.work / "musl" / machine / "lib" / name, text)
 
     def kit(self, name):
         """Says which kit there is."""

@@ -5,6 +5,8 @@ architecture that need not be that of this machine.
     tools/debian.py ARCHITECTURE PACKAGE..
         unpacks these packages of amd64 or arm64, with none of those that they depend on, and prints
         the folder; what is there already stays
+    tools/debian.py --needed ARCHITECTURE PACKAGE..
+        the same, with those that they depend on and that are not installed here
 
 apt-get fetches them by what this machine's lists of sources name, with a state of its own in out/
 where the architecture is another one. Nothing of the system is changed, and no rights are needed.
@@ -12,6 +14,8 @@ where the architecture is another one. Nothing of the system is changed, and no 
 import contextlib
 import fcntl
 import os
+import platform
+import re
 import shutil
 import subprocess
 import sys
@@ -19,6 +23,10 @@ import tempfile
 from pathlib import Path
 
 OUT = Path(__file__).resolve().parent.parent / "out"
+# Of the emulators of this package one is taken.
+EMULATORS, EMULATOR = "qemu-user-static", "usr/bin/qemu-aarch64-static"
+# What programs for arm64 load where they run.
+LOADED = "libc6", "libgcc-s1", "libssl3"
 
 
 def quietly(words, **options):
@@ -27,6 +35,12 @@ def quietly(words, **options):
         return subprocess.run(words, stdin=subprocess.DEVNULL, stdout=subprocess.DEVNULL,
                               stderr=subprocess.DEVNULL, **options).returncode == 0
     return False
+
+
+def said(*words, **options):
+    """What a command writes."""
+    return subprocess.run(words, stdin=subprocess.DEVNULL, stdout=subprocess.PIPE,
+                          stderr=subprocess.DEVNULL, text=True, **options).stdout
 
 
 def own_state(architecture, room):
@@ -40,17 +54,34 @@ def own_state(architecture, room):
     return {**os.environ, "APT_CONFIG": str(room / "apt.conf")}
 
 
-def fetch(architecture, packages, to):
+def below(packages, env):
+    """These packages, and those that they depend on and that are not installed."""
+    files = said("apt-get", "-q", "-y", "--no-install-recommends", "--print-uris", "install",
+                 *packages, env=env)
+    return [*{*packages, *re.findall(r"^'\S+' ([a-z0-9.+-]+)_\S+\.deb ", files, re.M)}]
+
+
+def fetch(architecture, packages, to, with_needed):
     """Fetches packages into a folder, and answers whether all of them came."""
-    words = ["apt-get", "-q", "download", *packages]
-    here = subprocess.run(["dpkg", "--print-architecture"], capture_output=True, text=True).stdout
-    if here.strip() == architecture and quietly(words, cwd=to):
+    def comes(env):
+        more = below(packages, env) if with_needed else packages
+        return quietly(["apt-get", "-q", "download", *more], env=env, cwd=to)
+
+    if said("dpkg", "--print-architecture").strip() == architecture and comes(os.environ):
         return True
     env = own_state(architecture, to / "apt")
-    return quietly(["apt-get", "-q", "update"], env=env) and quietly(words, env=env, cwd=to)
+    return quietly(["apt-get", "-q", "update"], env=env) and comes(env)
 
 
-def unpacked(architecture, *packages):
+def unpack(package, home, only):
+    """Unpacks a package into a folder, or one file of it, and answers whether it does."""
+    if not only:
+        return quietly(["dpkg-deb", "-x", package, home])
+    return quietly(["sh", "-c", 'dpkg-deb --fsys-tarfile "$1" | tar -x -C "$2" "./$3"', "sh",
+                    package, home, only])
+
+
+def unpacked(architecture, *packages, with_needed=False, only=None):
     """The folder with these packages, or None where they cannot be had."""
     home = OUT / f"debian-{architecture}"
     if not all(map(shutil.which, ("apt-get", "dpkg", "dpkg-deb"))):
@@ -61,17 +92,38 @@ def unpacked(architecture, *packages):
         missing = [it for it in packages if not (home / f"has-{it}").is_file()]
         if missing:
             with tempfile.TemporaryDirectory() as room:
-                if not fetch(architecture, missing, Path(room)):
+                if not fetch(architecture, missing, Path(room), with_needed):
                     return None
-                for package in Path(room).glob("*.deb"):
-                    if not quietly(["dpkg-deb", "-x", package, home]):
-                        return None
+                if not all(unpack(it, home, only) for it in Path(room).glob("*.deb")):
+                    return None
             for it in missing:
                 (home / f"has-{it}").touch()
     return home
 
 
-if __name__ == "__main__":
-    if len(sys.argv) < 3 or sys.argv[1] not in ("amd64", "arm64"):
+def runs_arm64(has_loaded=False):
+    """The words before those of a program for arm64, which are none on such a machine, or None
+    where it cannot run. With `has_loaded`, programs may load what Debian's have."""
+    if platform.machine() == "aarch64":
+        return []
+    found = shutil.which("qemu-aarch64") or shutil.which("qemu-aarch64-static")
+    if not found:
+        home = unpacked("amd64", EMULATORS, only=EMULATOR)
+        found = home and str(home / EMULATOR)
+    loaded = found and has_loaded and unpacked("arm64", *LOADED)
+    if not found or has_loaded and not loaded:
+        return None
+    return [found, "-L", str(loaded)] if has_loaded else [found]
+
+
+def main(words):
+    with_needed = words[:1] == ["--needed"]
+    words = words[with_needed:]
+    if len(words) < 2 or words[0] not in ("amd64", "arm64"):
         sys.exit(__doc__)
-    print(unpacked(*sys.argv[1:]) or sys.exit("debian: the packages cannot be had here"))
+    print(unpacked(*words, with_needed=with_needed)
+          or sys.exit("debian: the packages cannot be had here"))
+
+
+if __name__ == "__main__":
+    main(sys.argv[1:])

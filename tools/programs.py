@@ -18,10 +18,24 @@ BUILT = {
     "stab": "crates/stab_cli/out/stab_cli.by-rattle",
 }
 
-# Prints the program that was built of these sources, or `release` where that of release/ was.
-LOOK = """. "$0/tools/launch"; speaker=tests; read_table "$1"; find_sources
-if find_built "$1"; then printf '%s' "${built[$1]}"
-elif is_released "$1"; then printf 'release'; fi"""
+# Prints the program for this machine that was built of these sources, or the file of release/ where
+# that one was. A second word names another machine.
+LOOK = """. "$0/tools/launch"; speaker=tests; name=${2-$part}$1; read_table "$name"; find_sources
+if find_built "$name"; then printf '%s' "${built[$name]}"
+elif is_released "$name"; then printf '%s' "$release/$name.gz"; fi"""
+
+
+def kept(room, name, *machine):
+    """The program of this name that is in out/ or in release/ and was made of these sources, or
+    None: for this machine, or for one of `arm64/`."""
+    words = ["bash", "-c", LOOK, TOP, name, *machine]
+    known = subprocess.run(words, capture_output=True, text=True).stdout
+    if not known.endswith(".gz"):
+        return Path(known) if known else None
+    unpacked = Path(room) / name
+    unpacked.write_bytes(gzip.decompress(Path(known).read_bytes()))
+    unpacked.chmod(0o755)
+    return unpacked
 
 
 def program(name, room):
@@ -30,15 +44,9 @@ def program(name, room):
     named = os.environ.get("PROGRAM_" + name.upper())
     if named:
         return Path(named).resolve()
-    words = ["bash", "-c", LOOK, TOP, name]
-    known = subprocess.run(words, capture_output=True, text=True).stdout
-    if known == "release":
-        unpacked = Path(room) / name
-        unpacked.write_bytes(gzip.decompress((TOP / f"release/{name}.gz").read_bytes()))
-        unpacked.chmod(0o755)
-        return unpacked
+    known = kept(room, name)
     if known:
-        return Path(known)
+        return known
     # (the gate has just built it)
     built = TOP / BUILT[name]
     return built if built.is_file() else None

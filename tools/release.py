@@ -64,7 +64,9 @@ DAEMON = TOP / "tools/build_daemon"
 MAX_BUILDS = 3
 # The modules of tests at the end of a first file.
 TESTS = re.compile(r"^#\[cfg\(test\)\]\nmod ([a-z0-9_]*);\n", re.M)
-TARGET, WASM = "x86_64-unknown-linux-gnu", "wasm64-unknown-unknown"
+WASM = "wasm64-unknown-unknown"
+# The artefacts for arm64 have names that begin so; the others are for x86-64, or for a page.
+ARM64 = "arm64/"
 # The bytes of a module's stack: the lists of all links of a tree are on it, and copies of them.
 STACK = "16777216"
 # What a program names that the C library of the system loads.
@@ -79,6 +81,26 @@ def digest_of(data):
     return hashlib.sha256(data).hexdigest()
 
 
+def processor_of(name):
+    """What an artefact is for, by its name."""
+    return "aarch64" if name.startswith(ARM64) else "x86_64"
+
+
+def target_of(name):
+    return f"{processor_of(name)}-unknown-linux-gnu"
+
+
+def flat(name):
+    """The name of an artefact as one of a file."""
+    return name.replace("/", "-")
+
+
+@functools.lru_cache
+def library_for(name):
+    """The C library that goes into a program, or None."""
+    return static.musl(processor_of(name))
+
+
 def output(*words, **options):
     """What a command writes, where it ends well."""
     return subprocess.run(words, check=True, stdout=subprocess.PIPE, **options).stdout
@@ -87,24 +109,16 @@ def output(*words, **options):
 class Release(Commands):
     """The release and the present sources, and what runs."""
 
-    # The folder of the release, and the processor that it is for.
-    folder, processor = RELEASE, "x86_64"
-    # What has the digests of its archives.
-    sums = "SHA256SUMS"
-
     def __init__(self, speaker, *names):
         super().__init__()
         self.speaker, self.names, self.room, self.fresh = speaker, names, None, {}
         # The digests of the objects of which programs were linked, by their names.
         self.objects = {}
-        # (the programs of the daemon, where the daemon is here)
-        self.daemon = ("rignoldad", "rignoldactl") if (TOP / "rust/rignoldad").is_dir() else ()
         self.look()
-
-    @functools.cached_property
-    def library(self):
-        """The C library that goes into programs, or None."""
-        return static.musl(self.processor)
+        # (the programs of the daemon, where the daemon is here)
+        parts = ["", ARM64] if any(it.startswith(ARM64) for it in self.artefacts) else [""]
+        self.daemon = [part + it for part in parts for it in ("rignoldad", "rignoldactl")
+                       if (TOP / "rust/rignoldad").is_dir()]
 
     def say(self, text):
         print(f"{self.speaker}: {text}", file=sys.stderr, flush=True)
@@ -116,9 +130,9 @@ class Release(Commands):
     def look(self):
         """Asks tools/launch what is here."""
         self.artefacts, self.released = {}, {}
-        ask = '. "$1/tools/launch"; release=$2; tell "${@:3}"'
-        said = subprocess.run(["bash", "-c", ask, "bash", TOP, self.folder, self.speaker,
-                               *self.names], stdout=subprocess.PIPE, text=True)
+        ask = '. "$1/tools/launch"; tell "${@:2}"'
+        said = subprocess.run(["bash", "-c", ask, "bash", TOP, self.speaker, *self.names],
+                              stdout=subprocess.PIPE, text=True)
         if said.returncode:
             sys.exit(said.returncode)
         for line in said.stdout.splitlines():
@@ -133,14 +147,17 @@ class Release(Commands):
     def sources(self, *more):
         """The digest of the sources of each artefact, and of these programs of the daemon."""
         found = {name: it.sources for name, it in self.artefacts.items()}
-        if more:
-            found.update(dict.fromkeys(more, output(DAEMON, "--sources", text=True).strip()))
+        of = {}
+        for name in more:
+            words = ("--arm64",) if name.startswith(ARM64) else ()
+            of[words] = of.get(words) or output(DAEMON, *words, "--sources", text=True).strip()
+            found[name] = of[words]
         return found
 
     def file(self, name):
         """The file of an artefact in release/."""
         is_program = name in self.daemon or self.artefacts[name].kind == "program"
-        return self.folder / (f"{name}.gz" if is_program else name)
+        return RELEASE / (f"{name}.gz" if is_program else name)
 
     def contents(self, name):
         """What the file of an artefact holds, and whether it is whole and nothing follows it."""
@@ -251,7 +268,7 @@ class Release(Commands):
         """Links a program as rt does: over the C library glibc, which it then needs where it runs.
         """
         home = kit()
-        return self.link(TARGET, to, made, f"{home}/c/libos_c.a", f"{home}/c/liblibc_c.a")
+        return self.link(target_of(""), to, made, f"{home}/c/libos_c.a", f"{home}/c/liblibc_c.a")
 
     def make_object(self, tree, crate, made, jobs):
         """Has Rattle's own compiler prove a program and make the object beside it."""
@@ -266,13 +283,16 @@ class Release(Commands):
 
     def make_static(self, name, made):
         """Links a program of the object beside the one that rt has made, so that it needs no C
-        library, and answers its file, or None. Where there is none to link, it is that of rt."""
+        library, and answers its file, or None. Where there is none to link, it is that of rt, which
+        makes none for arm64."""
         self.objects[name] = digest_of(Path(f"{made}.o").read_bytes())
-        if not self.library:
+        if not library_for(name):
+            if not made.is_file():
+                return None
             self.say("Debian's package musl-dev is not here: the program needs the C library glibc")
             return made
         to = made.with_name(f"{made.name}.static")
-        is_well = static.link(self.library, self.processor, f"{made}.o", to,
+        is_well = static.link(library_for(name), processor_of(name), f"{made}.o", to,
                               lambda words: self.does(words, made.parent))
         return to if is_well else None
 
@@ -281,9 +301,24 @@ class Release(Commands):
         have taken that from an earlier run, with no object then."""
         crate = self.artefacts[name].crate
         made = tree / f"crates/{crate}/out/{crate}.by-rattle"
+        if name.startswith(ARM64):
+            made = made.with_name(f"{crate}.arm64")
+            is_well = self.compile(tree, crate, "src/main.rt", f"{made}.o", "--target",
+                                   target_of(name), "--jobs", "2", *self.incremental(made.parent))
+            return self.make_static(name, made) if is_well else None
         is_well = made.is_file() and (self.is_object_of(made) or (
             self.make_object(tree, crate, made, "2") and self.is_object_of(made)))
         return self.make_static(name, made) if is_well else None
+
+    def incremental(self, out):
+        """Words that have the compiler take what checks of a crate have kept, if there is any."""
+        return ["--incremental", "out/incremental"] if (out / "incremental").is_dir() else []
+
+    def make_archive(self, tree, name, made):
+        """Has the compiler make a library for C over the libraries that are there."""
+        return self.compile(tree, self.artefacts[name].crate, "src/lib.rt", made, "--crate-type",
+                            "staticlib", "--backend", "llvm", "--target", target_of(name),
+                            "--jobs", "2", *self.incremental(made.parent))
 
     def make_module(self, tree, crate, made):
         """Has the compiler make a module of a crate over the libraries that are there."""
@@ -320,34 +355,33 @@ class Release(Commands):
         if kind == "program":
             return self.make_program(tree, name)
         home = tree / "crates" / crate
-        made = home / "out" / name
+        made = home / "out" / flat(name)
         made.parent.mkdir(exist_ok=True)
         made.unlink(missing_ok=True)
         # (a check has left the libraries below with stamps, as rt itself takes them)
         if any((tree / f"crates/{it}/out/rlib/stamp").is_file() for it in below(crate, listed())):
             return self.make_over_checks(home, name)
-        if kind == "module":
-            is_well = self.make_module(tree, crate, made)
-        else:
-            is_well = self.compile(tree, crate, "src/lib.rt", made, "--crate-type", "staticlib",
-                                   "--backend", "llvm", "--jobs", "2")
+        is_well = (self.make_module(tree, crate, made) if kind == "module" else
+                   self.make_archive(tree, name, made))
         return made if is_well and made.is_file() else None
 
     def make_over_checks(self, home, name):
         """Makes a library or a module over what checks have kept, and answers its file, or None."""
         kind, crate = self.artefacts[name][:2]
-        made = home / "out" / (f"lib{crate}.a" if kind == "library" else name)
+        tree, by_rt = home.parent.parent, kind == "library" and not name.startswith(ARM64)
+        made = home / "out" / (f"lib{crate}.a" if by_rt else flat(name))
         made.unlink(missing_ok=True)
-        is_well = self.does(["rt", "lib"] if kind == "library" else ["rt", "check", "--jobs", "1"],
-                            home)
+        is_well = self.does(["rt", "lib"] if by_rt else ["rt", "check", "--jobs", "1"], home)
         if kind == "module":
-            is_well = is_well and self.make_module(home.parent.parent, crate, made)
+            is_well = is_well and self.make_module(tree, crate, made)
+        elif not by_rt:
+            is_well = is_well and self.make_archive(tree, name, made)
         return made if is_well and made.is_file() else None
 
     def keep(self, name, made):
         """Keeps a file that was built as a fresh one of an artefact, whole or not at all, and at no
         time as one that somebody else may write to."""
-        fresh = KEPT / f"new-{name}"
+        fresh = KEPT / f"new-{flat(name)}"
         with contextlib.suppress(FileNotFoundError):
             fresh.unlink()
         to = os.open(fresh, os.O_WRONLY | os.O_CREAT | os.O_EXCL, 0o700)
@@ -401,7 +435,9 @@ class Release(Commands):
         kind, crate = self.artefacts[name][:2]
         home = TOP / "crates" / crate
         LOG.write_text("")
-        if kind == "program":
+        if kind == "program" and name.startswith(ARM64):
+            made = self.does(["rt", "check"], home) and self.make_program(TOP, name)
+        elif kind == "program":
             words = read(home / "args").splitlines()
             given = home / "stdin" if (home / "stdin").is_file() else os.devnull
             with open(given, "rb") as given:
@@ -425,7 +461,7 @@ class Release(Commands):
                 os.rename(fresh, built)
             except OSError:
                 self.fail(f"{name} cannot be kept as {built}")
-            for other in glob.glob(f"{glob.escape(str(KEPT))}/{name}-*"):
+            for other in glob.glob(f"{glob.escape(str(KEPT))}/{flat(name)}-*"):
                 if other != built and re.search("-[0-9a-f]{64}$", other):
                     os.unlink(other)
             self.artefacts[name] = self.artefacts[name]._replace(built=built)
@@ -513,51 +549,51 @@ class Release(Commands):
     # How it is released.
 
     def write(self, files, lines):
-        """Writes the files of the release and its manifest of these lines, and nothing else that is
-        for the same machines."""
-        files[self.folder / "MANIFEST"] = "".join(f"{line}\n" for line in lines).encode()
-        for it in self.present():
+        """Writes the files of the release and its manifest of these lines, and nothing else."""
+        files[RELEASE / "MANIFEST"] = "".join(f"{line}\n" for line in lines).encode()
+        for it in RELEASE.glob("*"):
             shutil.rmtree(it) if it.is_dir() and not it.is_symlink() else it.unlink()
-        self.folder.mkdir(parents=True, exist_ok=True)
         for file, data in files.items():
+            file.parent.mkdir(parents=True, exist_ok=True)
             file.write_bytes(data)
 
     def copy_archives(self):
-        """Copies the archives for the package of the crate for Rust, which has those of its target
+        """Copies the archives for the package of the crate for Rust, which has those of its targets
         inside."""
-        for name, part in ("librignolda.a", ""), ("librignolda_settings.a", "-settings"):
-            if (TOP / "rust/rignolda").is_dir() and (self.folder / name).is_file():
-                (TOP / "rust/rignolda/lib").mkdir(exist_ok=True)
-                shutil.copy(self.folder / name,
-                            TOP / f"rust/rignolda/lib/{self.processor}-linux{part}.a")
+        to = TOP / "rust/rignolda/lib"
+        for name, it in self.artefacts.items():
+            if it.kind == "library" and to.parent.is_dir():
+                to.mkdir(exist_ok=True)
+                part = "-settings" if "settings" in name else ""
+                shutil.copy(RELEASE / name, to / f"{processor_of(name)}-linux{part}.a")
 
-    def present(self):
-        """What the folder of the release has, but that of the machines of another kind."""
-        return {*self.folder.glob("*")} - {RELEASE / "arm64"}
-
-    def compared_with(self):
-        """What a program is made with: the kit, and the C library."""
-        return f"{self.kit} and {self.library.name if self.library else 'glibc'}"
+    def compared_with(self, name):
+        """What a file is made with: the kit, and in a program the C library."""
+        if self.artefacts[name].kind != "program":
+            return self.kit
+        return f"{self.kit} and {library_for(name).name}"
 
     def make(self, is_anew):
         """Makes the files of release/, which are built first if that was not done yet."""
+        for name, it in self.artefacts.items():
+            if it.kind == "program" and not library_for(name):
+                self.fail("for a release Debian's package musl-dev is needed for "
+                          f"{static.DEBIAN[processor_of(name)]}")
         if is_anew or not all(it.built for it in self.artefacts.values()):
             self.build("a release is to be made", is_anew)
         if not self.kit:
             self.fail("the command rt of the Rattle kit is needed for a release")
         files, lines = {}, [f"kit {self.kit}"]
         for name, it in self.artefacts.items():
-            data, compared = Path(it.built).read_bytes(), self.kit
-            if it.kind == "program":
-                if not self.library or LOADER in data:
-                    self.fail("for a release Debian's package musl-dev is needed: where that is "
-                              "here, run ./release.sh --prove")
-                data, compared = output("gzip", "-9n", input=data), self.compared_with()
-            files[self.file(name)] = data
+            data = Path(it.built).read_bytes()
+            if LOADER in data:
+                self.fail(f"{name} was built where there was no musl-dev: run ./release.sh --prove")
+            files[self.file(name)] = (output("gzip", "-9n", input=data) if it.kind == "program"
+                                      else data)
             lines.append(f"{name} sha256 {it.built[-64:]} sources {it.sources} "
-                         f"compared with {compared}")
-        if not self.why and {*self.daemon} <= {*self.released}:
-            for name in self.daemon:
+                         f"compared with {self.compared_with(name)}")
+        for name in self.daemon:
+            if not self.why and name in self.released:
                 if not self.file(name).is_file():
                     self.fail(f"the release has no {name}.gz: run tools/build_daemon --keep")
                 files[self.file(name)] = self.file(name).read_bytes()
@@ -593,23 +629,25 @@ class Release(Commands):
         """Whether the program of the release has another C library inside than is here, as its line
         of the manifest says."""
         named = re.search(" and (musl [0-9a-f]{64})$", self.released.get(name, ("",))[-1])
+        library = library_for(name)
         return (self.artefacts[name].kind == "program" and bool(named)
-                and (not self.library or self.library.name != named[1]))
+                and (not library or library.name != named[1]))
 
     def cases(self):
         """Compares the release with what was just proved and built of the present sources: each
         case with whether it holds, and what is wrong if it does not."""
-        wanted = {self.folder / "MANIFEST", *map(self.file, [*self.artefacts, *self.daemon])}
-        yield ("release/ has its files", self.present() == wanted
+        wanted = {RELEASE / "MANIFEST", *map(self.file, [*self.artefacts, *self.daemon])}
+        there = {it for it in RELEASE.rglob("*") if it.is_symlink() or not it.is_dir()}
+        yield ("release/ has its files", there == wanted
                and all(it.is_file() and not it.is_symlink() for it in wanted),
                f"it has not exactly MANIFEST and a file for {' '.join(self.artefacts)}")
         yield ("the manifest is one", {*self.released} == {*self.artefacts, *self.daemon},
-               f"{self.folder}/MANIFEST is missing or spoiled, or lists other files")
+               f"{RELEASE}/MANIFEST is missing or spoiled, or lists other files")
         sources, differ = self.sources(*self.daemon), []
         for name in sources:
             yield (f"{name}: the manifest names these sources",
                    self.released.get(name, "??")[1] == sources[name],
-                   "run tools/build_daemon --keep" if name in self.daemon else
+                   f"run {self.maker(name)}" if name in self.daemon else
                    "the release was made from other sources")
             yield (f"{name}: the manifest names the file beside it", self.is_named(name),
                    "it is another one, or spoiled")
@@ -618,7 +656,7 @@ class Release(Commands):
             made = self.make_after_ci(TOP, name)
             data = self.contents(name)[0]
             what, is_same = "the file is", bool(made) and data == made.read_bytes()
-            if made and self.is_of_another_library(name):
+            if name in self.objects and self.is_of_another_library(name):
                 what = "the object in the file is"
                 is_same = static.has_object(data, self.objects[name])
                 print(f"{name} is NOT COMPARED as a whole: in it is another C library than here")
@@ -647,14 +685,19 @@ class Release(Commands):
 
     def maker(self, name):
         """What makes the file of an artefact."""
-        return "tools/build_daemon --keep" if name in self.daemon else "./release.sh"
+        if name not in self.daemon:
+            return "./release.sh"
+        return f"tools/build_daemon {'--arm64 ' * name.startswith(ARM64)}--keep"
 
-    def pack(self, to):
-        """Puts the artefacts of the release into the folder of an archive, and then the pages, the
-        examples and what else is for users: the sources of agents and of the Rust crate too, which
-        take the library from lib/ there."""
+    def pack(self, to, processor):
+        """Puts the artefacts for a processor, and the modules, into the folder of an archive, and
+        then the pages, the examples and what else is for users: the sources of agents and of the
+        Rust crate too, which take the library from lib/ there."""
         sources = self.sources(*self.daemon)
         for name in sources:
+            is_module = name not in self.daemon and self.artefacts[name].kind == "module"
+            if processor_of(name) != processor and not is_module:
+                continue
             if self.released.get(name, "??")[1] != sources[name]:
                 self.fail(f"the release of {name} was made from other sources: run "
                           f"{self.maker(name)} first")
@@ -663,7 +706,7 @@ class Release(Commands):
                           "names")
             is_program = self.file(name).suffix == ".gz"
             folder = "" if is_program else "lib/" if name.endswith(".a") else "page/"
-            file = to / folder / name
+            file = to / folder / name.rpartition("/")[2]
             file.parent.mkdir(parents=True, exist_ok=True)
             file.write_bytes(self.contents(name)[0])
             file.chmod(0o755 if is_program else 0o644)
@@ -683,13 +726,13 @@ class Release(Commands):
         if (TOP / "tools/pages.py").exists():
             output(TOP / "tools/pages.py", to / "docs/CLAIMS.md")
 
-    def package(self, folder, version, day):
+    def package(self, folder, processor, version, day):
         """Makes the package for Debian, from the folder of an archive, and answers its name."""
         maker = folder / "rust/rignoldad/packaging/make_deb"
         if not os.access(maker, os.X_OK) or not shutil.which("dpkg-deb"):
             self.say("no package for Debian is made: there is no daemon or no dpkg-deb")
             return []
-        kind = static.DEBIAN[self.processor]
+        kind = static.DEBIAN[processor]
         name = f"rignoldad_{version}_{kind}.deb"
         second = output("date", "-u", "-d", day, "+%s", text=True).strip()
         output(maker, folder, version, kind, KEPT / name, env={
@@ -715,10 +758,19 @@ class Release(Commands):
                 self.fail(f"CHANGELOG.md has the version {version}, and the crate {part} for Rust "
                           f"{own[1]}")
         self.is_kept_own()
+        names = []
+        for processor in sorted({*map(processor_of, self.artefacts)}, reverse=True):
+            names += self.archive_for(processor, version, day)
+        sums = "".join(f"{digest_of((KEPT / it).read_bytes())}  {it}\n" for it in names)
+        (KEPT / "SHA256SUMS").write_text(sums)
+        print(sums, end="")
+
+    def archive_for(self, processor, version, day):
+        """Packs what is for a processor, and answers the names of what it has made."""
         self.room = Path(tempfile.mkdtemp())
-        folder = self.room / f"rignolda-{version}-{self.processor}-linux"
+        folder = self.room / f"rignolda-{version}-{processor}-linux"
         folder.mkdir()
-        self.pack(folder)
+        self.pack(folder, processor)
         files = sorted(str(it.relative_to(folder)) for it in folder.rglob("*") if it.is_file())
         (folder / "SHA256SUMS").write_text(
             "".join(f"{digest_of((folder / it).read_bytes())}  {it}\n" for it in files))
@@ -728,10 +780,9 @@ class Release(Commands):
                self.room / "tar", folder.name, env={**os.environ, "LC_ALL": "C"})
         (KEPT / names[0]).write_bytes(output("xz", "-T1", "-c", self.room / "tar"))
         self.say(f"{KEPT}/{names[0]}")
-        names += self.package(folder, version, day)
-        sums = "".join(f"{digest_of((KEPT / it).read_bytes())}  {it}\n" for it in names)
-        (KEPT / self.sums).write_text(sums)
-        print(sums, end="")
+        names += self.package(folder, processor, version, day)
+        self.remove_room()
+        return names
 
 
 def main(words):
