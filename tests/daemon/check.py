@@ -33,7 +33,7 @@ from runner import sure, test
 
 # (each of them tells its tests)
 for name in ("blocked", "floods", "hostile", "memory_faults", "older", "operating", "parents",
-             "store", "watching"):
+             "rounds", "store", "watching"):
     importlib.import_module(name)
 
 PACKAGING = pathlib.Path(__file__).resolve().parents[2] / "rust/rignoldad/packaging"

@@ -115,6 +115,7 @@ class Agent:
                        "apply": {"folder": str(self.settings)}}
         self.top = {}
         self.prefix = []        # what its command begins with
+        self.program = None     # its daemon, where it is another one
         self.env = {"RIGNOLDA_TRACE": "1"}
         if parent:
             self.top["parents"] = [f"{parent.name}@127.0.0.1:{parent.port}"]
@@ -144,8 +145,9 @@ class Agent:
         self.configure()
         with open(self.log, "a") as log:
             self.process = subprocess.Popen(
-                [*self.prefix, self.tree.bin / "rignoldad", self.file], stderr=log, stdout=log,
-                stdin=subprocess.DEVNULL, cwd=self.home, env={**os.environ, **self.env})
+                [*self.prefix, self.program or self.tree.bin / "rignoldad", self.file],
+                stderr=log, stdout=log, stdin=subprocess.DEVNULL, cwd=self.home,
+                env={**os.environ, **self.env})
 
     def kill(self, how=signal.SIGKILL):
         """Ends the process, and waits until it is gone."""

@@ -30,6 +30,7 @@ class Relay:
         self.open = True
         self.calm = False
         self.connections = 0
+        self.passed = 0     # how many bytes came
         self.pairs = []
         threading.Thread(target=self.accept, daemon=True).start()
 
@@ -69,6 +70,7 @@ class Relay:
                     piece = sock.recv(1 << 16)
                     if not piece:
                         return
+                    self.passed += len(piece)
                     other = far if sock is near else near
                     if self.cuts and not self.calm and self.draw.random() < 0.05:
                         other.sendall(piece[:self.draw.randrange(len(piece))])

@@ -23,6 +23,7 @@
 //! assert!(table.takes(sequence, &meaning) && table.heard.applies);
 //! assert!(publisher.next(100).is_none());
 //! ```
+use crate::net::wire::HEAD_BYTES;
 use crate::net::{is_plain, Body, BODY_BYTES};
 use std::collections::BTreeMap;
 use std::sync::Arc;
@@ -126,6 +127,46 @@ impl Body {
         };
         Some((head.number, meaning))
     }
+}
+
+/// The whole table that begins so, made of what an agent keeps: the last whole one, and what came
+/// since, in this order.
+///
+/// ```
+/// use rignolda::settings::{table_of, Meaning};
+/// use rignolda::net::Body;
+///
+/// let table = Body::new(5, &Meaning::Table(vec![("a", Some(b"1")), ("b", Some(b"2"))]));
+/// let change = Body::new(6, &Meaning::Changes(vec![("a", None), ("c", Some(b"3"))]));
+/// let next = Body::new(9, &Meaning::Table(vec![("b", Some(b"2")), ("c", Some(b"3"))]));
+/// let head = next.bytes[..9].try_into()?;
+/// assert_eq!(table_of(&head, &[&table, &change]), Some(next));
+/// # Ok::<(), std::array::TryFromSliceError>(())
+/// ```
+pub fn table_of(head: &[u8; HEAD_BYTES], since: &[&Body]) -> Option<Arc<Body>> {
+    let (first, rest) = since.split_first()?;
+    let mut settings: BTreeMap<&str, &[u8]> = match first.meaning()? {
+        (_, Meaning::Table(all)) => all.into_iter().filter_map(set).collect(),
+        _ => return None,
+    };
+    for (_, meaning) in rest.iter().filter_map(|body| body.meaning()) {
+        match meaning {
+            Meaning::Table(all) => settings = all.into_iter().filter_map(set).collect(),
+            Meaning::Changes(changes) => changes.into_iter().for_each(|(key, value)| match value {
+                Some(value) => drop(settings.insert(key, value)),
+                None => drop(settings.remove(key)),
+            }),
+            Meaning::Harmless => (),
+        }
+    }
+    let all = settings.into_iter().map(|(key, value)| (key, Some(value)));
+    let [_, number @ ..] = *head;
+    let table = Body::new(u64::from_be_bytes(number), &Meaning::Table(all.collect()));
+    Some(table).filter(|it| it.bytes.starts_with(head))
+}
+
+fn set<'a>((key, value): Entry<'a>) -> Option<(&'a str, &'a [u8])> {
+    value.map(|value| (key, value))
 }
 
 /// How many bytes of a body an entry takes.

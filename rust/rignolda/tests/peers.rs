@@ -1,5 +1,5 @@
 //! Agents over lines in memory: who connects to whom, what is said first, and who is taken.
-use rignolda::net::wire::{self, Expect, Hello, Message, OLD, VERSION};
+use rignolda::net::wire::{self, Expect, Hello, Message, FIRST, OLD, VERSION};
 use rignolda::net::{Body, Children, Line, Parent, Peers, Setup, Way};
 use std::cell::RefCell;
 use std::collections::{BTreeMap, VecDeque};
@@ -650,7 +650,7 @@ fn a_child_that_was_connected_to_acknowledges_first() {
 /// A hello of version 2, or a look.
 fn hello_2(from: &str, to: &str, life: u64) -> Hello {
     Hello {
-        version: VERSION,
+        version: FIRST,
         life,
         label: 7,
         from: from.into(),
@@ -672,7 +672,7 @@ fn a_look_is_answered_with_the_way_and_changes_no_link() {
     let end = net.stranger("a", "b", &hello_2("b", "a", 0).look());
     net.steps(2);
     let answer = Hello {
-        label: 0,
+        label: Hello::range(OLD..=VERSION),
         ..hello_2("a", "b", 0)
     };
     assert_eq!(next(&end, Expect::Hello), Some(Message::Look(answer)));
@@ -845,7 +845,7 @@ fn a_child_is_called_in_version_1_where_it_left_twice_without_a_word() {
                 other => panic!("{:?}", other),
             }
         };
-        (0..times).for_each(|_| assert_eq!(version(&mut net), VERSION));
+        (0..times).for_each(|_| assert_eq!(version(&mut net), FIRST));
         if times == 2 {
             assert_eq!(version(&mut net), OLD);
             continue;

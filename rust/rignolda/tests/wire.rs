@@ -1,6 +1,8 @@
 //! Messages and bodies: what is written is read again, and whatever else comes does no harm.
-use rignolda::net::wire::{ack, frame, report, take, way, Expect, Hello, Message};
-use rignolda::net::wire::{GOODBYE, OLD, REPORT_BYTES, VERSION, WAY_BYTES};
+use rignolda::net::wire::{
+    ack, frame, lacks, reference, report, take, way, Expect, Hello, Message, Reference,
+};
+use rignolda::net::wire::{FIRST, GOODBYE, OLD, REPORT_BYTES, WAY_BYTES};
 use rignolda::net::{Body, Way, BODY_BYTES};
 use rignolda::settings::{entry_bytes, is_key, Meaning, VALUE_BYTES};
 
@@ -52,6 +54,32 @@ fn the_bytes_are_these() {
         },
     );
     assert_eq!(head, b"F\x00\x03\x0a\x0b\x0c\x0d\x00\x00\x00\x05");
+    let it = referred();
+    let bytes = [
+        &b"D\x00\x03\x0a\x0b\x0c\x0d\x00\x00\x00\x05T\0\0\0\0\0\0\0\x09"[..],
+        &[6; 32],
+    ]
+    .concat();
+    assert_eq!(reference(3, &it), bytes);
+    assert_eq!(lacks(0x0102), b"N\x01\x02");
+    assert_eq!(
+        all(bytes.clone(), Expect::Frames).0,
+        [Message::Reference(3, it)]
+    );
+    assert_eq!(all(lacks(9), Expect::Acks).0, [Message::Lacks(9)]);
+    let mut long = bytes;
+    long[7..11].copy_from_slice(&(BODY_BYTES as u32 + 1).to_be_bytes());
+    assert_eq!(all(long, Expect::Frames).1, Err("a body is too long"));
+    assert_eq!(Hello::range(1..=3), 0x0103);
+}
+
+fn referred() -> Reference {
+    Reference {
+        item: 0x0a0b_0c0d,
+        length: 5,
+        head: *b"T\0\0\0\0\0\0\0\x09",
+        digest: [6; 32],
+    }
 }
 
 fn long_way(names: usize) -> Way {
@@ -99,7 +127,7 @@ fn a_way_is_bounded_and_has_names() {
         assert_eq!(all(bytes, Expect::Way).1, Err(why));
     }
     let look = Hello {
-        version: VERSION,
+        version: FIRST,
         ..hello()
     };
     assert_eq!(&look.look()[..5], b"RGNL\x02");
@@ -169,11 +197,12 @@ fn a_hello_of_another_kind_is_refused() {
         Err("it is no hello")
     );
     let mut other = good.clone();
-    let why = "its version of the protocol is neither 1 nor 2";
-    for version in [0, 3, 255] {
-        other[4] = version;
-        assert_eq!(all(other.clone(), Expect::Hello).1, Err(why));
-    }
+    other[4] = 0;
+    let why = "its version of the protocol is none";
+    assert_eq!(all(other.clone(), Expect::Hello).1, Err(why));
+    // (a later one has this form too, so that its versions can be named)
+    other[4] = 255;
+    assert_eq!(all(other, Expect::Hello).0.len(), 1);
     for name in ["", "a/b", ".a", "-a", "\u{e9}"] {
         let bytes = Hello {
             from: name.into(),
@@ -208,6 +237,8 @@ fn drawn_bytes_do_no_harm() {
         ]
         .concat(),
         ack(3),
+        lacks(3),
+        reference(3, &referred()),
         report(b"[]"),
         way(&Way {
             cost: 3,

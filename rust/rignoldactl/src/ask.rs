@@ -278,7 +278,8 @@ pub fn status_text(status: &Status) -> String {
         Some(parent) => {
             fact("parent", &format!("{parent}, for {}", age(status.connected_since * 1_000)));
         }
-        None => fact("parent", &"not connected"),
+        None if status.no_parent.is_empty() => fact("parent", &"not connected"),
+        None => fact("parent", &format!("not connected: {}", plain(&status.no_parent))),
     }
     let lacks = if status.is_rootless() { "no root: " } else { "" };
     fact("way", &format!("{lacks}{}, costs {}", status.way.join(" > "), status.cost));
@@ -302,7 +303,10 @@ pub fn status_text(status: &Status) -> String {
     fact("gaps", &status.gaps);
     fact("old frames", &status.old_frames);
     fact("reconnects", &status.reconnects);
-    fact("refused", &status.refused);
+    match status.refused {
+        0 => fact("refused", &0),
+        all => fact("refused", &format!("{all}, at last {}", plain(&status.last_refused))),
+    }
     if status.certificate_expires > 0 {
         let left = status.certificate_expires.saturating_sub(unix_now());
         fact("certificate", &format!("expires in {}", age(left * 1_000)));

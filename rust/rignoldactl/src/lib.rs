@@ -79,8 +79,9 @@ pub struct Status {
     pub is_root: bool,
     /// Its program's.
     pub version: String,
-    /// The parent that it is connected to.
+    /// The parent that it is connected to; and why none could be connected to last.
     pub parent: Option<String>,
+    pub no_parent: String,
     /// What its way costs, 128 and more without a root; and whose names lie on it, its own last.
     pub cost: u16,
     pub way: Vec<String>,
@@ -130,6 +131,8 @@ pub struct Status {
     pub reconnects: u64,
     /// Connections that were refused: a hello that was bad, late, or of an unknown name.
     pub refused: u64,
+    /// Who was refused last, and why.
+    pub last_refused: String,
     pub hook_failures: u64,
     /// Settings whose file or hook failed last.
     pub failing: u64,

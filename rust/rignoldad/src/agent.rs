@@ -12,8 +12,9 @@ use crate::serve::Ticket;
 use crate::tree::{Below, EACH};
 use mio::unix::SourceFd;
 use mio::{Events, Interest, Poll, Registry, Token, Waker};
+use rignolda::net::wire::HEAD_BYTES;
 use rignolda::net::{Body, Handler, Peers};
-use rignolda::settings::{furthest, older, Meaning, Table, Taker};
+use rignolda::settings::{furthest, older, table_of, Meaning, Table, Taker};
 use rignolda_redis::Stores;
 use rignolda_tls::{Caller, Line, Listener, Maker};
 use rignoldactl::{ChildStatus, Compared, Request, Response, Seen, Status};
@@ -31,7 +32,10 @@ const ACCEPTS: usize = 64;
 /// How often an agent says upwards what there is to watch, where it changed, if there are not very
 /// many agents below it; and in any case.
 const REPORTS: Duration = Duration::from_millis(100);
-const SAYS_AGAIN: Duration = Duration::from_secs(10);
+const SAYS_AGAIN: Duration = Duration::from_secs(30);
+
+/// After how long the clock is looked at again at the latest, since it may be set.
+const CLOCK: Duration = Duration::from_secs(10);
 
 /// How often the state is looked at as a whole.
 const CHECKS: Duration = Duration::from_secs(1);
@@ -281,6 +285,14 @@ impl Handler for State {
         takes && is_table
     }
 
+    fn digest(&mut self, body: &Body) -> Option<[u8; 32]> {
+        Some(openssl::sha::sha256(&body.bytes))
+    }
+
+    fn make(&mut self, head: &[u8; HEAD_BYTES], since: &[&Body]) -> Option<Arc<Body>> {
+        table_of(head, since)
+    }
+
     fn on_report(&mut self, child: &str, report: &[u8], now: Instant) -> bool {
         self.changed = true;
         let is_one = self.below.heard(child, report, now);
@@ -420,12 +432,12 @@ impl Agent {
         let full = Some(self.full_until).filter(|at| *at > now);
         let expires = u64::try_from(self.expires.saturating_sub(unix_now())).unwrap_or(0);
         // (the clock may be set meanwhile)
-        let expires = Some(now + Duration::from_secs(expires).min(SAYS_AGAIN));
+        let expires = Some(now + Duration::from_secs(expires).min(CLOCK));
         let files = self.state.applying.then(|| now + ASKS_AGAIN);
         let more = self.may_publish().then_some(now);
         let (peers, checks) = (self.peers.deadline(now), Some(self.checked + CHECKS));
         let all = [peers, root, report, served, full, files, more, expires, checks];
-        all.into_iter().flatten().min().unwrap_or(now + SAYS_AGAIN)
+        all.into_iter().flatten().min().unwrap_or(now + CLOCK)
     }
 
     /// Does all that can be done now. Mostly there is something to read, and nothing else.
@@ -613,6 +625,7 @@ impl Agent {
             version: env!("CARGO_PKG_VERSION").into(),
             failing: applier.as_ref().map_or(0, Applier::failing),
             parent: parent.map(|(parent, _)| parent.to_string()),
+            no_parent: parent.map_or(self.peers.no_parent(), |_| "").into(),
             cost: self.peers.way().cost,
             way: self.peers.way().names.clone(),
             connected_since: parent.map_or(0, |(_, since)| millis(since) / 1_000),
@@ -640,6 +653,7 @@ impl Agent {
             old_frames: relay.old_frames(),
             reconnects: self.peers.reconnects(),
             refused: self.peers.refused(),
+            last_refused: self.peers.last_refused().into(),
             hook_failures: applier.as_ref().map_or(0, Applier::hook_failures),
             unpublished: faults.map_or(0, |it| it.count),
             faults: faults.iter().flat_map(|it| it.texts.iter().take(FAULTS).cloned()).collect(),

@@ -1,7 +1,8 @@
 //! The connections of an agent: who connects to whom, what is said first, and who is waited for.
 use super::parents::{Parents, Way, BEAT, NONE, SILENCE};
 use super::relay::Came;
-use super::wire::{self, Expect, Hello, Message, FRAME_HEAD, OLD, VERSION};
+use super::wire::{self, Expect, Hello, Message, Reference, FRAME_HEAD};
+use super::wire::{FIRST, HEAD_BYTES, OLD, REFERS, VERSION};
 use super::{Body, Relay, Result};
 use crate::Connection;
 use std::cell::Cell;
@@ -23,8 +24,12 @@ const GREETING: usize = 64;
 const LATER: u32 = 5;
 /// How many children there are at most where any may connect.
 const ANY: usize = 10_000;
-/// The slowest line on which a body counts as under way, in bytes a second.
+/// The slowest line on which a body counts as under way, in bytes a second, and how many times
+/// faster it is made anew by whoever has all that is in it.
 const SLOWEST: u64 = 64 << 10;
+const MAKES: u32 = 16;
+/// A table that has not more bytes goes whole.
+const SHORT_TABLE: usize = 64;
 /// How many messages wait at most on a connection that brings more.
 const UNREAD: usize = 16;
 /// How much is read from one connection before the others have their turn.
@@ -66,6 +71,16 @@ pub trait Handler {
     /// An item came from the parent, or was published, and is the last of the list now. Whether it
     /// is a whole table, so that children who begin anew may begin with it.
     fn on_item(&mut self, body: &Arc<Body>, now: Instant) -> bool;
+    /// The SHA-256 of a body, if the agent has such a function: then a whole table goes to those
+    /// children that can make it by a [`Reference`] alone.
+    fn digest(&mut self, _body: &Body) -> Option<[u8; 32]> {
+        None
+    }
+    /// Makes a whole table that begins so, of the last one and what came since, where it can. What
+    /// it makes need not be right: it is compared with what the parent has.
+    fn make(&mut self, _head: &[u8; HEAD_BYTES], _since: &[&Body]) -> Option<Arc<Body>> {
+        None
+    }
     /// A child says this for watching alone. Whether it makes sense; else its connection is closed.
     fn on_report(&mut self, child: &str, report: &[u8], now: Instant) -> bool;
     /// A child is one no longer: what it said may be forgotten.
@@ -220,9 +235,11 @@ struct Conn<L> {
     /// frame that is under way.
     until: Option<Instant>,
     is_timed: bool,
-    /// Whether the other end speaks version 1, as far as is known; whether it has said anything;
-    /// and whether it left without a word.
-    is_old: bool,
+    /// Which version is spoken, as far as is known; whether the frame to a child that is under way
+    /// only refers to its body; whether the other end has said anything; and whether it left
+    /// without a word.
+    version: u8,
+    refers: bool,
     has_said: bool,
     is_mute: bool,
     /// Whether its end comes behind what can be read.
@@ -232,6 +249,11 @@ struct Conn<L> {
 }
 
 impl<L> Conn<L> {
+    /// Whether the other end knows no ways.
+    fn is_old(&self) -> bool {
+        self.version == OLD
+    }
+
     /// Whether it was accepted, and nobody knows whose it is.
     fn is_greeting(&self) -> bool {
         !matches!(self.state, State::Looks(..) | State::Link(..))
@@ -264,7 +286,7 @@ impl<L> Conn<L> {
 
     /// Of a parent, something whole came.
     fn is_alive(&mut self, now: Instant) {
-        self.until = (!self.is_old).then(|| now + SILENCE);
+        self.until = (!self.is_old()).then(|| now + SILENCE);
         self.is_timed = false;
     }
 
@@ -380,6 +402,7 @@ pub struct Peers<L, A> {
     reconnects: u64,
     refused: u64,
     said_refused: Option<Instant>,
+    last_refused: String,
     /// How often a hello was late on a connection that was accepted: nobody knows whose.
     late: u32,
     /// How many connections may wait without a hello, whatever else allows more; and the same with
@@ -389,6 +412,8 @@ pub struct Peers<L, A> {
     /// When the children are told the way again, and whether those in stores are.
     beat: Instant,
     says_again: bool,
+    /// The digest of the last whole table, once it was asked for.
+    digest: Option<(Arc<Body>, [u8; 32])>,
     /// Where what is read comes first.
     space: Box<[u8]>,
 }
@@ -397,10 +422,10 @@ impl<L: Line, A: Clone + PartialEq + fmt::Display> Peers<L, A> {
     /// An agent without connections. `life`: a number that the process drew when it began; `room`:
     /// how many items its list has room for.
     pub fn new(setup: Setup<A>, life: u64, room: u64, now: Instant) -> Peers<L, A> {
-        let keeps = matches!(setup.children, Children::Any);
         let prices = setup.parents.iter().map(|it| it.price);
         let mut peers = Peers {
-            relay: Relay::new(setup.parents.is_empty(), room, keeps),
+            // (an agent without children makes tables of what it keeps)
+            relay: Relay::new(setup.parents.is_empty(), room, true),
             parents: Parents::new(&setup.name, prices, false),
             setup,
             life,
@@ -420,11 +445,13 @@ impl<L: Line, A: Clone + PartialEq + fmt::Display> Peers<L, A> {
             reconnects: 0,
             refused: 0,
             said_refused: None,
+            last_refused: String::new(),
             late: 0,
             waiting: usize::MAX,
             not_waiting: 0,
             beat: now + BEAT,
             says_again: false,
+            digest: None,
             space: vec![0; READ_BYTES].into_boxed_slice(),
         };
         peers.dial_all(now);
@@ -581,6 +608,16 @@ impl<L: Line, A: Clone + PartialEq + fmt::Display> Peers<L, A> {
         self.refused
     }
 
+    /// Who was refused last, and why; empty where nobody was.
+    pub fn last_refused(&self) -> &str {
+        &self.last_refused
+    }
+
+    /// Why no parent could be connected to last; empty where that is not known.
+    pub fn no_parent(&self) -> &str {
+        self.dials.get(&Whom::Parent).map_or("", |dial| &*dial.why)
+    }
+
     /// Each line with its number, and whether it has something to write.
     pub fn lines(&self) -> impl Iterator<Item = (u64, &L, bool)> {
         let all = self.conns.iter();
@@ -672,7 +709,8 @@ impl<L: Line, A: Clone + PartialEq + fmt::Display> Peers<L, A> {
             written: 0,
             until: Some(until),
             is_timed: false,
-            is_old: false,
+            version: FIRST,
+            refers: false,
             has_said: false,
             is_mute: false,
             ends: false,
@@ -690,7 +728,7 @@ impl<L: Line, A: Clone + PartialEq + fmt::Display> Peers<L, A> {
             Whom::Child(name) => self.children.contains_key(name),
             Whom::Candidate(at) => {
                 let above = self.above.and_then(|id| self.conns.get(&id));
-                let is_old = above.map_or(false, |it| it.is_old && it.greeted().is_some());
+                let is_old = above.map_or(false, |it| it.is_old() && it.greeted().is_some());
                 !self.parents.looks_at(*at, is_old)
             }
         };
@@ -798,7 +836,7 @@ impl<L: Line, A: Clone + PartialEq + fmt::Display> Peers<L, A> {
         self.dial_with(whom, |dial| dial.under_way = true);
         let until = now + self.later(took, call.failed as u32);
         let id = self.open(line, state, now, until);
-        self.conn_with(id, |conn| conn.is_old = is_old);
+        self.conn_with(id, |conn| conn.version = if is_old { OLD } else { FIRST });
         let name = self.name_of(whom, at).cloned().unwrap_or_default();
         self.say(id, name);
         match whom {
@@ -825,25 +863,23 @@ impl<L: Line, A: Clone + PartialEq + fmt::Display> Peers<L, A> {
     /// that no life is told, and no label.
     fn say(&mut self, id: u64, to: String) {
         if let Some(conn) = self.conns.get(&id) {
-            let version = if conn.is_old { OLD } else { VERSION };
             let whom = conn.link().map(|(whom, _)| whom);
+            let version = whom.as_ref().map_or(FIRST, |_| conn.version);
             let hello = self.hello(version, whom.as_ref(), to);
-            self.send(
-                id,
-                if whom.is_none() {
-                    hello.look()
-                } else {
-                    hello.bytes()
-                },
-            );
+            let bytes = match whom {
+                None => hello.look(),
+                Some(_) => hello.bytes(),
+            };
+            self.send(id, bytes);
         }
     }
 
     fn hello(&mut self, version: u8, whom: Option<&Whom>, to: String) -> Hello {
         let (life, label) = match whom {
             Some(Whom::Parent) => (self.told(), self.relay.label()),
-            Some(_) => (self.life, self.relay.label()),
-            None => (0, 0),
+            Some(_) if version == OLD => (self.life, self.relay.label()),
+            Some(_) => (self.life, Hello::range(OLD..=VERSION)),
+            None => (0, Hello::range(OLD..=VERSION)),
         };
         Hello {
             version,
@@ -856,7 +892,7 @@ impl<L: Line, A: Clone + PartialEq + fmt::Display> Peers<L, A> {
 
     /// Says the own way, if the other end knows what that is.
     fn say_way(&mut self, id: u64) {
-        if let Some(conn) = self.conns.get_mut(&id).filter(|conn| !conn.is_old) {
+        if let Some(conn) = self.conns.get_mut(&id).filter(|conn| !conn.is_old()) {
             let is_unsent = conn.output.len() > 1 || conn.written == 0;
             if is_unsent && matches!(conn.output.back(), Some(Chunk::Way(_))) {
                 conn.output.pop_back();
@@ -974,11 +1010,12 @@ impl<L: Line, A: Clone + PartialEq + fmt::Display> Peers<L, A> {
             State::Answered => (),
             State::Accepted | State::Comes(..) => {
                 self.refused += 1;
+                self.last_refused = format!("{place}{}: {why}", conn.says);
                 // (whoever can connect must not fill the journal)
                 if self.said_refused.map_or(true, |at| cx.now >= at + SHORT) {
                     self.said_refused = Some(cx.now);
-                    let (says, all) = (&conn.says, self.refused);
-                    fact!(cx, "refused", "{place}{says}: {why} ({all} in all)");
+                    let (last, all) = (&self.last_refused, self.refused);
+                    fact!(cx, "refused", "{last} ({all} in all)");
                 }
             }
             State::Looks(whom, ..) => {
@@ -1008,7 +1045,7 @@ impl<L: Line, A: Clone + PartialEq + fmt::Display> Peers<L, A> {
                     self.parents.tries(self.parents.at());
                 }
                 // (a parent's hello of version 2 was not heard, or it was tried to speak version 1)
-                let is_mute = conn.is_mute && !conn.is_old && matches!(whom, Whom::Child(_));
+                let is_mute = conn.is_mute && !conn.is_old() && matches!(whom, Whom::Child(_));
                 let mute = self.dials.get(whom).map_or(0, |dial| dial.mute);
                 let mute = if is_mute { mute.saturating_add(1) } else { 0 };
                 self.redial(whom, *greeted, why, cx);
@@ -1023,7 +1060,7 @@ impl<L: Line, A: Clone + PartialEq + fmt::Display> Peers<L, A> {
         self.dial_with(&Whom::Parent, |dial| dial.under_way = false);
         if let Some(id) = self.above.take() {
             let conn = self.conns.get(&id).filter(|it| it.greeted().is_some());
-            if conn.map_or(false, |it| !it.is_old && !is_same) {
+            if conn.map_or(false, |it| !it.is_old() && !is_same) {
                 self.send(id, wire::GOODBYE.into());
                 self.write_one(id, cx);
             }
@@ -1199,10 +1236,10 @@ impl<L: Line, A: Clone + PartialEq + fmt::Display> Peers<L, A> {
     }
 
     /// Handles each whole message that a connection brought.
-    fn messages(&mut self, id: u64, cx: &mut Context<'_>) -> Result {
+    fn messages(&mut self, id: u64, cx: &mut Context<'_>) -> Result<(), String> {
         while let Some(conn) = self.conns.get_mut(&id) {
             if conn.output.len() > UNREAD {
-                return Err("it reads nothing");
+                return Err("it reads nothing".into());
             }
             conn.has_said = true;
             let expect = conn.expects();
@@ -1220,7 +1257,7 @@ impl<L: Line, A: Clone + PartialEq + fmt::Display> Peers<L, A> {
         Ok(())
     }
 
-    fn message(&mut self, id: u64, message: Message, cx: &mut Context<'_>) -> Result {
+    fn message(&mut self, id: u64, message: Message, cx: &mut Context<'_>) -> Result<(), String> {
         let conn = self.conns.get_mut(&id).ok_or("it is gone")?;
         if !matches!(
             message,
@@ -1228,44 +1265,58 @@ impl<L: Line, A: Clone + PartialEq + fmt::Display> Peers<L, A> {
         ) {
             self.due.set(None);
         }
+        let waits = conn.output.iter().any(|it| !matches!(it, Chunk::Way(_)));
+        let refers = conn.version >= REFERS;
         match (conn.link(), message) {
             (_, Message::Hello(hello)) => return self.greets(id, hello, false, cx),
             (link, Message::Look(hello)) => {
                 let answer = self.greets(id, hello, true, cx);
                 if answer.is_err() && link.is_none() {
-                    // (so much says which version this is, and else nothing)
-                    self.send(id, [wire::LOOK, &[VERSION]].concat());
+                    // (so much says that it is no end of version 1, and else nothing)
+                    self.send(id, [wire::LOOK, &[FIRST]].concat());
                     self.write_one(id, cx);
                 }
                 return answer;
             }
-            (None, Message::Way(way)) => return self.way_came(id, way, cx),
-            (Some((Whom::Parent, _)), Message::Way(way)) => return self.parents.hears(way),
+            (None, Message::Way(way)) => self.way_came(id, way, cx)?,
+            (Some((Whom::Parent, _)), Message::Way(way)) => self.parents.hears(way)?,
             (Some((Whom::Parent, number)), Message::Frame(label, body)) => {
-                let came = self.relay.on_frame(Some(number), label, &body);
-                self.came(came, &body, cx);
-                self.acknowledge(id);
+                self.frame_came(id, number, label, &body, cx);
             }
+            (Some((Whom::Parent, number)), Message::Reference(label, it)) if refers => {
+                match self.made(&it, cx) {
+                    Some(body) => self.frame_came(id, number, label, &body, cx),
+                    None => self.send(id, wire::lacks(label)),
+                }
+            }
+            // (else whoever acknowledges or asks without end would be sent to without end)
             (Some((Whom::Child(name), number)), Message::Ack(label)) => {
-                // (else whoever acknowledges without end would be sent to without end)
-                let waits = conn.output.iter().any(|it| !matches!(it, Chunk::Way(_)));
+                conn.refers = false;
                 if conn.until.take().is_none() || waits {
-                    return Err("it acknowledges what was not sent");
+                    return Err("it acknowledges what was not sent".into());
                 }
                 self.relay.on_ack(&name, Some(number), label, cx.now);
-                self.poll(&name, cx.now);
+                self.poll(&name, cx);
+            }
+            (Some((Whom::Child(name), _)), Message::Lacks(label)) => {
+                let asks = mem::take(&mut conn.refers) && !waits;
+                let held = self.relay.under_way(&name).filter(|it| it.0 == label);
+                let (_, body, _) = held
+                    .filter(|_| asks)
+                    .ok_or("it asks for what was not sent")?;
+                self.send_whole(id, &name, label, body.clone(), cx.now);
             }
             (Some((Whom::Child(name), _)), Message::Report(bytes)) => {
                 if !cx.to.on_report(&name, &bytes, cx.now) {
-                    return Err("it sent no report");
+                    return Err("it sent no report".into());
                 }
             }
             (Some((Whom::Child(name), _)), Message::Goodbye) => {
                 self.relay.leave_behind(&name);
                 self.forget_any(&name, cx);
-                return Err("it takes another parent");
+                return Err("it takes another parent".into());
             }
-            _ => return Err("it is no message"),
+            _ => return Err("it is no message".into()),
         }
         Ok(())
     }
@@ -1297,39 +1348,80 @@ impl<L: Line, A: Clone + PartialEq + fmt::Display> Peers<L, A> {
     }
 
     /// An end says a hello, or looks at this one, or is a candidate that answers.
-    fn greets(&mut self, id: u64, hello: Hello, is_look: bool, cx: &mut Context<'_>) -> Result {
+    fn greets(
+        &mut self,
+        id: u64,
+        hello: Hello,
+        is_look: bool,
+        cx: &mut Context<'_>,
+    ) -> Result<(), String> {
         let (whom, at) = self.who(id, &hello)?;
-        let is_old = hello.version == OLD;
+        let version = self.common(id, &hello, is_look || whom == Whom::Parent, cx)?;
+        let is_old = version == OLD;
         let conn = self.conns.get_mut(&id).ok_or("it is gone")?;
-        conn.is_old = is_old;
+        conn.version = version;
         match (&mut conn.state, whom) {
             (State::Looks(_, _, has_come), _) if is_look => *has_come = true,
-            (State::Link(Whom::Child(_), ..), _) if is_look => return Err("it has another parent"),
+            (State::Link(Whom::Child(_), ..), _) if is_look => {
+                return Err("it has another parent".into());
+            }
             (State::Accepted, Whom::Child(name)) if is_look => {
                 self.say(id, name);
                 self.say_way(id);
                 self.answered(id, cx.now);
             }
-            (State::Accepted, _) if is_look => return Err("its name is none of a child"),
+            (State::Accepted, _) if is_look => return Err("its name is none of a child".into()),
             (state, _) if is_look || matches!(state, State::Looks(..)) => {
-                return Err("it is no hello");
+                return Err("it is no hello".into());
             }
-            (_, Whom::Child(_)) => return self.child_greets(id, &hello, cx),
+            (_, Whom::Child(_)) => self.child_greets(id, &hello, cx)?,
             (State::Link(..), _) => {
                 if is_old {
                     self.parents.took(at, self.parents.old(at));
                 }
-                return self.parent_greets(id, &hello, cx);
+                self.parent_greets(id, &hello, cx)?;
             }
             (state, _) => {
                 // (nothing has changed yet: first its way is to come, or it is of version 1)
                 *state = State::Comes(at, hello);
                 if is_old {
-                    return self.way_came(id, self.parents.old(at), cx);
+                    self.way_came(id, self.parents.old(at), cx)?;
                 }
             }
         }
         Ok(())
+    }
+
+    /// The highest version that both ends speak. A range is said where a connection `may_begin`;
+    /// what answers that has the version that is spoken.
+    fn common(
+        &mut self,
+        id: u64,
+        hello: &Hello,
+        may_begin: bool,
+        cx: &mut Context<'_>,
+    ) -> Result<u8, String> {
+        let conn = self.conns.get(&id).ok_or("it is gone")?;
+        let is_answer = matches!(conn.state, State::Link(..)) || !may_begin;
+        let theirs = if is_answer {
+            hello.version..=hello.version
+        } else {
+            hello.versions()
+        };
+        let newest = VERSION.min(*theirs.end());
+        if newest >= OLD.max(*theirs.start()) {
+            return Ok(newest);
+        }
+        if conn.link().is_none() {
+            // (so that the other end can name both ranges too)
+            self.say(id, hello.from.clone());
+            self.write_one(id, cx);
+        }
+        let (oldest, newest) = theirs.into_inner();
+        Err(format!(
+            "it speaks versions {oldest} to {newest} of the protocol, and this agent {OLD} to \
+             {VERSION}"
+        ))
     }
 
     fn answered(&mut self, id: u64, now: Instant) {
@@ -1449,7 +1541,7 @@ impl<L: Line, A: Clone + PartialEq + fmt::Display> Peers<L, A> {
             None => self.say(id, name.into()),
         }
         self.say_way(id);
-        self.poll(name, cx.now);
+        self.poll(name, cx);
         Ok(())
     }
 
@@ -1467,6 +1559,30 @@ impl<L: Line, A: Clone + PartialEq + fmt::Display> Peers<L, A> {
     }
 
     // ---- What travels
+
+    fn frame_came(
+        &mut self,
+        id: u64,
+        number: Connection,
+        label: u16,
+        body: &Arc<Body>,
+        cx: &mut Context<'_>,
+    ) {
+        let came = self.relay.on_frame(Some(number), label, body);
+        self.came(came, body, cx);
+        self.acknowledge(id);
+    }
+
+    /// The body that a parent refers to, if it can be made here.
+    fn made(&mut self, it: &Reference, cx: &mut Context<'_>) -> Option<Arc<Body>> {
+        let since: Vec<&Body> = self.relay.since_last_table().map(Arc::as_ref).collect();
+        let body = cx.to.make(&it.head, &since)?;
+        let digest = cx.to.digest(&body)?;
+        let is_it = digest == it.digest && body.item == it.item;
+        // (its children are referred to it too)
+        self.digest = is_it.then(|| (body.clone(), digest));
+        is_it.then_some(body)
+    }
 
     fn acknowledge(&mut self, id: u64) {
         if let Some(label) = self.relay.ack() {
@@ -1493,7 +1609,7 @@ impl<L: Line, A: Clone + PartialEq + fmt::Display> Peers<L, A> {
             self.says_again = true;
         }
         let names: Vec<String> = self.children.keys().cloned().collect();
-        names.iter().for_each(|name| self.poll(name, cx.now));
+        names.iter().for_each(|name| self.poll(name, cx));
     }
 
     /// Says this to the parent, for watching alone: whether there is one that takes it now.
@@ -1525,20 +1641,67 @@ impl<L: Line, A: Clone + PartialEq + fmt::Display> Peers<L, A> {
     }
 
     /// Sends a child what is to be sent to it now.
-    fn poll(&mut self, name: &str, now: Instant) {
+    fn poll(&mut self, name: &str, cx: &mut Context<'_>) {
         let id = self.children.get(name).copied();
-        let frame = id.and_then(|_| self.relay.poll(name, now));
-        if let (Some(id), Some((label, body))) = (id, frame) {
-            let until = Some(now + self.patience(name) + travels(body.bytes.len()));
-            self.conn_with(id, |conn| conn.until = until);
-            self.comes_until(until);
-            let is_socket = self.line(id).map_or(false, |(line, _)| line.is_socket());
-            let frame = match is_socket || body.bytes.len() > JOINED {
-                true => Chunk::Frame(wire::frame_head(label, &body), body),
-                false => Chunk::Bytes([&wire::frame_head(label, &body), &*body.bytes].concat()),
-            };
-            self.push(id, frame);
+        let frame = id.and_then(|_| self.relay.poll(name, cx.now));
+        if let Some((id, (label, body))) = id.zip(frame) {
+            match self.reference(id, name, &body, cx) {
+                Some(it) => {
+                    self.answers(id, name, travels(body.bytes.len()) / MAKES, cx.now);
+                    self.conn_with(id, |conn| conn.refers = true);
+                    self.send(id, wire::reference(label, &it));
+                }
+                None => self.send_whole(id, name, label, body, cx.now),
+            }
         }
+    }
+
+    /// What stands for this body where a child may have all that is in it: the last whole table. It
+    /// does so once for each frame, which goes whole from then on: so it need not be right.
+    fn reference(
+        &mut self,
+        id: u64,
+        name: &str,
+        body: &Arc<Body>,
+        cx: &mut Context<'_>,
+    ) -> Option<Reference> {
+        let may = self.conns.get(&id)?.version >= REFERS && self.relay.under_way(name)?.2 == 1;
+        let is_table = |table: &Arc<Body>| Arc::ptr_eq(table, body);
+        if !may || !self.relay.since_last_table().next().map_or(false, is_table) {
+            return None;
+        }
+        let head = body
+            .bytes
+            .get(..HEAD_BYTES)
+            .filter(|_| body.bytes.len() > SHORT_TABLE)?;
+        let head = head.try_into().ok()?;
+        let known = self.digest.take().filter(|(table, _)| is_table(table));
+        let digest = known.map_or_else(|| cx.to.digest(body), |(_, digest)| Some(digest))?;
+        self.digest = Some((body.clone(), digest));
+        Some(Reference {
+            item: body.item,
+            length: body.bytes.len() as u32,
+            head,
+            digest,
+        })
+    }
+
+    /// Sends a child a frame with its body.
+    fn send_whole(&mut self, id: u64, name: &str, label: u16, body: Arc<Body>, now: Instant) {
+        self.answers(id, name, travels(body.bytes.len()), now);
+        let is_socket = self.line(id).map_or(false, |(line, _)| line.is_socket());
+        let frame = match is_socket || body.bytes.len() > JOINED {
+            true => Chunk::Frame(wire::frame_head(label, &body), body),
+            false => Chunk::Bytes([&wire::frame_head(label, &body), &*body.bytes].concat()),
+        };
+        self.push(id, frame);
+    }
+
+    /// A child is to answer what is sent now, which takes so much longer than others.
+    fn answers(&mut self, id: u64, name: &str, takes: Duration, now: Instant) {
+        let until = Some(now + self.patience(name) + takes);
+        self.conn_with(id, |conn| (conn.until, conn.refers) = (until, false));
+        self.comes_until(until);
     }
 }
 

@@ -85,8 +85,9 @@ pub struct Relay {
 pub struct Link {
     session: Session<Child>,
     connection: Option<Connection>,
-    /// The body of the item that the sender holds.
+    /// The body of the item that the sender holds, and how often its frame was given to be sent.
     held: Option<Arc<Body>>,
+    times: u64,
     /// The life of the child's process with which this link began, and then those of the processes
     /// that it had before; none where it never began.
     lives: VecDeque<u64>,
@@ -254,6 +255,14 @@ impl Relay {
         self.forget();
     }
 
+    /// The last whole table, if it is kept, and then what came since.
+    pub fn since_last_table(&self) -> impl Iterator<Item = &Arc<Body>> {
+        let first = self.table.as_ref().map(Child::offered);
+        let first = first.and_then(|at| at.checked_sub(self.above.node().forgotten()));
+        let first = first.map_or(usize::MAX, |first| first as usize);
+        self.bodies.iter().skip(first)
+    }
+
     /// How many items there are from the last whole table on, or, without one, that are kept.
     fn since_table(&self) -> u64 {
         let (kept, length) = (self.bodies.len() as u64, self.above.node().length());
@@ -335,6 +344,7 @@ impl Relay {
                 session,
                 connection: None,
                 held: None,
+                times: 0,
                 lives: VecDeque::new(),
                 clashes: 0,
                 left: true,
@@ -446,7 +456,9 @@ impl Relay {
             }
             let place = (before - node.forgotten()) as usize;
             (link.held, link.sent) = (self.bodies.get(place).cloned(), None);
+            link.times = 0;
         }
+        link.times = link.times.saturating_add(1);
         link.sent = link.sent.or(Some(now));
         let body = link.held.clone()?;
         debug_assert_eq!(body.item, frame.item);
@@ -549,6 +561,13 @@ impl Relay {
     /// Whether what the child needs next was forgotten, so that it begins anew.
     pub fn is_left_behind(&self, name: &str) -> bool {
         self.children.get(name).map_or(false, |link| link.left)
+    }
+
+    /// The frame that is sent to a child, and its body, while it is not acknowledged; and how often
+    /// [`Relay::poll`] gave it.
+    pub fn under_way(&self, name: &str) -> Option<(u16, &Arc<Body>, u64)> {
+        let link = self.children.get(name)?;
+        Some((link.session.end().label(), link.held.as_ref()?, link.times))
     }
 
     /// How many items a child has not acknowledged.

@@ -12,6 +12,15 @@
 //! that takes another parent says so, `'G'`. And before all that an end may look at a candidate, by
 //! a hello that begins with `"RGNL"`, which is answered by another such one and the way.
 //!
+//! Where both ends speak version 3, a parent may send a frame without its body, by a [`Reference`]:
+//! `'D' | label u16 | item u32 | length u32 | head | digest`. A child that makes this body itself
+//! acknowledges the frame; else it asks for the whole one, `'N' | label u16`, and the frame follows.
+//!
+//! Each end speaks a range of versions, and both the highest that they have in common. A hello of
+//! any version has the form above. Whoever begins a connection says version 2, which all know that
+//! look, and its [range](Hello::versions) in place of the label: in a look, as its answer does, and
+//! where it is the parent. What follows has the version in common.
+//!
 //! ```
 //! use rignolda::net::wire::{self, Expect, Message};
 //! use rignolda::net::Body;
@@ -29,12 +38,19 @@
 //! ```
 use super::parents::{Way, NAMES};
 use super::{is_name, Body, Result, BODY_BYTES, NAME_BYTES};
+use std::ops::RangeInclusive;
 use std::sync::Arc;
 
-/// The version of the protocol, and the one before it, which is spoken to those that know no other.
-pub const VERSION: u8 = 2;
-/// See [`VERSION`].
+/// The newest version of the protocol.
+pub const VERSION: u8 = 3;
+/// The oldest one that is spoken: to those that know no other.
 pub const OLD: u8 = 1;
+/// The one by which a connection begins where it is not known what the other end speaks.
+pub const FIRST: u8 = 2;
+/// The oldest one with [references](Reference).
+pub(super) const REFERS: u8 = 3;
+/// How many bytes of a body a reference has, from its front.
+pub const HEAD_BYTES: usize = 9;
 /// The longest report, in bytes.
 pub const REPORT_BYTES: usize = 1 << 20;
 /// The longest way, in bytes: each name with a line feed.
@@ -51,7 +67,8 @@ pub struct Hello {
     /// A number that the process drew when it began. A parent that comes after another
     /// one is told a further one.
     pub life: u64,
-    /// What the receiver remembers.
+    /// What the receiver remembers; or, in a look and where a parent begins, the
+    /// [range](Hello::range) of versions.
     pub label: u16,
     /// The end's own name.
     pub from: String,
@@ -70,12 +87,30 @@ pub enum Message {
     Way(Way),
     /// A frame: its label, and the body with its item.
     Frame(u16, Arc<Body>),
+    /// A frame without its body.
+    Reference(u16, Reference),
+    /// A child cannot make the body of this frame.
+    Lacks(u16),
     /// An acknowledgement: its label.
     Ack(u16),
     /// What a child says for watching alone.
     Report(Vec<u8>),
     /// A child takes another parent.
     Goodbye,
+}
+
+/// What stands for a body in a frame without it: the child may have all that is in it, in its files
+/// or its memory. What it makes of that is compared with this, so nothing of it has to be right.
+#[derive(Clone, Debug, PartialEq, Eq)]
+pub struct Reference {
+    /// The item, and the length of the body.
+    pub item: u32,
+    /// See `item`.
+    pub length: u32,
+    /// How the body begins: of a table, its kind and number, which are others in each round.
+    pub head: [u8; HEAD_BYTES],
+    /// The SHA-256 of the body.
+    pub digest: [u8; 32],
 }
 
 /// What may come next on a connection.
@@ -103,6 +138,21 @@ impl Hello {
         bytes
     }
 
+    /// What stands for a range of versions in the place of a label: its ends, a byte each.
+    pub fn range(versions: RangeInclusive<u8>) -> u16 {
+        u16::from_be_bytes([*versions.start(), *versions.end()])
+    }
+
+    /// The versions that its sender speaks, where this is a look or a parent begins; else it says
+    /// one alone. (One of version 2 has no range there: 0, or a label, which is below 256.)
+    pub fn versions(&self) -> RangeInclusive<u8> {
+        let [oldest, newest] = self.label.to_be_bytes();
+        match oldest > 0 && newest >= oldest && self.version > OLD {
+            true => oldest..=newest,
+            false => self.version..=self.version,
+        }
+    }
+
     /// The same as a look.
     pub fn look(&self) -> Vec<u8> {
         [LOOK, &self.bytes()[MAGIC.len()..]].concat()
@@ -119,6 +169,18 @@ pub(super) fn frame_head(label: u16, body: &Body) -> [u8; FRAME_HEAD] {
     let [c, d, e, f] = body.item.to_be_bytes();
     let [g, h, i, j] = (body.bytes.len() as u32).to_be_bytes();
     [b'F', a, b, c, d, e, f, g, h, i, j]
+}
+
+/// A frame without its body.
+pub fn reference(label: u16, it: &Reference) -> Vec<u8> {
+    let (item, length) = (it.item.to_be_bytes(), it.length.to_be_bytes());
+    let label = label.to_be_bytes();
+    [b"D", &label[..], &item, &length, &it.head, &it.digest].concat()
+}
+
+/// The body of this frame is lacking.
+pub fn lacks(label: u16) -> Vec<u8> {
+    [b"N", &label.to_be_bytes()[..]].concat()
 }
 
 /// A way.
@@ -153,6 +215,12 @@ impl<'a> Rest<'a> {
         let taken = self.0.get(..length).ok_or(None)?;
         self.0 = &self.0[length..];
         Ok(taken)
+    }
+
+    fn array<const LENGTH: usize>(&mut self) -> Parsed<[u8; LENGTH]> {
+        let mut array = [0; LENGTH];
+        array.copy_from_slice(self.take(LENGTH)?);
+        Ok(array)
     }
 
     fn number(&mut self, bytes: usize) -> Parsed<u64> {
@@ -220,6 +288,21 @@ fn parse(rest: &mut Rest<'_>, expect: Expect) -> Parsed<Message> {
     }
     Ok(match (expect, rest.number(1)? as u8) {
         (Expect::Frames, b'F') => return Err(None),
+        (Expect::Frames, b'D') => {
+            let (label, item) = (rest.number(2)? as u16, rest.number(4)? as u32);
+            let length = rest.number(4)? as u32;
+            if length as usize > BODY_BYTES {
+                return Err(Some("a body is too long"));
+            }
+            let (head, digest) = (rest.array()?, rest.array()?);
+            let reference = Reference {
+                item,
+                length,
+                head,
+                digest,
+            };
+            Message::Reference(label, reference)
+        }
         (Expect::Frames | Expect::Way, b'W') => {
             let cost = rest.number(2)? as u16;
             let names = rest.counted(2, WAY_BYTES, "a way is too long")?;
@@ -234,6 +317,7 @@ fn parse(rest: &mut Rest<'_>, expect: Expect) -> Parsed<Message> {
         }
         (Expect::Acks, b'G') => Message::Goodbye,
         (Expect::Acks, b'A') => Message::Ack(rest.number(2)? as u16),
+        (Expect::Acks, b'N') => Message::Lacks(rest.number(2)? as u16),
         (Expect::Acks, b'R') => {
             let bytes = rest.counted(4, REPORT_BYTES, "a report is too long")?;
             Message::Report(bytes.to_vec())
@@ -245,14 +329,14 @@ fn parse(rest: &mut Rest<'_>, expect: Expect) -> Parsed<Message> {
 fn hello(rest: &mut Rest<'_>) -> Parsed<Message> {
     let begins = |magic: &[u8]| rest.0.iter().zip(magic).all(|(byte, it)| byte == it);
     let (is_look, least) = match begins(LOOK) {
-        true => (true, VERSION),
+        true => (true, FIRST),
         false if begins(MAGIC) => (false, OLD),
         false => return Err(Some("it is no hello")),
     };
     rest.take(MAGIC.len())?;
     let version = rest.number(1)? as u8;
-    if !(least..=VERSION).contains(&version) {
-        return Err(Some("its version of the protocol is neither 1 nor 2"));
+    if version < least {
+        return Err(Some("its version of the protocol is none"));
     }
     let (life, label) = (rest.number(8)?, rest.number(2)? as u16);
     let (from, to) = (rest.name(false)?, rest.name(true)?);
