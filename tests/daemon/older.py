@@ -224,8 +224,9 @@ def the_disk_has_the_number_before_the_files():
 
 
 # What drawn runs find where the rule lacks a part: which run, and what is found.
-LACKING = [("newer", 1, "back"), ("floor", 0, "back"), ("order", 64, "back"), ("gap", 30, "back"),
-           ("own", 1378, "wrong"), ("above", 1, "wrong")]
+LACKING = [("newer", 4, "back"), ("floor", 4, "back"), ("order", 30, "back"), ("gap", 14, "back"),
+           ("own", 378, "wrong"), ("above", 1, "wrong"), ("whole", 0, "wrong"),
+           ("compared", 1, "wrong"), ("asks", 1, "wrong"), ("files", 25, "wrong")]
 
 
 @test

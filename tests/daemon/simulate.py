@@ -6,15 +6,18 @@ agent whose numbers were right applies an older value of a setting after a newer
     tests/daemon/simulate.py [--runs N] [--from N] [--hurry] [--away] [--any] [--without PART]
 
 It is written after the rule, not after the code. Agents restart, move between two parents each, are
-away, are ended while they write files, lose items; their numbers, floors and files are spoilt, and
-old or false bodies lie on links; the root's clock is set back. --hurry: the second round begins
+away, are ended while they write files, lose items; their numbers, floors, files and what they keep
+are spoilt, and old or false bodies lie on links; the root's clock is set back. A whole table goes by
+a reference first: a child that has just this makes it, and another one asks for it. --hurry: the second round begins
 once the first is published; --away: somebody is away in both; --any: wrong numbers are anywhere, so
 that alone what two more rounds heal is judged.
 
 --without: what would go wrong. newer: a whole round that is older is taken; floor: the disk keeps
 no number; order: it gets the number after the files; gap: what waits is applied though something is
 missing; own: agents report the furthest number, and not their own; above: the root goes on below
-it; round: there is one alone.
+it; round: there is one alone; whole: a table goes by reference again and again; compared: what a
+child makes is not compared with the reference; asks: it acknowledges what it cannot make; files: of
+a table that it made it looks at no file.
 """
 import argparse
 import collections
@@ -24,7 +27,8 @@ import sys
 ALL, HALF = 2**64, 2**63
 KEYS = "abc"
 ROOM = 24
-PARTS = ["newer", "floor", "order", "gap", "own", "above", "round"]
+PARTS = ["newer", "floor", "order", "gap", "own", "above", "round", "whole", "compared", "asks",
+         "files"]
 Body = collections.namedtuple("Body", "number kind versions is_wrong", defaults=[False])
 
 
@@ -55,6 +59,8 @@ class Agent:
         self.waits, self.is_table, self.holds = {}, False, False
         self.heard = 0
         self.list, self.first, self.table_at = [], 0, None
+        # what a whole table would be of what it keeps, where it keeps one
+        self.kept = None
         self.links = {}
         self.is_away = False
 
@@ -67,7 +73,7 @@ class Agent:
         numbers = numbers[1:] if self.world.lacks("own") else numbers
         self.heard = furthest(self.number, [self.heard, *numbers])
 
-    def take(self, body):
+    def take(self, body, is_made):
         kind, is_older = body.kind, not newer(body.number, self.number)
         takes = not is_older or self.world.lacks("newer") and kind == "table" and self.round
         self.round = kind == "harmless" and is_older
@@ -83,6 +89,8 @@ class Agent:
             self.waits, self.is_table = {}, False
         self.holds = not applies
         self.floor = self.number if applies else self.floor
+        if is_made and self.world.lacks("files"):
+            return True
         if kind == "table":
             self.waits, self.is_table = {}, True
         self.waits.update(body.versions)
@@ -105,10 +113,19 @@ class Agent:
         self.waits, self.is_table = {}, False
 
     # ---- What it hands on
-    def push(self, body):
+    def makes(self, body):
+        """The table that stands for this one, where it can make it."""
+        if self.kept == body.versions:
+            return body
+        may = self.kept is not None and self.world.lacks("compared")
+        return body._replace(versions=dict(self.kept)) if may else None
+
+    def push(self, body, is_made=False):
         self.list.append(body)
-        if self.take(body):
-            self.table_at = self.end() - 1
+        if self.take(body, is_made):
+            self.table_at, self.kept = self.end() - 1, dict(body.versions)
+        elif self.kept is not None:
+            self.kept = {**({} if body.kind == "table" else self.kept), **body.versions}
         needed = [it.place for it in self.links.values() if it.is_kept]
         needed += [] if self.table_at is None else [self.table_at]
         self.forget(min(needed, default=self.end()))
@@ -131,9 +148,11 @@ class Agent:
 
 
 class Link:
-    """What a parent keeps of a child: which item is next, what lies before it, what gets lost."""
+    """What a parent keeps of a child: which item is next, and whether it goes whole; what lies
+    before it, and what gets lost."""
 
     def __init__(self, parent):
+        self.whole = False
         self.place = parent.first if parent.table_at is None else parent.table_at
         self.is_kept, self.strays, self.lost, self.report = True, [], 0, (0, 0)
 
@@ -150,6 +169,7 @@ class World:
         self.truth, self.version = dict.fromkeys(KEYS, 0), 0
         self.harmless = 2 * count + 3
         self.all, self.highest, self.clock = [], 0, 10**15
+        self.is_endless = False
         self.begin_root()
 
     def lacks(self, part):
@@ -225,12 +245,22 @@ class World:
             link.place, link.lost = link.place + 1, link.lost - 1
             return True
         if parent.first <= link.place < parent.end():
-            link.place += 1
-            agent.push(parent.list[link.place - 1 - parent.first])
+            self.send(link, parent.list[link.place - parent.first], agent)
             return True
         last = parent.heard
         parent.hears(link.report)
         return link.report != agent.says() or parent.heard != last
+
+    def send(self, link, body, agent):
+        """The next item goes over a link, or the child asks for it, or nothing comes of it."""
+        refers = body.kind == "table" and not link.whole
+        link.whole = not self.lacks("whole")
+        made = agent.makes(body) if refers else body
+        if self.rnd.random() < 0.1 or made is None and not self.lacks("asks"):
+            return
+        link.place, link.whole = link.place + 1, False
+        if made is not None:
+            agent.push(made, refers)
 
     def leaves(self, agent):
         """It loses its parent's memory of it: a move, or a restart."""
@@ -257,7 +287,8 @@ class World:
         rnd = self.rnd
         agent = rnd.choice(self.agents)
         what = rnd.choice(["restart"] * 4 + ["move"] * 4 + ["away"] * 3
-                          + ["number", "floor", "disk", "files", "new", "strays", "list", "lost"])
+                          + ["number", "floor", "disk", "files", "new", "strays", "list", "lost",
+                             "kept", "whole"])
         if what in ("restart", "new", "disk"):
             if rnd.random() < 0.5:
                 agent.apply(rnd.randrange(3))
@@ -283,6 +314,8 @@ class World:
             agent.floor, agent.is_right = self.number(), False
         elif what == "files":
             agent.files = {key: -1 for key in KEYS + "z" if rnd.random() < 0.5}
+        elif what == "kept":
+            agent.kept = rnd.choice([None, {}, self.body().versions, {**self.truth, "a": -1}])
         elif what == "list":
             agent.list = [self.body() for _ in range(rnd.randrange(6))]
             agent.table_at = None
@@ -294,6 +327,8 @@ class World:
                 link.strays = [self.body() for _ in range(rnd.randrange(3))]
             elif what == "lost":
                 link.lost = rnd.randrange(3)
+            elif what == "whole":
+                link.whole = not link.whole
 
     # ---- Runs
     def any_step(self):
@@ -306,18 +341,20 @@ class World:
 
     def settle(self):
         """Until nothing is under way, and the root has heard."""
-        for _ in range(50_000):
+        for _ in range(5_000):
             busy = self.publish() if self.rnd.random() < 0.5 else True
             for agent in self.rnd.sample(self.agents, len(self.agents)):
                 busy |= self.step(agent)
             if not busy and not self.publish():
                 break
         else:
-            raise SystemExit("it does not come to an end")
+            self.is_endless = True
         for agent in self.agents:
             agent.apply()
 
     def wrong(self):
+        if self.is_endless:
+            return ["it does not come to an end"]
         return [it.name for it in self.agents if it.files != self.truth]
 
     def run(self):
