@@ -245,8 +245,8 @@ impl State {
 impl Handler for State {
     fn on_item(&mut self, body: &Arc<Body>, now: Instant) -> bool {
         self.received += 1;
-        self.changed = true;
         let Some((sequence, meaning)) = body.meaning() else {
+            self.changed = true;
             self.garbage += 1;
             if self.says(now) {
                 let (item, length, all) = (body.item, body.bytes.len(), self.garbage);
@@ -257,6 +257,8 @@ impl Handler for State {
         let (was_full, strays) = (self.table.full, self.table.strays);
         let takes = self.table.takes(sequence, &meaning);
         let is_table = matches!(meaning, Meaning::Table(_));
+        // (of the items of a round that nothing follows from, the table that ends it tells)
+        self.changed |= !takes || meaning != Meaning::Harmless;
         if self.is_root {
             self.published.take(sequence, &meaning, is_table && self.table.heard.looks);
         }
