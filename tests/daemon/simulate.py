@@ -7,10 +7,10 @@ agent whose numbers were right applies an older value of a setting after a newer
 
 It is written after the rule, not after the code. Agents restart, move between two parents each, are
 away, are ended while they write files, lose items; their numbers, floors, files and what they keep
-are spoilt, and old or false bodies lie on links; the root's clock is set back. A whole table goes by
-a reference first: a child that has just this makes it, and another one asks for it. --hurry: the second round begins
-once the first is published; --away: somebody is away in both; --any: wrong numbers are anywhere, so
-that alone what two more rounds heal is judged.
+are spoilt, and old or false bodies lie on links; the root's clock is set back. A whole table goes
+by a reference first: a child that has just this makes it, and another one asks for it. --hurry: the
+second round begins once the first is published; --away: somebody is away in both; --any: wrong
+numbers are anywhere, so that alone what two more rounds heal is judged.
 
 --without: what would go wrong. newer: a whole round that is older is taken; floor: the disk keeps
 no number; order: it gets the number after the files; gap: what waits is applied though something is

@@ -14,7 +14,7 @@
 //!
 //! Where both ends speak version 3, a parent may send a frame without its body, by a [`Reference`]:
 //! `'D' | label u16 | item u32 | length u32 | head | digest`. A child that makes this body itself
-//! acknowledges the frame; else it asks for the whole one, `'N' | label u16`, and the frame follows.
+//! acknowledges the frame; else it asks for the whole one, `'N' | label u16`, which follows.
 //!
 //! Each end speaks a range of versions, and both the highest that they have in common. A hello of
 //! any version has the form above. Whoever begins a connection says version 2, which all know that
