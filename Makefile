@@ -8,15 +8,18 @@
 #                    the same for the daemon, and a package of it for Debian
 #   make help        these lines
 #
-# LIBRARY names another archive, as LIBRARY=/path/librignolda.a. A program is then built by
+# CC says which machine it is for, x86-64 or arm64, as CC=aarch64-linux-gnu-gcc. LIBRARY names
+# another archive, as LIBRARY=/path/librignolda.a. A program is then built by
 #
 #   cc program.c $(pkg-config --cflags --libs rignolda)
 PREFIX ?= /usr/local
 CC ?= cc
 INSTALL ?= install
-LIBRARY ?= $(firstword $(wildcard release/librignolda.a lib/librignolda.a))
-SETTINGS ?= $(firstword $(wildcard release/librignolda_settings.a lib/librignolda_settings.a \
-                                   rust/rignolda/lib/x86_64-linux-settings.a))
+PROCESSOR := $(firstword $(subst -, ,$(shell $(CC) -dumpmachine 2>/dev/null)))
+RELEASE := release/$(if $(filter aarch64 arm64,$(PROCESSOR)),arm64/)
+LIBRARY ?= $(firstword $(wildcard $(RELEASE)librignolda.a lib/librignolda.a))
+SETTINGS ?= $(firstword $(wildcard $(RELEASE)librignolda_settings.a lib/librignolda_settings.a \
+                                   rust/rignolda/lib/$(PROCESSOR)-linux-settings.a))
 VERSION := $(shell sed -nE '/^\#\# /{s/^\#\# ([0-9]+(\.[0-9]+){2}), .*$$/\1/p;q}' CHANGELOG.md)
 # What a program that is linked asks for. The layout of the structs is part of it: while the first
 # number is 0, it is the second one.

@@ -1,12 +1,12 @@
 #!/usr/bin/env -S python3 -B
 """What programs call besides the C library (tools/shims): each function, on x86-64, and on arm64
-where qemu-aarch64 is here, and planted bugs in it, each of which has to be found.
+under an emulator, and planted bugs in it, each of which has to be found.
 
-It needs the kit, and Debian's package musl-dev, which tools/debian.py unpacks where it is not
-installed. What could not be tried is said, and not counted. The last line is 'N passed, M failed'.
+It needs the kit, and Debian's packages musl-dev and qemu-user-static, which tools/debian.py unpacks
+where they are not installed. What could not be tried is said, and not counted. The last line is
+'N passed, M failed'.
 """
 import re
-import shutil
 import subprocess
 import sys
 import tempfile
@@ -14,6 +14,7 @@ from pathlib import Path
 
 TOP = Path(__file__).resolve().parent.parent
 sys.path.insert(0, str(TOP / "tools"))
+import debian  # noqa: E402
 import static  # noqa: E402
 from programs import Cases  # noqa: E402
 
@@ -96,19 +97,18 @@ def faults(program, before):
 
 def main():
     cases = Cases()
-    for architecture, command in ("x86_64", None), ("aarch64", "qemu-aarch64"):
-        before = [command] if command else []
+    for architecture, before in ("x86_64", []), ("aarch64", debian.runs_arm64()):
         library = static.musl(architecture)
-        if not library or command and not shutil.which(command):
+        if not library or before is None:
             print(f"what programs call on {architecture} is NOT TRIED: it needs Debian's musl-dev"
-                  + (" for arm64, and qemu-user" if command else ""))
+                  + " for arm64, and qemu-user" * (before is None))
             continue
         with tempfile.TemporaryDirectory() as room:
             program = build(library, architecture, static.SHIMS, room)
             cases.holds(f"what programs call, on {architecture}",
                         program and not faults(program, before),
                         program and faults(program, before))
-            for old, new in PLANTED_IN_STEPS if command else PLANTED:
+            for old, new in PLANTED_IN_STEPS if before else PLANTED:
                 program = build(library, architecture, planted(room, old, new), room, "-w")
                 cases.holds(f"a planted bug is found: {' '.join(new.split())}",
                             program and faults(program, before), "it was not, or does not fit",

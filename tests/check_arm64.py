@@ -1,0 +1,143 @@
+#!/usr/bin/env -S python3 -B
+"""The release for arm64, under Debian's emulator, or on such a machine itself: every example, some
+rows of the tables, the library from C, and a tree of daemons, some of which are for arm64.
+
+What is not here and cannot be had (the emulator, a C library, programs of these sources) is said,
+and not counted. The last line is 'N passed, M failed'.
+"""
+import os
+import random
+import shlex
+import subprocess
+import sys
+import tempfile
+from concurrent.futures import ThreadPoolExecutor
+from pathlib import Path
+
+TOP = Path(__file__).resolve().parent.parent
+sys.path[:0] = [str(TOP / "tools"), str(TOP / "tests/daemon")]
+import check_tables  # noqa: E402
+import debian  # noqa: E402
+import static  # noqa: E402
+from programs import Cases, kept, ran  # noqa: E402
+from tables import stab_examples  # noqa: E402
+
+# One of so many rows is drawn, besides the examples.
+OF_ROWS = 10
+# Who is for arm64 in the tree of seven daemons: a leaf, one between, and the root.
+ON_ARM64 = "root", "left", "right1"
+RELEASE, NUMBERS = "release/arm64", "libgcc-12-dev"
+
+
+def wrapped(before, program, to):
+    """A command that runs a program for arm64, under its own name."""
+    to.parent.mkdir(exist_ok=True)
+    words = [*before, "-0", to.name, program] if before else [program]
+    to.write_text(f"#!/bin/sh\nexec {shlex.join(map(str, words))} \"$@\"\n")
+    to.chmod(0o755)
+    return to
+
+
+def tries_rows(cases, files):
+    """Runs the examples and drawn rows, and says from which number they were drawn."""
+    seed = int(os.environ.get("SEED") or random.SystemRandom().randrange(10**6))
+    drawn = random.Random(seed)
+    print(f"the rows are drawn from SEED={seed}")
+    rows = [(table.PROGRAM, row) for table in check_tables.TABLES for row in table.ROWS
+            if table is stab_examples or drawn.randrange(OF_ROWS) == 0]
+    rows = [(called, row) for called, row in rows if called in files]
+    with ThreadPoolExecutor(2) as threads:
+        faults = threads.map(lambda of: check_tables.tried(of[0], files[of[0]], of[1]), rows)
+        for (called, row), fault in zip(rows, faults):
+            cases.holds(f"arm64, {called}: {row.name}", fault is None, fault, quiet=True)
+
+
+def tries_library(cases, room, before):
+    """Compares each call of the archive with the inline one, and with a plain one, and replays the
+    drawn runs of the examples."""
+    library, home = static.musl("aarch64"), debian.unpacked("arm64", NUMBERS)
+    if not library or not home:
+        print(f"the library for arm64 is NOT TRIED: it needs Debian's musl-dev and {NUMBERS}")
+        return
+    # (what a program prints with printf needs numbers that the processor has not)
+    archives = [f"{RELEASE}/librignolda.a", *home.glob("usr/lib/gcc/*/*/libgcc.a")]
+    made = {}
+    for name, sources in ("both", ["both", "inline"]), ("plain", ["both", "plain"]), (
+            "link", ["link"]):
+        objects = [room / f"{name}-{it}.o" for it in sources]
+        builds = all(subprocess.call([*map(str, static.compiled(
+            library, "aarch64", TOP / f"tests/library/{it}.c", to, "-I", TOP / "include"))]) == 0
+            for it, to in zip(sources, objects)) and subprocess.call([*map(str, static.linked(
+                library, room / name, *objects, *archives))]) == 0
+        cases.holds(f"arm64: {name} builds", builds)
+        made[name] = wrapped(before, room / name, room / "c" / name)
+    for name in "both", "plain":
+        cases.works(f"arm64: each call ({name})", made[name], "2000", "1")
+    cases.works("arm64: the drawn runs", TOP / "tests/library/compare.py", "runs", made["link"])
+
+
+def tries_tree(cases, room, before):
+    """Settings come down a tree of seven daemons, with TLS, and again after one is killed."""
+    import daemons  # (it looks for the programs when it is asked for a tree)
+    from runner import sure
+    for name in "rignoldad", "rignoldactl":
+        wrapped(before, room / "daemons" / name, room / "arm64" / name)
+
+    def before_it_starts(tree):
+        daemons.patient(tree)
+        daemons.by_tls(tree)
+        for name in ON_ARM64:
+            tree[name].program = room / "arm64/rignoldad"
+
+    try:
+        with daemons.running(before=before_it_starts) as tree:
+            for name in "left", "left1":
+                tree[name].kill()
+                tree.write("while", f"{name} is away")
+                tree[name].start()
+                sure(tree.ready(), "the tree is not whole after the kill of", name)
+                sure(tree.right(), "other settings:", tree.wrong())
+            for agent in tree:
+                words = room / "arm64/rignoldactl", "--socket", agent.socket, "wait"
+                sure(subprocess.run(words, timeout=120).returncode == 0, "no answer of", agent.name)
+            sure(not any("panicked" in agent.text() for agent in tree), "an agent has panicked")
+    except (AssertionError, RuntimeError, OSError, subprocess.SubprocessError) as fault:
+        cases.holds("arm64: seven daemons, three of them for arm64", False, fault)
+    else:
+        cases.holds("arm64: seven daemons, three of them for arm64", True)
+
+
+def tried(cases, room):
+    """Tries what is here."""
+    before = debian.runs_arm64(has_loaded=True)
+    if before is None:
+        print("arm64 is NOT TRIED: Debian's qemu-user and its libc6 for arm64 cannot be had here")
+        return
+    files = {name: kept(room, name, "arm64/") for name in check_tables.PROGRAMS}
+    for name in [it for it in files if files[it] is None]:
+        print(f"{name} for arm64 is NOT TRIED: none was released of these sources")
+        del files[name]
+    tries_rows(cases, {name: wrapped(before, file, room / "programs" / name) if before else file
+                       for name, file in files.items()})
+    if (TOP / RELEASE / "librignolda.a").is_file():
+        tries_library(cases, room, before)
+    else:
+        print("the library for arm64 is NOT TRIED: none was released")
+    (room / "daemons").mkdir()
+    status, said = ran("tools/build_daemon", "--arm64", "--unpack", room / "daemons")
+    if status:
+        print(f"the daemon for arm64 is NOT TRIED: {said.strip()}")
+    else:
+        tries_tree(cases, room, before)
+
+
+def main():
+    os.chdir(TOP)
+    cases = Cases()
+    with tempfile.TemporaryDirectory() as room:
+        tried(cases, Path(room))
+    return cases.sum_up()
+
+
+if __name__ == "__main__":
+    sys.exit(main())
