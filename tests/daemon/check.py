@@ -32,8 +32,8 @@ from relay import Relay
 from runner import sure, test
 
 # (each of them tells its tests)
-for name in ("blocked", "floods", "hostile", "memory_faults", "older", "operating", "parents",
-             "rounds", "store", "watching"):
+for name in ("blocked", "floods", "groups", "hooks", "hostile", "memory_faults", "older",
+             "operating", "parents", "rounds", "store", "watching"):
     importlib.import_module(name)
 
 PACKAGING = pathlib.Path(__file__).resolve().parents[2] / "rust/rignoldad/packaging"

@@ -114,6 +114,7 @@ class Agent:
         self.tables = {"link": {"ack_timeout": "500ms", "evict": "1s"},
                        "apply": {"folder": str(self.settings)}}
         self.top = {}
+        self.hooks = []         # tables [[hook]]
         self.prefix = []        # what its command begins with
         self.program = None     # its daemon, where it is another one
         self.env = {"RIGNOLDA_TRACE": "1"}
@@ -137,6 +138,9 @@ class Agent:
         lines = [f"{key} = {toml(value)}" for key, value in top.items()]
         for table, keys in self.tables.items():
             lines.append(f"[{table}]")
+            lines.extend(f"{key} = {toml(value)}" for key, value in keys.items())
+        for keys in self.hooks:
+            lines.append("[[hook]]")
             lines.extend(f"{key} = {toml(value)}" for key, value in keys.items())
         self.file = self.home / "agent.toml"
         self.file.write_text("\n".join(lines) + "\n")

@@ -34,6 +34,7 @@ mod depth;
 mod floor;
 #[cfg(unix)]
 mod folder;
+mod groups;
 pub(crate) mod proved;
 mod publisher;
 #[cfg(unix)]
@@ -46,10 +47,13 @@ pub use depth::{too_deep, TOO_DEEP};
 pub use floor::{read_floor, write_floor};
 #[cfg(unix)]
 pub use folder::{remove, Folder};
+pub use groups::{is_group, of_group, parts, published_by, shown, that_counts, values_of};
 pub use proved::Taker;
 pub use publisher::{differences, Published, Publisher};
 #[cfg(unix)]
-pub use source::{no_key, read_folder, read_plain, too_many, write_folder, Faults, Found, Kept};
+pub use source::{
+    no_key, read_folder, read_folder_by, read_plain, too_many, write_folder, Faults, Found, Kept,
+};
 pub use waiting::{Change, Value, Waiting};
 
 /// The longest key of a setting, in bytes.

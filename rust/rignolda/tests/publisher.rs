@@ -205,3 +205,83 @@ fn changes_that_are_longer_than_a_body_are_published_in_several() {
     }
     assert!(bodies > 2 && told == new);
 }
+
+/// Which values of a key a body has, beside a key that is published first.
+#[test]
+fn a_body_has_all_values_of_a_key_for_groups() {
+    let set = |publisher: &mut Publisher, keys: &[&str]| {
+        keys.iter()
+            .for_each(|key| publisher.set(key, b"1".to_vec()));
+    };
+    let next = |publisher: &mut Publisher| {
+        let published = publisher.next(1_000).expect("something waits");
+        let (_, meaning) = published.body.meaning().expect("it is a body");
+        let entries = match meaning {
+            Meaning::Changes(entries) => entries,
+            other => panic!("{other:?}"),
+        };
+        let shown = entries
+            .iter()
+            .map(|(key, value)| format!("{key}{}", ["-", ""][usize::from(value.is_some())]));
+        (
+            shown.collect::<Vec<_>>(),
+            published.keys.into_iter().collect::<Vec<_>>(),
+        )
+    };
+    let mut publisher = Publisher::new(7);
+    set(
+        &mut publisher,
+        &["a", "a..x", "a..y", "a-b", "a.", "a...x", "b"],
+    );
+    assert!(publisher.next(1_000).unwrap().is_table);
+    set(&mut publisher, &["a..x"]);
+    let expected = (
+        vec!["a".into(), "a..x".into(), "a..y".into()],
+        vec!["a..x".into()],
+    );
+    assert_eq!(next(&mut publisher), expected);
+    // as one change, also where another one came between them
+    publisher.unset("a..x");
+    set(&mut publisher, &["b", "a"]);
+    let changed = ["a", "a..x", "b"].map(String::from).to_vec();
+    assert_eq!(
+        next(&mut publisher),
+        (
+            ["a", "a..x-", "a..y", "b"].map(String::from).to_vec(),
+            changed
+        )
+    );
+    set(&mut publisher, &["a."]);
+    assert_eq!(next(&mut publisher).0, ["a.", "a...x"]);
+    assert!(!publisher.waits());
+
+    // more of them than a body of changes has keys, and longer ones than it has room for
+    let many = (0..5_000).map(|at| (format!("k..{at}"), vec![1]));
+    let long = (0..15).map(|at| (format!("l..{at}"), vec![2; 1 << 20]));
+    let all: BTreeMap<_, _> = many.chain(long).collect();
+    publisher.replace(all.clone());
+    let mut bodies = Vec::new();
+    while publisher.waits() {
+        let body = publisher.next(1_000).unwrap();
+        assert!(body.is_table || next_keys(&body.body) == whole(&all, &next_keys(&body.body)));
+        bodies.push(body.is_table);
+    }
+    assert!(bodies.len() <= 3, "{bodies:?}");
+}
+
+fn next_keys(body: &rignolda::net::Body) -> Vec<String> {
+    match body.meaning().expect("it is a body").1 {
+        Meaning::Changes(entries) => entries
+            .iter()
+            .filter(|(_, value)| value.is_some())
+            .map(|(key, _)| key.to_string())
+            .collect(),
+        _ => Vec::new(),
+    }
+}
+
+/// All that is set of the keys that some are of.
+fn whole(all: &BTreeMap<String, Vec<u8>>, some: &[String]) -> Vec<String> {
+    let is_of = |key: &&String| some.iter().any(|it| it[..1] == key[..1]);
+    all.keys().filter(is_of).cloned().collect()
+}

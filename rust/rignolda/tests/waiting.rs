@@ -193,3 +193,82 @@ fn a_change_alone_keeps_no_table() {
         assert!(kilobytes < 100 << 10, "{}", line);
     }
 }
+
+fn of_groups(waiting: Waiting, groups: &[&str]) -> [Vec<(String, Option<Vec<u8>>)>; 2] {
+    let groups: Vec<String> = groups.iter().map(|it| it.to_string()).collect();
+    let (files, all) = waiting.of_groups(&groups);
+    [files, all].map(|it| {
+        let mut all = it.in_order();
+        all.sort_by(|one, other| one.0.cmp(&other.0));
+        let all = all.into_iter();
+        all.map(|(key, change)| (key, change.value.map(|it| it.to_vec())))
+            .collect()
+    })
+}
+
+fn settings(all: &[(&str, &str)]) -> Vec<(String, Option<Vec<u8>>)> {
+    let value = |value: &str| Some(value.as_bytes().to_vec()).filter(|_| value != "-");
+    all.iter()
+        .map(|(key, it)| (key.to_string(), value(it)))
+        .collect()
+}
+
+/// A dash: it is unset.
+fn entries<'a>(all: &'a [(&'a str, &'a str)]) -> Vec<(&'a str, Option<&'a [u8]>)> {
+    let value = |value: &'a str| Some(value.as_bytes()).filter(|_| value != "-");
+    all.iter().map(|(key, it)| (*key, value(it))).collect()
+}
+
+#[test]
+fn a_file_has_the_value_that_counts() {
+    let all = [
+        ("a", "1"),
+        ("a..canary", "2"),
+        ("a..eu", "3"),
+        ("b..eu", "4"),
+        ("c", "5"),
+    ];
+    let table = || {
+        let mut waiting = Waiting::default();
+        waiting.take(7, &Meaning::Table(entries(&all)));
+        waiting
+    };
+    let grouped = settings(&all[..4]);
+    for (groups, expected) in [
+        (&[][..], &[("a", "1"), ("c", "5")][..]),
+        (&["canary"], &[("a", "2"), ("c", "5")]),
+        (&["eu", "canary"], &[("a", "3"), ("b", "4"), ("c", "5")]),
+        (
+            &["us", "canary", "eu"],
+            &[("a", "2"), ("b", "4"), ("c", "5")],
+        ),
+    ] {
+        let [files, all] = of_groups(table(), groups);
+        assert_eq!((files, &all), (settings(expected), &grouped));
+    }
+    // the one for all comes back, and what is for another group changes nothing
+    let changes = |all: &[(&str, &str)]| {
+        let mut waiting = Waiting::default();
+        waiting.take(8, &Meaning::Changes(entries(all)));
+        waiting
+    };
+    let canary = |all: &[(&str, &str)]| of_groups(changes(all), &["canary"]);
+    let back = [("a", "1"), ("a..canary", "-"), ("a..eu", "3")];
+    assert_eq!(canary(&back), [settings(&[("a", "1")]), settings(&back)]);
+    let other = [("b..eu", "9")];
+    let none = [("b", "-"), ("b..eu", "9")];
+    assert_eq!(canary(&other), [settings(&[("b", "-")]), settings(&none)]);
+    // (where no group has one any more, the file is all that there is)
+    let last = [("a", "6"), ("a..canary", "-")];
+    let gone = [("a", "-"), ("a..canary", "-")];
+    assert_eq!(canary(&last), [settings(&[("a", "6")]), settings(&gone)]);
+    // what waited longest of them counts
+    let mut waiting = changes(&[("a", "1")]);
+    waiting.take(9, &Meaning::Changes(entries(&[("a", "1"), ("a..eu", "2")])));
+    let (mut files, _) = waiting.of_groups(&["eu".to_string()]);
+    let (_, change) = files.pop().unwrap();
+    assert_eq!(
+        (change.first, change.last, &*change.value.unwrap()),
+        (8, 9, &b"2"[..])
+    );
+}

@@ -50,6 +50,9 @@ impl Agent {
     }
 }
 
+/// What is said of an agent below which some are not known.
+pub const CUT: &str = "has more agents below it than it can report";
+
 /// Why an agent has not all up to a sequence number; nothing where it has.
 pub fn lacks(agent: &Seen, sequence: u64) -> Option<&'static str> {
     match () {
@@ -59,7 +62,7 @@ pub fn lacks(agent: &Seen, sequence: u64) -> Option<&'static str> {
         () if is_newer(sequence, agent.applied) => Some("has not applied it"),
         () if agent.compared == Compared::Differs => Some("has other settings in its files"),
         () if agent.compared == Compared::NotKnown => Some("has not said what its files are"),
-        () if agent.cut => Some("has more agents below it than it can report"),
+        () if agent.cut => Some(CUT),
         () => None,
     }
 }
@@ -185,9 +188,9 @@ fn row<const COLUMNS: usize>(words: [&dyn Display; COLUMNS]) -> Vec<String> {
 pub fn tree_text(list: &[Seen]) -> String {
     // (what is harmless, or a table that changes nothing, is no lag)
     let newest = list.first().map_or(0, |root| root.changed);
-    let head: [&dyn Display; 10] = [
-        &"agent", &"lag", &"backlog", &"strays", &"garbage", &"gaps", &"mended", &"files",
-        &"version", &"state",
+    let head: [&dyn Display; 11] = [
+        &"agent", &"groups", &"lag", &"backlog", &"strays", &"garbage", &"gaps", &"mended",
+        &"files", &"version", &"state",
     ];
     let mut rows = vec![row(head)];
     for (seen, depth) in list.iter().zip(depths(list)) {
@@ -218,9 +221,13 @@ pub fn tree_text(list: &[Seen]) -> String {
         };
         let Seen { strays, garbage, gaps, mended, .. } = seen;
         let version = if seen.version == 0 { "-".into() } else { dotted::text(seen.version) };
+        let groups = seen.groups.join(",");
         rows.push(row([
-            &name, &lag, &backlog, strays, garbage, gaps, mended, &files, &version, &state,
+            &name, &groups, &lag, &backlog, strays, garbage, gaps, mended, &files, &version, &state,
         ]));
+    }
+    if list.iter().all(|seen| seen.groups.is_empty()) {
+        rows.iter_mut().for_each(|row| drop(row.remove(1)));
     }
     table(&rows)
 }
@@ -291,6 +298,9 @@ pub fn status_text(status: &Status) -> String {
     }
     fact("complete", if status.whole { &"yes" } else { &"no: a round will bring it" });
     fact("settings", &status.settings);
+    if !status.groups.is_empty() {
+        fact("groups", &status.groups.join(" "));
+    }
     if !status.folder.is_empty() {
         fact("folder", &status.folder);
         fact("mended", &status.mended);

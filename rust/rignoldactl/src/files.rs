@@ -2,8 +2,10 @@
 //!
 //! An agent's files are read by whoever asks, and not by the agent: so they show what is there now,
 //! and nobody sees more than the rights of the folder let him.
-use crate::{digest, Compared, Key, Seen};
-use rignolda::settings::{is_key, is_newer, no_key, read_folder, read_plain, VALUE_BYTES};
+use crate::{digest, Compared, Key, Keys, Seen};
+use rignolda::settings::{
+    is_key, is_newer, no_key, read_folder, read_plain, that_counts, VALUE_BYTES,
+};
 use serde::Serialize;
 use std::collections::BTreeSet;
 use std::io::{self, ErrorKind};
@@ -58,22 +60,48 @@ pub struct Holder {
 
 /// Which value each agent of the root's list has, as far as its files are known to be what was
 /// published up to a number.
-pub fn holders(list: &[Seen], key: &Key) -> Vec<Holder> {
-    list.iter().map(|seen| holder(seen, key)).collect()
+pub fn holders(list: &[Seen], keys: &Keys) -> Vec<Holder> {
+    list.iter().map(|seen| holder(seen, keys)).collect()
 }
 
-fn holder(seen: &Seen, key: &Key) -> Holder {
-    let is_as_of = |number| !is_newer(number, seen.files);
+/// What counted as of some number.
+enum Then {
+    Now(u64),
+    Before(u64),
+    NotKnown,
+}
+
+/// What an agent of these groups had of a key as of a number.
+fn then(keys: &Keys, groups: &[String], number: u64) -> Then {
+    let is_as_of = |since| !is_newer(since, number);
+    let of = |key: &Key| match () {
+        () if is_as_of(key.number) => Some(Then::Now(key.digest)),
+        () if key.old_number != 0 && is_as_of(key.old_number) => Some(Then::Before(key.old)),
+        () => Some(Then::NotKnown),
+    };
+    let value = |group: Option<&str>| match group {
+        None => of(&keys.all),
+        Some(group) => match keys.groups.get(group) {
+            Some(key) => of(key).filter(|it| !matches!(it, Then::Before(0))),
+            None => Some(Then::NotKnown).filter(|_| !is_as_of(keys.since)),
+        },
+    };
+    that_counts(groups, value).unwrap_or(Then::NotKnown)
+}
+
+fn holder(seen: &Seen, keys: &Keys) -> Holder {
     let is_heard = seen.connected || seen.sequence != 0;
     let (digest, note) = match seen.compared {
         _ if !is_heard => (0, "never heard of"),
         Compared::Nothing => (0, "keeps no files"),
         Compared::NotKnown => (0, "not known"),
         Compared::Differs => (0, "not known: its files differ"),
-        Compared::Same if is_as_of(key.number) && key.digest == 0 => (0, "unset"),
-        Compared::Same if is_as_of(key.number) => (key.digest, ""),
-        Compared::Same if key.old_number != 0 && is_as_of(key.old_number) => (key.old, "older"),
-        Compared::Same => (0, "not known: an older one"),
+        Compared::Same => match then(keys, &seen.groups, seen.files) {
+            Then::Now(0) => (0, "unset"),
+            Then::Now(digest) => (digest, ""),
+            Then::Before(digest) => (digest, "older"),
+            Then::NotKnown => (0, "not known: an older one"),
+        },
     };
     let away = if is_heard && !seen.connected { "away" } else { "" };
     let notes: Vec<&str> = [note, away].into_iter().filter(|it| !it.is_empty()).collect();

@@ -7,6 +7,7 @@
 use openssl::sha::Sha256;
 use serde::{Deserialize, Serialize};
 use serde_json::Value;
+use std::collections::BTreeMap;
 use std::time::{SystemTime, UNIX_EPOCH};
 
 pub mod ask;
@@ -49,6 +50,10 @@ pub enum Request {
         #[serde(with = "digits", default)]
         digest: u64,
     },
+    /// At the root: makes the value of a key for a group the one for all, by one change.
+    PromoteValue {
+        key: String,
+    },
     /// At the root: what it published of a key.
     Key {
         key: String,
@@ -65,7 +70,7 @@ pub enum Response {
     /// The agent itself first, and each agent after its parent.
     Tree(Vec<Seen>),
     /// What was published of a key.
-    Key(Key),
+    Key(Keys),
     /// What of the settings' folder is not published.
     Diff(Diff),
     Refused(String),
@@ -98,8 +103,9 @@ pub struct Status {
     pub files: u64,
     #[serde(with = "digits")]
     pub digest: u64,
-    /// Where these files are.
+    /// Where these files are, and of which groups the agent is.
     pub folder: String,
+    pub groups: Vec<String>,
     /// How many of them somebody else had changed and were put again.
     pub mended: u64,
     /// The number that is furthest ahead, of its own, that of its files, and those below.
@@ -194,6 +200,7 @@ impl Status {
             applies: self.applies,
             files: self.files,
             digest: self.digest,
+            groups: self.groups.clone(),
             compared: Compared::Nothing,
             ahead: self.ahead,
             changed: self.changed,
@@ -238,6 +245,8 @@ pub struct Seen {
     #[serde(with = "digits")]
     pub digest: u64,
     pub compared: Compared,
+    /// The groups whose values count for it, the first one's most.
+    pub groups: Vec<String>,
     /// The number that is furthest ahead, of its own, that of its files, and those below: the root
     /// goes on above it.
     pub ahead: u64,
@@ -287,7 +296,16 @@ pub struct Difference {
     pub bytes: Option<u64>,
 }
 
-/// What a root published of a key, as [digests](digest).
+/// What a root published of a key: of its value for all agents, and of those for groups.
+#[derive(Clone, Debug, Default, Deserialize, PartialEq, Serialize)]
+pub struct Keys {
+    pub all: Key,
+    pub groups: BTreeMap<String, Key>,
+    /// The number since which no other group has one, at the latest.
+    pub since: u64,
+}
+
+/// What a root published of a value, as [digests](digest).
 #[derive(Clone, Debug, Default, Deserialize, PartialEq, Serialize)]
 pub struct Key {
     /// That of its value; 0 where it is unset.
@@ -320,6 +338,7 @@ pub fn report(list: &[Seen]) -> Vec<u8> {
         Value::Bool(it) => !it,
         Value::Number(it) => it.as_u64() == Some(0),
         Value::String(it) => it.is_empty(),
+        Value::Array(it) => it.is_empty(),
         _ => false,
     };
     let entry = |seen: &Seen| {

@@ -37,6 +37,7 @@ struct Arguments {
 enum Command {
     /// At the root: makes a setting, and prints the sequence number of the change.
     Publish {
+        /// KEY, or KEY@GROUP: it counts for the agents of that group alone.
         key: String,
         /// The value; `-` or nothing: it is read from the standard input.
         #[arg(allow_hyphen_values = true)]
@@ -44,6 +45,11 @@ enum Command {
     },
     /// At the root: removes a setting, and prints the sequence number of the change.
     Unset { key: String },
+    /// At the root: makes the value of KEY@GROUP that of KEY, by one change.
+    PromoteValue {
+        #[arg(value_name = "KEY@GROUP")]
+        key: String,
+    },
     /// At the root: publishes a round now.
     Round,
     /// Shows this agent.
@@ -67,6 +73,9 @@ enum Command {
         /// Waits for every agent of the tree, and not for this one alone.
         #[arg(long)]
         everywhere: bool,
+        /// Waits for every agent of the tree that is of this group.
+        #[arg(long, conflicts_with = "everywhere")]
+        group: Option<String>,
         #[arg(long, default_value = "30s", value_parser = time)]
         timeout: Duration,
     },
@@ -148,6 +157,7 @@ fn run(arguments: &Arguments) -> Result<String, Failed> {
             Request::Publish { key: key.clone(), value: value_of(value.as_deref())? }
         }
         Command::Unset { key } => Request::Unset { key: key.clone() },
+        Command::PromoteValue { key } => Request::PromoteValue { key: key.clone() },
         Command::Confirm { digest } => Request::Confirm { digest: digest.unwrap_or(0) },
         Command::Round => Request::Round,
         Command::Resume => Request::Resume,
@@ -201,10 +211,15 @@ fn run(arguments: &Arguments) -> Result<String, Failed> {
             let list = tree(agent)?;
             return Ok(shown(is_json, &ask::bounds(&list), |_| ask::bounds_text(&list)));
         }
-        Command::Wait { sequence, everywhere, timeout } => {
+        Command::Wait { sequence, everywhere, group, timeout } => {
             let begun = Instant::now();
             let sequence = sequence.map_or_else(|| newest(agent, *timeout), Ok)?;
-            wait(agent, sequence, *everywhere, timeout.saturating_sub(begun.elapsed()))?;
+            let whom = match group {
+                Some(group) => Whom::Group(group),
+                None if *everywhere => Whom::All,
+                None => Whom::This,
+            };
+            wait(agent, sequence, whom, timeout.saturating_sub(begun.elapsed()))?;
             return Ok(shown(is_json, &json!({ "applied": sequence }), nothing));
         }
         Command::Drain { timeout } => {
@@ -336,18 +351,35 @@ fn until(
     Ok(())
 }
 
-fn wait(
-    agent: &mut Agent,
-    sequence: u64,
-    everywhere: bool,
-    timeout: Duration,
-) -> Result<(), Failed> {
-    let shows = everywhere && std::io::stderr().is_terminal();
+/// Which agents of the tree are waited for.
+#[derive(Clone, Copy)]
+enum Whom<'a> {
+    This,
+    All,
+    Group(&'a str),
+}
+
+fn is_of(seen: &Seen, group: &str) -> bool {
+    seen.groups.iter().any(|it| it == group)
+}
+
+fn wait(agent: &mut Agent, sequence: u64, whom: Whom, timeout: Duration) -> Result<(), Failed> {
+    let shows = !matches!(whom, Whom::This) && std::io::stderr().is_terminal();
     let done = until(agent, timeout, |mut list| {
-        if !everywhere {
-            list.truncate(1);
+        match whom {
+            Whom::This => list.truncate(1),
+            Whom::All => (),
+            // (below one that is cut there may be some)
+            Whom::Group(group) => list.retain(|seen| is_of(seen, group) || seen.cut),
         }
-        let lacking = list.iter().filter_map(|seen| Some((seen, ask::lacks(seen, sequence)?)));
+        if let (Whom::Group(group), []) = (whom, &list[..]) {
+            return Some(format!("no agent is known that is of `{group}`"));
+        }
+        let lacks = |seen: &Seen| match whom {
+            Whom::Group(group) if !is_of(seen, group) => Some(ask::CUT),
+            _ => ask::lacks(seen, sequence),
+        };
+        let lacking = list.iter().filter_map(|seen| Some((seen, lacks(seen)?)));
         let lacking: Vec<String> =
             lacking.map(|(seen, why)| format!("{} {why}", seen.name)).collect();
         if shows {

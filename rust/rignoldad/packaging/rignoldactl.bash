@@ -2,10 +2,10 @@
 _rignoldactl() {
     local word=${COMP_WORDS[COMP_CWORD]} before=${COMP_WORDS[COMP_CWORD - 1]} at command=
     local commands='publish unset round status tree list get wait drain resume diff confirm'
-    commands="$commands child bounds help"
+    commands="$commands promote-value child bounds help"
     for ((at = 1; at < COMP_CWORD; at++)); do
         case ${COMP_WORDS[at]} in
-        --socket | --timeout) ((at++)) ;;
+        --socket | --timeout | --group) ((at++)) ;;
         -*) ;;
         *) command=${COMP_WORDS[at]}; break ;;
         esac
@@ -17,7 +17,7 @@ _rignoldactl() {
     esac
     case $command in
     '') options="$options --version $commands" ;;
-    wait) options="$options --everywhere --timeout" ;;
+    wait) options="$options --everywhere --group --timeout" ;;
     get) options="$options --everywhere" ;;
     drain) options="$options --timeout" ;;
     child) options="$options add remove" ;;

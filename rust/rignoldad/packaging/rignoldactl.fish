@@ -14,8 +14,10 @@ complete -c rignoldactl -n __fish_use_subcommand -a drain -d 'publish nothing mo
 complete -c rignoldactl -n __fish_use_subcommand -a resume -d 'end drain'
 complete -c rignoldactl -n __fish_use_subcommand -a diff -d 'show what of the folder is not published'
 complete -c rignoldactl -n __fish_use_subcommand -a confirm -d 'publish what is held'
+complete -c rignoldactl -n __fish_use_subcommand -a promote-value -d 'make the value for a group that of all'
 complete -c rignoldactl -n __fish_use_subcommand -a child -d 'add or remove a child'
 complete -c rignoldactl -n __fish_use_subcommand -a bounds -d 'show what is proved of each agent'
 complete -c rignoldactl -n '__fish_seen_subcommand_from get wait' -l everywhere -d 'of every agent'
+complete -c rignoldactl -n '__fish_seen_subcommand_from wait' -l group -r -d 'of those of a group'
 complete -c rignoldactl -n '__fish_seen_subcommand_from wait drain' -l timeout -r -d time
 complete -c rignoldactl -n '__fish_seen_subcommand_from child' -a 'add remove'

@@ -221,6 +221,14 @@ impl State {
         may
     }
 
+    /// At the root: what agents of the groups that there are ought to have is known from now on.
+    fn knows_groups(&mut self) {
+        if self.is_root {
+            let own = self.applier.as_ref().map_or(Vec::new(), Applier::groups);
+            self.published.knows(self.below.groups().chain([&own[..]]));
+        }
+    }
+
     /// Takes up what was done about settings.
     fn applied(&mut self) {
         let Some(applier) = &mut self.applier else { return };
@@ -300,6 +308,7 @@ impl Handler for State {
         let is_one = self.below.heard(child, report, now);
         let numbers = self.below.numbers(child).into_iter().chain([self.ahead]);
         self.ahead = furthest(self.table.taker.number, numbers);
+        self.knows_groups();
         is_one
     }
 
@@ -477,6 +486,7 @@ impl Agent {
         self.reported = self.reported.min(now);
         let table = &mut self.state.table;
         table.changed = older(table.changed, table.taker.number);
+        self.state.knows_groups();
         // (all are looked at again)
         self.expires = i64::MAX;
         self.lines.retain(|id, _| self.peers.line(*id).is_some());
@@ -637,6 +647,7 @@ impl Agent {
             files: files.map_or(0, |(number, _)| number),
             digest: files.map_or(0, |(_, digest)| digest),
             folder: self.config.apply.as_ref().map_or(String::new(), Apply::place),
+            groups: self.config.apply.as_ref().map_or(Vec::new(), |it| it.groups.clone()),
             mended: applier.as_ref().map_or(0, Applier::mended),
             ahead: furthest(number, self.state.numbers()),
             changed: table.changed,
@@ -749,6 +760,9 @@ impl Agent {
                 root.begin_round(now);
             }
             (Request::Round, Some(root)) => root.begin_round(now),
+            (Request::PromoteValue { key }, Some(root)) => {
+                return root.promote(&key, ticket).map(|()| None);
+            }
             (Request::Diff, Some(root)) => {
                 root.ask_diff(now, ticket);
                 return Ok(None);

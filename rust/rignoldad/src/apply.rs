@@ -1,42 +1,46 @@
 //! Applies settings: a file for each in a folder, and a hook for each change.
 //!
-//! The loop hands changes over and never waits: one thread keeps the files, others run hooks, so
-//! that one that hangs holds up its own key alone. Of changes of one key that wait, the last is
-//! applied. A hook is due from before its file changes until it ended well, which an empty file in
-//! `.pending` says; so it is run again after a failure, at the next round, and after a crash.
+//! The loop hands changes over and never waits: one thread keeps the files, others run
+//! [hooks](crate::hooks), so that one that hangs holds up its own keys alone. Of changes of one key
+//! that wait, the last is applied. The hooks of a key are due from before its file changes until
+//! all of them ended well, which an empty file in `.pending` says; so each is run again after it
+//! failed, at the next round, and all are after a crash.
 //! Nothing in the folder has to be right: what is wrong or lacking is made anew by the next round.
+//!
+//! Of a key that has values for groups of agents, the file has the one that counts here. `.groups` has
+//! all of them as they were published, for a root that begins and knows no more than its folder; to
+//! choose one, nothing is read there, since each body has all that are set.
 //!
 //! The marker of the folder has the number up to which its files are, or are about to be: an agent
 //! that starts applies nothing older.
 use crate::config::{is_key, Apply};
 use crate::digest::Digest;
 use crate::fact;
+use crate::hooks::{self, Hook, Runs, INPUT, PENDING};
 use rignolda::net::LOST;
 use rignolda::settings::{
-    older, read_floor, read_folder, read_plain, remove, write_floor, Change, Folder,
+    older, parts, read_floor, read_folder, read_plain, remove, shown, write_floor, Change, Folder,
 };
 use rignolda::settings::{Heard, Meaning, Waiting, SETTINGS, VALUE_BYTES};
 use std::cell::Cell;
 use std::collections::{BTreeMap, BTreeSet};
 use std::fmt;
-use std::fs::{self, File, OpenOptions};
-use std::io::{self, Seek, Write};
-use std::os::unix::fs::OpenOptionsExt;
-use std::path::{Path, PathBuf};
-use std::process::{Command, Stdio};
+use std::fs;
+use std::io;
+use std::path::PathBuf;
 use std::sync::{Arc, Condvar, Mutex, MutexGuard, PoisonError};
 use std::thread::{self, JoinHandle};
 use std::time::Duration;
 
-/// The folder of the hooks that are due, in the folder of the settings.
-const PENDING: &str = ".pending";
+/// The folder of values as they were published, of keys that have one for some group; and their
+/// mode.
+const GROUPS: &str = ".groups";
+const GROUPS_MODE: u32 = 0o600;
 /// The file that says that a folder is an agent's, and up to which number its files are.
 const MARKER: &str = ".rignolda";
-/// How the name of a hook's input begins, while it has one.
-const INPUT: &str = ".input";
 /// How long the file of a key waits at most while its hook's mark is going.
 const UNMARKS: Duration = Duration::from_secs(5);
-/// How many hooks run at once at most, each of another key.
+/// How many hooks run at once at most.
 const HOOKS: usize = 4;
 /// A folder that is in the way of a file may be deep. (What is not used takes no memory.)
 const STACK_BYTES: usize = 16 << 20;
@@ -121,10 +125,16 @@ struct State {
     /// The key whose file is being written.
     key: Option<String>,
     hooks: Waiting,
-    /// The changes whose hooks run.
-    running: BTreeMap<String, Running>,
-    /// Keys whose file or hook has failed, or whose hook was due when the agent started.
+    /// The keys whose hooks run, and the first number of the change.
+    running: BTreeMap<String, u64>,
+    /// The hooks that have one run for many keys.
+    runs: BTreeMap<Hook, Runs>,
+    /// The keys whose marks are going, since no hook of them is due.
+    settling: BTreeSet<String>,
+    /// Keys whose file failed, or of which a hook was due when the agent started; and those whose
+    /// own hook failed.
     due: BTreeSet<String>,
+    failed: BTreeSet<String>,
     /// Keys whose file or hook failed last, and how.
     failing: BTreeMap<String, Outcome>,
     failures: u64,
@@ -134,10 +144,79 @@ struct State {
     closed: bool,
 }
 
-/// A change whose hook runs: its first sequence number, and whether the mark of it is going.
-struct Running {
-    first: u64,
-    unmarks: bool,
+impl State {
+    /// Takes up which hooks there are. What one that is gone was still to be told, all are told at
+    /// the next round.
+    fn set_up(&mut self, config: &Apply) {
+        let mut old = std::mem::take(&mut self.runs);
+        for hook in &config.hooks {
+            self.runs.insert(hook.clone(), old.remove(hook).unwrap_or_default());
+        }
+        for runs in old.into_values() {
+            let waiting = runs.waiting.in_order().into_iter().chain(runs.changing.in_order());
+            let running = runs.running.into_iter().flat_map(|it| it.0);
+            self.due.extend(waiting.map(|(key, _)| key).chain(running).chain(runs.due));
+        }
+        self.config = config.clone();
+    }
+
+    /// The oldest number of which hooks are still to be told.
+    fn hooks_first(&self) -> Option<u64> {
+        let running = self.running.values().copied();
+        let runs = self.runs.values().filter_map(Runs::first);
+        self.hooks.first().into_iter().chain(running).chain(runs).reduce(older)
+    }
+
+    /// Whether some hook waits, and may begin.
+    fn has_hooks(&self) -> bool {
+        let may_run = |it: &Runs| it.running.is_none() && !it.waiting.is_empty();
+        !self.hooks.is_empty() || self.runs.values().any(may_run)
+    }
+
+    /// How many runs of hooks are for this key, those that go on and those that are to come.
+    fn lacking(&self, key: &str) -> usize {
+        let waits = self.hooks.has(key) || self.failed.contains(key);
+        let is_own = usize::from(waits) + usize::from(self.running.contains_key(key));
+        let is_all = self.due.contains(key) || self.key.as_deref() == Some(key);
+        let runs: usize = self.runs.values().map(|it| it.lacking(key)).sum();
+        is_own + usize::from(is_all) + runs
+    }
+}
+
+/// Which hooks are due of keys whose files may be right.
+struct Due {
+    all: BTreeSet<String>,
+    own: BTreeSet<String>,
+    runs: BTreeMap<Hook, BTreeSet<String>>,
+}
+
+impl Due {
+    fn of(state: &State) -> Due {
+        let runs = state.runs.iter().map(|(hook, it)| (hook.clone(), it.due.clone()));
+        Due { all: state.due.clone(), own: state.failed.clone(), runs: runs.collect() }
+    }
+
+    fn keys(&self) -> impl Iterator<Item = String> + '_ {
+        self.all.iter().chain(&self.own).chain(self.runs.values().flatten()).cloned()
+    }
+
+    /// What is to be done about a key.
+    fn work(&self, key: &str, differs: bool) -> Work<'_> {
+        let all = differs || self.all.contains(key);
+        let is_told =
+            |(hook, due): &(&Hook, &BTreeSet<String>)| due.contains(key) || all && hook.is_for(key);
+        let hooks = self.runs.iter().filter(is_told).map(|(hook, _)| hook);
+        Work { differs, all, own: all || self.own.contains(key), hooks: hooks.collect() }
+    }
+}
+
+/// What is to be done about a key: whether its file differs; whether all hooks are told; and which
+/// are, its own and others.
+struct Work<'a> {
+    differs: bool,
+    all: bool,
+    own: bool,
+    hooks: Vec<&'a Hook>,
 }
 
 impl Applier {
@@ -146,7 +225,9 @@ impl Applier {
         let folder = config.folder.clone();
         let due = Folder::new(folder.join(PENDING)).names();
         let due = due.into_iter().filter(|name| is_key(name)).collect();
-        let state = Mutex::new(State { config: config.clone(), due, ..State::default() });
+        let mut state = State { due, ..State::default() };
+        state.set_up(config);
+        let state = Mutex::new(state);
         let (files, hooks) = (Condvar::new(), Condvar::new());
         let shared = Arc::new(Shared { folder, state, files, hooks, wake });
         let mut applier = Applier { shared, threads: Vec::new(), lost: Cell::new(0) };
@@ -159,9 +240,15 @@ impl Applier {
         Ok(applier)
     }
 
-    /// Takes a new hook, mode and timeout. The folder stays.
+    /// Takes new hooks, a new mode and new groups, which count from the next round on. The folder
+    /// stays.
     pub fn reload(&mut self, config: &Apply) {
-        self.shared.lock().config = config.clone();
+        let mut state = self.shared.lock();
+        if state.config.groups != config.groups {
+            // (the files are of the old ones)
+            state.digest = None;
+        }
+        state.set_up(config);
     }
 
     /// The number up to which the files are, as an earlier life left them.
@@ -169,11 +256,18 @@ impl Applier {
         read_floor(&self.shared.folder.join(MARKER))
     }
 
-    /// The settings that an earlier life left there; none where the folder is not its own.
+    /// The settings as they were published last, by what an earlier life left there; none where the
+    /// folder is not its own.
     pub fn settings(&self) -> BTreeMap<String, Vec<u8>> {
         let folder = Some(&self.shared.folder).filter(|_| self.floor() != 0);
-        let found = folder.and_then(|folder| read_folder(folder).ok());
-        found.unwrap_or_default().settings
+        let read = |folder: PathBuf| read_folder(&folder).unwrap_or_default().settings;
+        let Some(folder) = folder else { return BTreeMap::new() };
+        let (mut settings, grouped) = (read(folder.clone()), read(folder.join(GROUPS)));
+        for key in grouped.keys() {
+            settings.remove(parts(key).0);
+        }
+        settings.extend(grouped);
+        settings
     }
 
     /// Makes the files what this body says, where it `applies`; where it `looks`, whatever was done
@@ -181,7 +275,9 @@ impl Applier {
     /// it is. Whether there is room: what waits has not many more keys than there may be.
     pub fn take(&mut self, meaning: &Meaning<'_>, number: u64, heard: Heard) -> bool {
         let mut state = self.shared.lock();
-        let (files, hooks) = (state.files.count(), state.hooks.count());
+        let runs = state.runs.values().map(|it| it.waiting.count());
+        let hooks = runs.fold(state.hooks.count(), usize::max);
+        let files = state.files.count();
         let waits = match meaning {
             Meaning::Changes(_) => files.max(hooks),
             // (it takes the place of whatever waits)
@@ -231,9 +327,8 @@ impl Applier {
         if state.holds {
             return 0;
         }
-        let waiting = state.files.first().into_iter().chain(state.hooks.first());
-        let running = state.running.values().map(|it| it.first);
-        let oldest = waiting.chain(state.writing).chain(running).reduce(older);
+        let files = state.files.first().into_iter().chain(state.writing);
+        let oldest = files.chain(state.hooks_first()).reduce(older);
         oldest.map_or(sequence, |oldest| older(sequence, oldest.saturating_sub(1)))
     }
 
@@ -250,22 +345,31 @@ impl Applier {
     /// What of its state cannot be, where something cannot: to be asked once a second.
     pub fn fault(&self, config: &Apply) -> Option<&'static str> {
         let mut state = self.shared.lock();
-        let (files, hooks) = (state.files.first(), state.hooks.first());
+        let (files, hooks) = (state.files.first(), state.has_hooks());
         // (what came before each look may not have been taken yet)
         let took_files = std::mem::take(&mut state.took_files) || state.writing.is_some();
-        let took_hooks = std::mem::take(&mut state.took_hooks) || !state.running.is_empty();
-        let is_lost =
-            files.is_some() && !state.holds && !took_files || hooks.is_some() && !took_hooks;
+        let is_running = state.runs.values().any(|it| it.running.is_some());
+        let took_hooks = std::mem::take(&mut state.took_hooks);
+        let took_hooks = took_hooks || is_running || !state.running.is_empty();
+        let is_lost = files.is_some() && !state.holds && !took_files || hooks && !took_hooks;
         self.lost.set(if is_lost { self.lost.get() + 1 } else { 0 });
         match () {
             () if self.threads.iter().any(JoinHandle::is_finished) || self.lost.get() >= LOST => {
                 Some("nobody applies settings")
             }
-            () if state.config != *config || self.shared.folder != config.folder => {
+            () if state.config != *config
+                || self.shared.folder != config.folder
+                || !state.runs.keys().eq(config.hooks.iter().collect::<BTreeSet<_>>()) =>
+            {
                 Some("what is applied is configured otherwise")
             }
             () => None,
         }
+    }
+
+    /// The groups whose values count here.
+    pub fn groups(&self) -> Vec<String> {
+        self.shared.lock().config.groups.clone()
     }
 
     /// How many settings have a file or hook that failed last.
@@ -327,19 +431,27 @@ fn keep_files(shared: &Shared) {
         state.writing = state.files.first().filter(|_| !state.holds);
         state.writing?;
         state.took_files = true;
-        let (files, due) = (std::mem::take(&mut state.files), std::mem::take(&mut state.due));
+        let (files, due) = (std::mem::take(&mut state.files), Due::of(state));
         let looks = std::mem::take(&mut state.looks) || !files.is_whole();
         Some((files, due, looks, state.floor, state.config.clone()))
     };
     let (mut folder, mut others) = (Folder::new(shared.folder.clone()), Vec::new());
-    let (mut is_taken, mut digest) = (false, None);
+    let mut grouped = Folder::new(shared.folder.join(GROUPS));
+    let (mut is_taken, mut digest, mut groups) = (false, None, Vec::new());
     // (whether its files were never looked at with this mode)
     let (mut is_first, mut mode) = (true, 0);
-    while let Some((mut files, mut due, looks, floor, config)) = shared.next(&shared.files, take) {
+    while let Some((mut files, due, looks, floor, config)) = shared.next(&shared.files, take) {
         if folder.path() != config.folder {
             // (the memory is spoiled)
             folder = Folder::new(config.folder.clone());
+            grouped = Folder::new(config.folder.join(GROUPS));
         }
+        if groups != config.groups {
+            // (what it says was of the files of others)
+            (digest, groups) = (None, config.groups.clone());
+        }
+        let all;
+        (files, all) = files.of_groups(&groups);
         // (until it is the agent's, nothing in it is touched; the next table sets all then. It is
         // also where a table names all that is in it, so that nothing would go)
         let there = || folder.names().into_iter().chain(folder.others()).filter(|it| is_key(it));
@@ -355,7 +467,6 @@ fn keep_files(shared: &Shared) {
             let (mut state, sequence) = (shared.lock(), files.first().unwrap_or(0));
             shared.report(&mut state, MARKER, sequence, outcome);
             if !is_taken {
-                state.due.append(&mut due);
                 // (and it is looked at as a whole before a digest is known again)
                 (state.looks, state.writing, state.digest) = (true, None, None);
                 continue;
@@ -364,7 +475,7 @@ fn keep_files(shared: &Shared) {
         if files.is_whole() {
             // (a folder in it is no setting, and may be somebody's)
             let there = if looks { folder.names() } else { folder.keys() };
-            files.unset_others(there.into_iter().chain(due.iter().cloned()));
+            files.unset_others(there.into_iter().chain(due.keys()));
             if looks {
                 is_first = digest.replace(Digest::default()).is_none() || mode != config.mode;
                 mode = config.mode;
@@ -372,15 +483,16 @@ fn keep_files(shared: &Shared) {
         }
         let mut mended = Vec::new();
         for (key, change) in files.in_order() {
-            let (value, was_due) = (change.value.as_deref(), due.remove(&key));
+            let value = change.value.as_deref();
             let put = value.map_or(!folder.knows(&key), |value| folder.had(&key, value));
             let had = !looks && value.is_some() && put;
             let differs = !had && folder.differs(&key, value, config.mode);
             if looks && !is_first && put && differs {
                 mended.push(key.clone());
             }
-            if differs || was_due {
-                keep_file(shared, &mut folder, &config, &key, change.clone(), differs);
+            let work = due.work(&key, differs);
+            if work.own || !work.hooks.is_empty() {
+                keep_file(shared, &mut folder, &config, &key, change.clone(), &work);
             }
             match (&mut digest, change.value.as_deref()) {
                 (Some(digest), _) if differs => see(digest, &folder, &key),
@@ -389,6 +501,7 @@ fn keep_files(shared: &Shared) {
                 _ => (),
             }
         }
+        keep_grouped(shared, &mut grouped, all, looks);
         if looks {
             say_others(&folder, &mut others);
         }
@@ -397,9 +510,41 @@ fn keep_files(shared: &Shared) {
         }
         let mut state = shared.lock();
         state.mended += mended.len() as u64;
-        state.due.append(&mut due);
+        state.runs.values_mut().for_each(Runs::changed);
+        if !state.runs.is_empty() {
+            shared.hooks.notify_all();
+        }
         state.writing = None;
-        state.digest = digest.as_ref().map(|it| it.sum);
+        let is_of_now = state.config.groups == groups;
+        state.digest = digest.as_ref().filter(|_| is_of_now).map(|it| it.sum);
+    }
+}
+
+/// Keeps values as they are published, of keys that have one for some group.
+fn keep_grouped(shared: &Shared, folder: &mut Folder, mut all: Waiting, looks: bool) {
+    if all.is_whole() {
+        let there = if looks { folder.names() } else { folder.keys() };
+        all.unset_others(there);
+    }
+    for (key, change) in all.in_order() {
+        let value = change.value.as_deref();
+        let had = !looks && value.map_or(!folder.knows(&key), |value| folder.had(&key, value));
+        let differs = !had && folder.differs(&key, value, GROUPS_MODE);
+        let put = |folder: &mut Folder| {
+            if value.is_some() && !folder.path().is_dir() {
+                remove(folder.path())?;
+            }
+            folder.put(&key, value, GROUPS_MODE)
+        };
+        let kept = if differs { put(folder) } else { Ok(()) };
+        let (mut state, name) = (shared.lock(), format!("{GROUPS}/{}", shown(&key)));
+        match kept {
+            Ok(()) => drop(state.failing.remove(&name)),
+            Err(error) => {
+                let outcome = Outcome::File(error.to_string());
+                shared.report(&mut state, &name, change.last, outcome);
+            }
+        }
     }
 }
 
@@ -416,7 +561,7 @@ fn mark(folder: &Folder, floor: u64, is_whole: bool) -> Outcome {
 /// Names once what is in the folder and is nothing of the agent's, and not removed either.
 fn say_others(folder: &Folder, before: &mut Vec<String>) {
     let mut others = folder.others();
-    others.retain(|name| ![MARKER, PENDING].contains(&&**name) && !name.starts_with(INPUT));
+    others.retain(|name| ![MARKER, PENDING, GROUPS].contains(&&**name) && !name.starts_with(INPUT));
     others.sort();
     if others != *before && !others.is_empty() {
         let (count, first) = (others.len(), others[..others.len().min(3)].join(" "));
@@ -434,132 +579,131 @@ fn see(digest: &mut Digest, folder: &Folder, key: &str) {
     }
 }
 
-/// Makes one file what it should be, where it differs, and lets its hook wait.
+/// Makes one file what it should be, where it differs, and lets its hooks wait.
 fn keep_file(
     shared: &Shared,
     folder: &mut Folder,
     config: &Apply,
     key: &str,
     change: Change,
-    differs: bool,
+    work: &Work<'_>,
 ) {
-    let is_going = |state: &mut State| state.running.get(key).is_some_and(|it| it.unmarks);
+    let is_going = |state: &mut State| state.settling.contains(key);
     let waited = shared.files.wait_timeout_while(shared.lock(), UNMARKS, is_going);
     waited.unwrap_or_else(PoisonError::into_inner).0.key = Some(key.into());
-    let kept = if differs {
-        let announced = config.hook.as_ref().map_or(Ok(()), |_| announce(shared, key));
+    let kept = if work.differs {
+        let is_told = config.hook.is_some() || !work.hooks.is_empty();
+        let announced = if is_told { hooks::announce(&shared.folder, key) } else { Ok(()) };
         announced.and_then(|()| folder.put(key, change.value.as_deref(), config.mode))
     } else {
         Ok(())
     };
     let mut state = shared.lock();
     state.key = None;
-    match kept {
-        Err(error) => {
-            state.due.insert(key.into());
-            shared.report(&mut state, key, change.last, Outcome::File(error.to_string()));
-        }
-        Ok(()) if config.hook.is_none() => {
-            shared.report(&mut state, key, change.last, Outcome::Done);
-        }
-        Ok(()) => {
-            state.hooks.put(key, change.alone());
-            shared.hooks.notify_one();
+    if let Err(error) = kept {
+        state.due.insert(key.into());
+        return shared.report(&mut state, key, change.last, Outcome::File(error.to_string()));
+    }
+    if work.all {
+        state.due.remove(key);
+    }
+    for hook in &work.hooks {
+        match state.runs.get_mut(*hook) {
+            Some(runs) => runs.change(key, &change),
+            // (there are others meanwhile)
+            None => drop(state.due.insert(key.into())),
         }
     }
-}
-
-/// Says in the folder that the hook of this key is due.
-fn announce(shared: &Shared, key: &str) -> io::Result<()> {
-    let folder = shared.folder.join(PENDING);
-    if !folder.is_dir() {
-        remove(&folder)?;
-        fs::create_dir_all(&folder)?;
-    }
-    let path = folder.join(key);
-    if !path.is_file() {
-        remove(&path)?;
-        File::create(&path)?;
-    }
-    Ok(())
-}
-
-/// A thread that runs hooks, the oldest change first whose key has none that runs.
-fn run_hooks(shared: &Shared) {
-    let take = |state: &mut State| {
-        let (key, change) = state.hooks.pop_of(|key| !state.running.contains_key(key))?;
-        state.running.insert(key.clone(), Running { first: change.first, unmarks: false });
-        state.took_hooks = true;
-        Some((key, change, state.config.clone()))
-    };
-    while let Some((key, change, config)) = shared.next(&shared.hooks, take) {
-        let status = run_hook(&shared.folder, &config, &key, &change);
-        if status.is_ok() {
-            let mut state = shared.lock();
-            let again = state.hooks.has(&key) || state.key.as_ref() == Some(&key);
-            state.running.get_mut(&key).into_iter().for_each(|it| it.unmarks = !again);
-            // (the disk may hang: so the lock that the loop takes is not held)
-            drop(state);
-            if !again {
-                let _ = fs::remove_file(shared.folder.join(PENDING).join(&key));
+    if work.own {
+        state.failed.remove(key);
+        match &config.hook {
+            None => shared.report(&mut state, key, change.last, Outcome::Done),
+            Some(_) => {
+                state.hooks.put(key, change.alone());
+                shared.hooks.notify_one();
             }
         }
-        let mut state = shared.lock();
-        state.running.remove(&key);
+    }
+}
+
+/// What a hook is told: of a change, or of keys of which the last changed with this number.
+enum Told {
+    One(String, Change),
+    Many(Hook, BTreeSet<String>, u64),
+}
+
+/// A thread that runs hooks: those for many keys, and else the oldest change first whose key has
+/// none that runs.
+fn run_hooks(shared: &Shared) {
+    let take = |state: &mut State| {
+        let many = |(hook, runs): (&Hook, &mut Runs)| {
+            runs.begin().map(|(keys, last)| Told::Many(hook.clone(), keys, last))
+        };
+        let many = state.runs.iter_mut().find_map(many);
+        let told = many.or_else(|| {
+            let (key, change) = state.hooks.pop_of(|key| !state.running.contains_key(key))?;
+            state.running.insert(key.clone(), change.first);
+            Some(Told::One(key, change))
+        })?;
+        state.took_hooks = true;
+        Some((told, state.config.clone()))
+    };
+    while let Some((told, config)) = shared.next(&shared.hooks, take) {
+        match told {
+            Told::One(key, change) => run_one(shared, &config, &key, &change),
+            Told::Many(hook, keys, last) => run_many(shared, &hook, keys, last),
+        }
         // (a change of the same key may have waited for this, and its file)
         shared.hooks.notify_one();
         shared.files.notify_one();
-        let outcome = match status {
-            Ok(()) => Outcome::Done,
-            Err(error) => {
-                state.failures += 1;
-                state.due.insert(key.clone());
-                Outcome::Hook(error)
-            }
-        };
-        shared.report(&mut state, &key, change.last, outcome);
         (shared.wake)();
     }
 }
 
-/// Runs the hook of a change to its end, or until its time is up.
-fn run_hook(folder: &Path, config: &Apply, key: &str, change: &Change) -> Result<(), String> {
-    let Some(hook) = &config.hook else { return Ok(()) };
-    // (a file and not a pipe, since a hook need not read it)
-    let input = match change.value.as_deref() {
-        None => Stdio::null(),
-        Some(value) => {
-            Stdio::from(input(folder, key, value).map_err(|e| format!("its input: {e}"))?)
-        }
-    };
-    let status = Command::new("timeout")
-        .arg("--kill-after=5")
-        .arg(format!("{:.3}", config.hook_timeout.as_secs_f64()))
-        .arg(hook)
-        .args([if change.value.is_some() { "set" } else { "unset" }, key])
-        .env("RIGNOLDA_SEQUENCE", change.last.to_string())
-        // (what systemd gave to the agent alone)
-        .env_remove("NOTIFY_SOCKET")
-        .env_remove("WATCHDOG_USEC")
-        .env_remove("CREDENTIALS_DIRECTORY")
-        .stdin(input)
-        .status();
-    match status {
-        Err(error) => Err(format!("timeout: {error}")),
-        Ok(status) if status.success() => Ok(()),
-        Ok(status) if status.code() == Some(124) => Err("its time was up".into()),
-        Ok(status) => Err(status.to_string()),
+fn run_one(shared: &Shared, config: &Apply, key: &str, change: &Change) {
+    let status = hooks::run(&shared.folder, config, key, change);
+    if status.is_ok() {
+        settle(shared, [key]);
     }
+    let mut state = shared.lock();
+    state.running.remove(key);
+    let outcome = status.map_or_else(Outcome::Hook, |()| Outcome::Done);
+    if outcome != Outcome::Done {
+        state.failures += 1;
+        state.failed.insert(key.into());
+    }
+    shared.report(&mut state, key, change.last, outcome);
 }
 
-/// A file without a name that has these bytes.
-fn input(folder: &Path, key: &str, value: &[u8]) -> io::Result<File> {
-    let path = folder.join(format!("{INPUT}{key}"));
-    remove(&path)?;
-    let mut options = OpenOptions::new();
-    let mut file = options.read(true).write(true).create_new(true).mode(0o600).open(&path)?;
-    file.write_all(value)?;
-    fs::remove_file(&path)?;
-    file.rewind()?;
-    Ok(file)
+fn run_many(shared: &Shared, hook: &Hook, keys: BTreeSet<String>, last: u64) {
+    let status = hook.run(&shared.folder, &keys, last);
+    let is_there = || shared.lock().runs.get(hook).is_some_and(|it| it.running.is_some());
+    if status.is_ok() && is_there() {
+        settle(shared, keys.iter().map(String::as_str));
+    }
+    let mut state = shared.lock();
+    let outcome = status.map_or_else(Outcome::Hook, |()| Outcome::Done);
+    if outcome != Outcome::Done {
+        state.failures += 1;
+    }
+    // (else all hooks are told of them at the next round)
+    if let Some(runs) = state.runs.get_mut(hook) {
+        runs.running = None;
+        if outcome != Outcome::Done {
+            runs.due.extend(keys);
+        }
+    }
+    shared.report(&mut state, &hook.name(), last, outcome);
+}
+
+/// Takes away the marks of keys of which a hook has ended well, unless there are more to come.
+fn settle<'a>(shared: &Shared, keys: impl IntoIterator<Item = &'a str>) {
+    let mut state = shared.lock();
+    let keys: Vec<&str> = keys.into_iter().filter(|key| state.lacking(key) <= 1).collect();
+    state.settling.extend(keys.iter().map(|key| (*key).to_owned()));
+    // (the disk may hang: so the lock that the loop takes is not held)
+    drop(state);
+    keys.iter().for_each(|key| hooks::settle(&shared.folder, key));
+    let mut state = shared.lock();
+    state.settling.retain(|key| !keys.contains(&&**key));
 }

@@ -1,7 +1,7 @@
 //! What `--check` finds beyond the text of a configuration: what its user cannot use on this
 //! machine, and, of the files of a whole tree, which agents do not fit.
 use crate::apply::refusal;
-use crate::config::{leads, line_of, read_text, Address, Children, Config, Fault, Tls};
+use crate::config::{hook_lines, leads, line_of, read_text, Address, Children, Config, Fault, Tls};
 use std::collections::BTreeMap;
 use std::fs;
 use std::io::ErrorKind;
@@ -64,6 +64,14 @@ impl Check<'_> {
         config.store.password.as_ref().map(|it| self.may("store.password", it, "-r -f"));
         let hook = config.apply.as_ref().and_then(|it| it.hook.as_ref());
         hook.map(|it| self.may("apply.hook", it, "-x -f"));
+        let hooks = config.apply.iter().flat_map(|it| &it.hooks);
+        for (at, hook) in hooks.enumerate() {
+            let before = self.faults.len();
+            self.may("hook.run", &hook.run, "-x -f");
+            let (line, text) = hook_lines(&self.texts[0], at);
+            let line = line + line_of(&text, "run").max(1) - 1;
+            self.faults[before..].iter_mut().for_each(|it| it.1.line = line);
+        }
         if let Some(path) = config.root.as_ref().map(|it| &it.settings) {
             let tests = if path.is_dir() { "-r -x" } else { "-r -f" };
             let is_well = self.may("root.settings", path, tests) && config.control.is_some();

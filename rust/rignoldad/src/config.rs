@@ -2,8 +2,9 @@
 //!
 //! Every fault is reported with its line and its key. Nothing here opens another file, except that
 //! [`Config::read`] reads the one that it is given.
+use crate::hooks::Hook;
 pub use rignolda::net::{is_name, Address, Children, Parent, Setup, NAME_BYTES};
-pub use rignolda::settings::{is_key, too_deep, TOO_DEEP};
+pub use rignolda::settings::{is_group, is_key, too_deep, TOO_DEEP};
 pub use rignolda_redis::Login;
 use rignolda_tls::read_file;
 pub use rignolda_tls::Tls;
@@ -21,6 +22,12 @@ use toml::value::{Table, Value};
 const FILE_BYTES: usize = 1 << 20;
 const CHILDREN: usize = 10_000;
 const ADDRESSES: usize = 64;
+/// The most tables [[hook]], and patterns of each.
+const HOOKS: usize = 64;
+/// The most groups that an agent is of.
+pub const GROUPS: usize = 16;
+/// How long a hook may take at least and at most, in milliseconds.
+const HOOK_TIMES: RangeInclusive<u64> = 100..=3_600_000;
 /// The most that a parent may cost besides 1: of 128 and more, there would never be a way over it.
 const PRICE: u16 = 100;
 /// How much of a text is shown.
@@ -65,8 +72,12 @@ pub struct Apply {
     pub take: bool,
     /// The permissions of a setting's file.
     pub mode: u32,
+    /// Whose values count before those for all agents, the first one's most.
+    pub groups: Vec<String>,
     pub hook: Option<PathBuf>,
     pub hook_timeout: Duration,
+    /// The hooks that have one run for many keys, in the order of the file.
+    pub hooks: Vec<Hook>,
 }
 
 impl Apply {
@@ -172,12 +183,15 @@ impl Config {
 }
 
 /// All keys that there are, those of a table behind its name.
-const KEYS: &str = "name listen children parents insecure control metrics metrics_open \
+const KEYS: &str = "name groups listen children parents insecure control metrics metrics_open \
     root.settings root.round root.harmless root.hold root.unsets \
     link.ack_timeout link.backlog link.evict \
     store.user store.password store.database store.poll \
     tls.certificate tls.key tls.authority apply.folder apply.take apply.mode apply.hook \
     apply.hook_timeout";
+
+/// All keys of a table [[hook]].
+const HOOK_KEYS: [&str; 3] = ["keys", "run", "timeout"];
 
 /// The checks of one text, and the faults that they found.
 struct Check<'a> {
@@ -215,6 +229,7 @@ impl<'a> Check<'a> {
             match value {
                 Value::Table(table) if is_table => self.unknown(table, &inside),
                 _ if is_table => self.fault(&path, "it is a table"),
+                _ if path == "hook" => (),
                 _ if KEYS.split(' ').any(|known| known == path) => (),
                 _ => self.fault(&path, "there is no such key"),
             }
@@ -355,8 +370,10 @@ impl<'a> Check<'a> {
                 folder: self.needed("apply.folder"),
                 take: self.is_set("apply.take"),
                 mode: self.mode(),
+                groups: self.groups(),
                 hook: self.path("apply.hook"),
-                hook_timeout: self.time("apply.hook_timeout", 30_000, 100..=3_600_000),
+                hook_timeout: self.time("apply.hook_timeout", 30_000, HOOK_TIMES),
+                hooks: self.hooks(),
             }),
             store: Login {
                 user: self.text("store.user").unwrap_or_default().into(),
@@ -401,6 +418,10 @@ impl<'a> Check<'a> {
         let least = config.root.as_ref().map_or(0, |root| 4 * (u64::from(root.harmless) + 2));
         let text = format!("at this root it is at least {least}, four rounds");
         self.refuse("link.backlog", config.backlog < least, text);
+        let text = "an agent without [apply] keeps no settings";
+        for key in ["groups", "hook"] {
+            self.refuse(key, config.apply.is_none() && self.get(key).is_some(), text);
+        }
         if let Some(apply) = &config.apply {
             // (what no setting names is removed there)
             let is_shallow = apply.folder.components().count() < 3;
@@ -460,6 +481,62 @@ impl<'a> Check<'a> {
         Some(Parent { name, address, price })
     }
 
+    /// The tables [[hook]], each checked as a text of its own.
+    fn hooks(&mut self) -> Vec<Hook> {
+        let tables: Option<Vec<&Table>> = match self.get("hook") {
+            None => return Vec::new(),
+            Some(Value::Array(all)) if all.len() <= HOOKS => {
+                all.iter().map(Value::as_table).collect()
+            }
+            Some(_) => None,
+        };
+        let text = format!("each is a table [[hook]], and there are at most {HOOKS}");
+        let mut hooks: Vec<Hook> = Vec::new();
+        for (at, table) in self.expect("hook", tables, text).into_iter().flatten().enumerate() {
+            let (line, text) = hook_lines(self.text, at);
+            let mut check = Check { text: &text, table, insecure: false, faults: Vec::new() };
+            let hook = check.hook();
+            check.refuse("", hooks.contains(&hook), "it is there twice");
+            for fault in check.faults {
+                let key = ["hook", &fault.key].join(".");
+                let key = key.trim_end_matches('.').into();
+                self.faults.push(Fault { line: line + fault.line.max(1) - 1, key, ..fault });
+            }
+            hooks.push(hook);
+        }
+        hooks
+    }
+
+    /// The hook that this table is.
+    fn hook(&mut self) -> Hook {
+        for key in self.table.keys().filter(|key| !HOOK_KEYS.contains(&key.as_str())) {
+            self.fault(key, "there is no such key");
+        }
+        self.expect("keys", self.get("keys"), "it is missing");
+        let keys = self.texts("keys", HOOKS);
+        for pattern in keys.iter().filter(|it| !is_key(&it.replace('*', "x"))) {
+            let text = "a pattern is a key in which each `*` stands for any letters; not";
+            self.fault("keys", format!("{text} `{}`", pattern.escape_debug()));
+        }
+        Hook {
+            keys: keys.into_iter().map(str::to_owned).collect(),
+            run: self.needed("run"),
+            timeout: self.time("timeout", 30_000, HOOK_TIMES),
+        }
+    }
+
+    fn groups(&mut self) -> Vec<String> {
+        let groups = self.texts("groups", GROUPS);
+        for (at, group) in groups.iter().enumerate() {
+            let shown = group.escape_debug();
+            let text = format!("`{shown}` is no group: it is as a key, without two dots together");
+            self.refuse("groups", !is_group(group), text);
+            let text = format!("`{shown}` is there twice");
+            self.refuse("groups", groups[..at].contains(group), text);
+        }
+        groups.into_iter().map(str::to_owned).collect()
+    }
+
     fn mode(&mut self) -> u32 {
         let mode = |it: &Value| u32::from_str_radix(it.as_str()?, 8).ok();
         let read = |it: &Value| mode(it).filter(|it| (0o400..=0o777).contains(it));
@@ -490,6 +567,19 @@ pub fn line_of(text: &str, key: &str) -> usize {
         })
     };
     find(key).or_else(|| find(key.split_once('.')?.0)).map_or(0, |at| at + 1)
+}
+
+/// The line in which the table [[hook]] at this place begins, from 1, and the text from there on to
+/// the next table.
+pub fn hook_lines(text: &str, at: usize) -> (usize, String) {
+    let is_head = |line: &str| line.trim_start().starts_with('[');
+    let is_hook = |line: &str| line.split_whitespace().collect::<String>().starts_with("[[hook]]");
+    let lines: Vec<&str> = text.lines().collect();
+    let begins = (0..lines.len()).filter(|at| is_hook(lines[*at])).nth(at);
+    let Some(begins) = begins else { return (line_of(text, "hook"), String::new()) };
+    let others = lines[begins + 1..].iter().take_while(|line| !is_head(line));
+    let own: Vec<&str> = [""].into_iter().chain(others.copied()).collect();
+    (begins + 1, own.join("\n"))
 }
 
 /// Whether who connects to `to` comes to who listens at `at`. Nothing where a host's name hides it.

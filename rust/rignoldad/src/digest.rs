@@ -1,11 +1,13 @@
 //! Digests of settings, by which the root sees whether an agent's files are what it published.
-use rignolda::settings::{is_newer, Meaning};
-use rignoldactl::{Compared, Key, Seen};
-use std::collections::{BTreeMap, VecDeque};
+use rignolda::settings::{is_newer, of_group, parts, that_counts, values_of, Entry, Meaning};
+use rignoldactl::{Compared, Key, Keys, Seen};
+use std::collections::{BTreeMap, BTreeSet, VecDeque};
 
 /// For how many of its last changes a root remembers the digest, and for how many rounds.
 const CHANGES: usize = 1 << 12;
 const ROUNDS: u8 = 32;
+/// Of how many lists of groups at most it knows what agents of them ought to have.
+const GROUPS: usize = 256;
 
 /// A digest of settings: the same ones have the same digest, in whatever order they came.
 ///
@@ -29,60 +31,108 @@ impl Digest {
     pub fn unset(&mut self, key: &str) {
         self.sum = self.sum.wrapping_sub(self.each.remove(key).unwrap_or(0));
     }
-
-    /// Takes what a body says. A whole table makes all of it anew.
-    fn take(&mut self, meaning: &Meaning<'_>) {
-        let entries = match meaning {
-            Meaning::Harmless => return,
-            Meaning::Changes(entries) => entries,
-            Meaning::Table(entries) => {
-                *self = Digest::default();
-                entries
-            }
-        };
-        for (key, value) in entries {
-            match value {
-                Some(_) => self.set(key, *value),
-                None => self.unset(key),
-            }
-        }
-    }
 }
 
 /// What a root published, as digests.
 #[derive(Debug, Default)]
 pub struct Published {
-    digest: Digest,
+    /// Of each value that is set its [digest](rignoldactl::digest), as that of the key that its
+    /// file has.
+    each: BTreeMap<String, u64>,
     /// The number of its last body.
     number: u64,
-    /// Its digests, the last one first, each with the number from which on it was that, and how
-    /// many rounds ended since.
-    since: VecDeque<(u64, u64, u8)>,
-    /// Of each key that is set, what it is and was.
+    /// What the files of agents of these groups were and are; always also of those of none.
+    files: BTreeMap<Vec<String>, Files>,
+    /// Of each value that is set, what it is and was.
     keys: BTreeMap<String, Key>,
+}
+
+/// The digests that an agent's files have to have.
+#[derive(Debug, Default)]
+struct Files {
+    sum: u64,
+    /// The last one first, each with the number from which on it was that, and how many rounds
+    /// ended since.
+    since: VecDeque<(u64, u64, u8)>,
+}
+
+impl Files {
+    /// Notes what they are from a body with this number on, which may end a `round`.
+    fn note(&mut self, number: u64, round: bool) {
+        if round {
+            self.since.iter_mut().for_each(|(.., rounds)| *rounds = rounds.saturating_add(1));
+            self.since.retain(|(at, _, rounds)| *rounds <= ROUNDS && !is_newer(*at, number));
+        }
+        if round || self.since.front().is_none_or(|(_, digest, _)| *digest != self.sum) {
+            self.since.push_front((number, self.sum, 0));
+            self.since.truncate(CHANGES);
+        }
+    }
 }
 
 impl Published {
     /// Takes a body that is published with this number, and may end a `round`. Nothing has to have
     /// been right before: of agents that are at a round's table or later all is known from it.
     pub fn take(&mut self, number: u64, meaning: &Meaning<'_>, round: bool) {
-        self.digest.take(meaning);
         self.number = number;
-        self.take_keys(number, meaning);
-        if round {
-            self.since.iter_mut().for_each(|(.., rounds)| *rounds = rounds.saturating_add(1));
-            self.since.retain(|(at, _, rounds)| *rounds <= ROUNDS && !is_newer(*at, number));
+        self.files.entry(Vec::new()).or_default();
+        match meaning {
+            Meaning::Harmless => (),
+            Meaning::Changes(entries) => self.changes(entries),
+            Meaning::Table(entries) => {
+                self.each = entries.iter().filter_map(digest_of).collect();
+                let sum = sums(&self.each);
+                self.files.iter_mut().for_each(|(groups, files)| files.sum = sum(groups));
+            }
         }
-        if round || self.since.front().is_none_or(|(_, digest, _)| *digest != self.digest.sum) {
-            self.since.push_front((number, self.digest.sum, 0));
-            self.since.truncate(CHANGES);
+        self.take_keys(number, meaning);
+        self.files.values_mut().for_each(|files| files.note(number, round));
+    }
+
+    /// Takes changes, which have all values of the keys of files that they have some of.
+    fn changes(&mut self, entries: &[Entry<'_>]) {
+        let changed: BTreeSet<&str> = entries.iter().map(|(key, _)| parts(key).0).collect();
+        let each = &self.each;
+        for (groups, files) in &mut self.files {
+            let old = changed.iter().map(|file| digest_for(each, file, groups));
+            files.sum = old.fold(files.sum, u64::wrapping_sub);
+        }
+        for file in &changed {
+            let keys: Vec<String> = values_of(&self.each, file).map(|it| it.0.clone()).collect();
+            for key in keys {
+                self.each.remove(&key);
+            }
+        }
+        self.each.extend(entries.iter().filter_map(digest_of));
+        let each = &self.each;
+        for (groups, files) in &mut self.files {
+            let new = changed.iter().map(|file| digest_for(each, file, groups));
+            files.sum = new.fold(files.sum, u64::wrapping_add);
+        }
+    }
+
+    /// Agents are of these groups: of others nothing is known any more. What they ought to have is
+    /// known from now on.
+    pub fn knows<'a>(&mut self, all: impl IntoIterator<Item = &'a [String]>) {
+        let mut all: BTreeSet<&[String]> = all.into_iter().collect();
+        all.insert(&[]);
+        self.files.retain(|groups, _| all.contains(&groups[..]));
+        all.retain(|groups| !self.files.contains_key(*groups));
+        if all.is_empty() {
+            return;
+        }
+        let sum = sums(&self.each);
+        for groups in all.into_iter().take(GROUPS.saturating_sub(self.files.len())) {
+            let mut files = Files { sum: sum(groups), ..Files::default() };
+            files.note(self.number, false);
+            self.files.insert(groups.into(), files);
         }
     }
 
     fn take_keys(&mut self, number: u64, meaning: &Meaning<'_>) {
         let (Meaning::Changes(entries) | Meaning::Table(entries)) = meaning else { return };
         for (key, _) in entries {
-            match self.digest.each.get(*key) {
+            match self.each.get(*key) {
                 Some(digest) => {
                     let it = self.keys.entry((*key).into()).or_default();
                     // (no earlier one may count from later on)
@@ -95,20 +145,26 @@ impl Published {
             }
         }
         if matches!(meaning, Meaning::Table(_)) {
-            self.keys.retain(|key, _| self.digest.each.contains_key(key));
+            self.keys.retain(|key, _| self.each.contains_key(key));
         }
     }
 
-    /// What is known of a key. Of one that is unset, that is no more than since when all settings
-    /// are as they are.
-    pub fn key(&self, key: &str) -> Key {
-        let since = self.since.front().map_or(0, |(number, ..)| *number);
-        self.keys.get(key).cloned().unwrap_or(Key { number: since, ..Key::default() })
+    /// What is known of the values of a key: of that for all, and of those for groups. Of one that is
+    /// unset, that is no more than since when all settings are as they are.
+    pub fn key(&self, key: &str) -> Keys {
+        let since = self.files.get(&[][..]).and_then(|it| it.since.front());
+        let since = since.map_or(0, |(number, ..)| *number);
+        let known = |key: &str| self.keys.get(key).cloned();
+        let groups = values_of(&self.each, key).filter_map(|(key, _)| Some((key, parts(key).1?)));
+        let groups = groups.filter_map(|(key, group)| Some((group.to_owned(), known(key)?)));
+        let unset = Key { number: since, ..Key::default() };
+        Keys { all: known(key).unwrap_or(unset), groups: groups.collect(), since }
     }
 
-    /// The digest as of this number, unless that is not known.
-    fn at(&self, number: u64) -> Option<u64> {
-        let mut since = self.since.iter();
+    /// The digest of the files of agents of these groups as of this number, unless that is not
+    /// known.
+    fn at(&self, groups: &[String], number: u64) -> Option<u64> {
+        let mut since = self.files.get(groups)?.since.iter();
         let at =
             || since.find(|(since, ..)| !is_newer(*since, number)).map(|(_, digest, _)| *digest);
         (number != 0 && !is_newer(number, self.number)).then(at)?
@@ -116,13 +172,44 @@ impl Published {
 
     /// Whether an agent's files are what was published up to the number that they are from.
     pub fn compared(&self, seen: &Seen) -> Compared {
-        match self.at(seen.files) {
+        match self.at(&seen.groups, seen.files) {
             _ if !seen.applies => Compared::Nothing,
             Some(digest) if digest == seen.digest => Compared::Same,
             Some(_) => Compared::Differs,
             None => Compared::NotKnown,
         }
     }
+}
+
+/// What gives the digest of all files of agents of some groups.
+fn sums(each: &BTreeMap<String, u64>) -> impl Fn(&[String]) -> u64 + '_ {
+    let (mut all, mut grouped) = (0_u64, BTreeSet::new());
+    for (key, digest) in each {
+        match parts(key) {
+            (_, None) => all = all.wrapping_add(*digest),
+            (file, Some(_)) => drop(grouped.insert(file)),
+        }
+    }
+    move |groups| {
+        grouped.iter().fold(all, |sum, file| {
+            let for_all = each.get(*file).copied().unwrap_or(0);
+            sum.wrapping_sub(for_all).wrapping_add(digest_for(each, file, groups))
+        })
+    }
+}
+
+/// The digest of a value that is set, as that of the key that its file has.
+fn digest_of((key, value): &Entry<'_>) -> Option<(String, u64)> {
+    value.map(|_| ((*key).into(), rignoldactl::digest(parts(key).0, *value)))
+}
+
+/// The digest of the file of this key at an agent of these groups; 0 where it has none.
+fn digest_for(each: &BTreeMap<String, u64>, file: &str, groups: &[String]) -> u64 {
+    let digest = |group: Option<&str>| match group {
+        Some(group) => each.get(&of_group(file, group)),
+        None => each.get(file),
+    };
+    that_counts(groups, digest).copied().unwrap_or(0)
 }
 
 #[cfg(test)]
@@ -208,9 +295,10 @@ mod tests {
         for since in
             [vec![], vec![(900, 1, 0)], vec![(3, 0, 9), (far, 7, 255)], vec![(12, 9, 1); 9]]
         {
-            let mut published = Published { number: 77, since: since.into(), ..Default::default() };
-            published.digest.each.insert("none".into(), 5);
-            published.digest.sum = 6;
+            let files = Files { sum: 6, since: since.into() };
+            let files = BTreeMap::from([(Vec::new(), files)]);
+            let mut published = Published { number: 77, files, ..Default::default() };
+            published.each.insert("none".into(), 5);
             published.take(20, &Meaning::Table(vec![("key", Some(b"value"))]), true);
             published.take(21, &Meaning::Harmless, false);
             let mut digest = Digest::default();
@@ -228,7 +316,7 @@ mod tests {
         let of = |value: &[u8]| rignoldactl::digest("key", Some(value));
         let with = |value: &'static [u8]| vec![("key", Some(value)), ("other", Some(&b"1"[..]))];
         let is = |it: &Published| {
-            let Key { digest, number, old, old_number } = it.key("key");
+            let Key { digest, number, old, old_number } = it.key("key").all;
             (digest, number, old, old_number)
         };
         let mut it = Published::default();
@@ -252,7 +340,61 @@ mod tests {
         let spoilt = Key { digest: of(b"4"), number: u64::MAX / 3, old: 1, old_number: 2 };
         it.keys.insert("key".into(), spoilt);
         it.take(20, &Meaning::Table(with(b"4")), true);
-        assert_eq!((it.key("key").digest, it.key("key").number), (of(b"4"), 20));
+        assert_eq!((it.key("key").all.digest, it.key("key").all.number), (of(b"4"), 20));
+    }
+
+    /// Agents of each list of groups are compared with what counts for them.
+    #[test]
+    fn compared_by_their_groups() {
+        let all = |keys: &'static [(&'static str, &'static str)]| -> Vec<Entry<'static>> {
+            keys.iter().map(|(key, value)| (*key, Some(value.as_bytes()))).collect()
+        };
+        let digest = |settings: &[(&str, &str)]| {
+            let mut digest = Digest::default();
+            settings.iter().for_each(|(key, value)| digest.set(key, Some(value.as_bytes())));
+            digest.sum
+        };
+        let group = |names: &[&str]| names.iter().map(|it| (*it).to_string()).collect::<Vec<_>>();
+        let [none, canary, both, other] =
+            [&[][..], &["canary"], &["eu", "canary"], &["us"]].map(group);
+        let mut it = Published::default();
+        it.take(10, &Meaning::Table(all(&[("a", "1"), ("a..canary", "2"), ("b..eu", "3")])), true);
+        let lists = [&none, &canary, &both, &other];
+        it.knows(lists.map(|groups| &groups[..]));
+        let is = |it: &Published, at, expected: [&[(&str, &str)]; 4]| {
+            for (groups, settings) in lists.into_iter().zip(expected) {
+                let seen = Seen { groups: groups.clone(), ..seen(at, digest(settings)) };
+                assert_eq!(it.compared(&seen), Compared::Same, "{at} {groups:?}");
+                let seen = Seen { digest: seen.digest ^ 1, ..seen };
+                assert_eq!(it.compared(&seen), Compared::Differs, "{at} {groups:?}");
+            }
+        };
+        let first: [&[_]; 4] =
+            [&[("a", "1")], &[("a", "2")], &[("a", "2"), ("b", "3")], &[("a", "1")]];
+        is(&it, 10, first);
+        // a change has all values of its key, also where one of them alone is another one
+        it.take(
+            11,
+            &Meaning::Changes(all(&[("a", "1"), ("a..canary", "2"), ("a..eu", "4")])),
+            false,
+        );
+        is(&it, 11, [&[("a", "1")], &[("a", "2")], &[("a", "4"), ("b", "3")], &[("a", "1")]]);
+        is(&it, 10, first);
+        let mut changes = all(&[("a", "5"), ("c", "6")]);
+        changes.extend([("a..canary", None), ("a..eu", None)]);
+        it.take(12, &Meaning::Changes(changes), false);
+        let all_have = &[("a", "5"), ("c", "6")][..];
+        is(&it, 12, [all_have, all_have, &[("a", "5"), ("b", "3"), ("c", "6")], all_have]);
+        // of groups that nobody has any more, and then has again, older numbers are not known
+        it.knows([&canary[..]]);
+        let seen = Seen { groups: both.clone(), ..seen(12, 0) };
+        assert_eq!(it.compared(&seen), Compared::NotKnown);
+        it.knows(lists.map(|groups| &groups[..]));
+        assert_eq!(it.compared(&seen), Compared::Differs);
+        assert_eq!(it.compared(&Seen { files: 11, ..seen }), Compared::NotKnown);
+        assert_eq!((it.key("b").all.digest, it.key("b").groups.len()), (0, 1));
+        it.take(13, &Meaning::Table(all(&[("a..us", "7")])), true);
+        is(&it, 13, [&[], &[], &[], &[("a", "7")]]);
     }
 
     #[test]
@@ -262,8 +404,8 @@ mod tests {
             let value = number.to_be_bytes();
             published.take(number, &Meaning::Changes(vec![("key", Some(&value))]), false);
         }
-        assert_eq!(published.since.len(), CHANGES);
-        assert_eq!(published.at(CHANGES as u64), None);
-        assert!(published.at(CHANGES as u64 + 1).is_some());
+        assert_eq!(published.files[&[][..]].since.len(), CHANGES);
+        assert_eq!(published.at(&[], CHANGES as u64), None);
+        assert!(published.at(&[], CHANGES as u64 + 1).is_some());
     }
 }

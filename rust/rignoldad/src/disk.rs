@@ -1,17 +1,17 @@
 //! The disk that has the root's settings. A thread does what may have to wait for it.
-use crate::config::{is_key, too_deep, TOO_DEEP};
+use crate::config::{too_deep, TOO_DEEP};
 use inotify::{Inotify, WatchMask};
 use rignolda::net::{Worker, BODY_BYTES};
 use rignolda::settings::{
-    no_key, read_folder, read_plain, too_many, write_folder, Faults, Found, Kept, SETTINGS,
-    VALUE_BYTES,
+    no_key, parts, published_by, read_folder_by, read_plain, shown, too_many, write_folder, Faults,
+    Found, Kept, SETTINGS, VALUE_BYTES,
 };
 use std::collections::BTreeSet;
 use std::fs;
 use std::io::{self, ErrorKind};
 use std::os::unix::fs::MetadataExt;
 use std::os::unix::io::{AsRawFd, RawFd};
-use std::path::Path;
+use std::path::{Path, PathBuf};
 use std::sync::Arc;
 
 /// How often a folder is read that is another one each time.
@@ -27,6 +27,8 @@ pub enum Job {
     Changed,
     /// To write these files, or to remove them.
     Write(Vec<Kept>),
+    /// To give this key's file, which is for a group, the place of the one for all.
+    Promote(String),
 }
 
 /// What was done.
@@ -86,12 +88,20 @@ impl Place {
                 None => Done::Read(self.read()),
             },
             Job::Write(changes) => self.write(changes),
+            Job::Promote(key) => match read_plain(&self.file(&key), VALUE_BYTES) {
+                // (the first one first: whoever is ended between them leaves what is right, too)
+                Ok(value) => self.write(vec![(parts(&key).0.into(), Some(value)), (key, None)]),
+                Err(error) => {
+                    let why = format!("{}: {error}", shown(&key));
+                    Done::Written(vec![((key, None), Err(why))], false)
+                }
+            },
         }
     }
 
     /// Notes what changed. Of each of these keys the first change is its own: so where somebody
     /// else has changed it too, before or after that, it is noted.
-    fn note(&mut self, mut own: BTreeSet<&str>) {
+    fn note(&mut self, mut own: BTreeSet<String>) {
         let (mut space, mut is_more) = ([0; 4_096], true);
         while std::mem::take(&mut is_more) {
             let events = self.notify.as_mut().map(|it| it.read_events(&mut space));
@@ -99,9 +109,12 @@ impl Place {
                 is_more = true;
                 match (event.name.and_then(|name| name.to_str()), &mut self.keys) {
                     (Some(name), _) if own.remove(name) => (),
-                    (Some(name), Some(keys)) if is_key(name) => drop(keys.insert(name.to_owned())),
                     // (its own, before they are moved to their places)
                     (Some(name), _) if name.starts_with(".rignolda") => (),
+                    (Some(name), Some(keys)) => match published_by(name) {
+                        Some(key) => drop(keys.insert(key)),
+                        None => self.keys = None,
+                    },
                     _ => self.keys = None,
                 }
             }
@@ -114,7 +127,7 @@ impl Place {
         self.note(BTreeSet::new());
         let keys = self.keys.replace(BTreeSet::new()).filter(|keys| !keys.is_empty())?;
         let mut bytes = 0;
-        let value = |key: String| match read_plain(&self.settings.join(&key), VALUE_BYTES) {
+        let value = |key: String| match read_plain(&self.file(&key), VALUE_BYTES) {
             Ok(value) => {
                 bytes += value.len();
                 (bytes <= BODY_BYTES).then_some((key, Some(value)))
@@ -128,6 +141,11 @@ impl Place {
         changes.filter(|_| self.read.is_some() && self.read == identity(&self.settings))
     }
 
+    /// The file of a key.
+    fn file(&self, key: &str) -> PathBuf {
+        self.settings.join(&*shown(key))
+    }
+
     /// Writes files, and waits until the disk has them. No two are of one key.
     fn write(&mut self, changes: Vec<Kept>) -> Done {
         let done: Vec<_> = match self.settings.is_file() {
@@ -135,7 +153,7 @@ impl Place {
             false => write_folder(&self.settings, &changes),
         };
         let own = changes.iter().zip(&done).filter(|(_, done)| done.is_ok());
-        self.note(own.map(|((key, _), _)| &**key).collect());
+        self.note(own.map(|((key, _), _)| shown(key).into()).collect());
         let others = self.keys.as_ref().is_none_or(|keys| !keys.is_empty());
         Done::Written(changes.into_iter().zip(done).collect(), others)
     }
@@ -166,7 +184,7 @@ impl Place {
         }
         let read = match path.is_file() {
             true => read_settings(path),
-            false => read_folder(path),
+            false => read_folder_by(path, published_by),
         };
         let (why, faults) = match read {
             Ok(it) if it.settings.is_empty() && path.is_dir() && !path.join(".empty").exists() => {
@@ -203,14 +221,14 @@ fn values<V: ToString>(
     text: fn(&V) -> Option<&str>,
 ) -> io::Result<Found> {
     let mut found = Found::default();
-    for (key, value) in all {
+    for (name, value) in all {
         let bytes = text(&value).map_or_else(|| value.to_string(), str::to_owned).into_bytes();
-        let why = match () {
-            () if !is_key(&key) => no_key(&key),
-            () if bytes.len() > VALUE_BYTES => {
-                format!("{key}: it has more than {VALUE_BYTES} bytes")
+        let why = match published_by(&name) {
+            None => no_key(&name),
+            Some(_) if bytes.len() > VALUE_BYTES => {
+                format!("{name}: it has more than {VALUE_BYTES} bytes")
             }
-            () => {
+            Some(key) => {
                 found.settings.insert(key, bytes);
                 continue;
             }

@@ -1,7 +1,7 @@
 //! What the root holds back of its folder until somebody confirms it, so that a folder of which a
 //! part is missing, as of a mount, does not unset everything.
 use crate::config::Root as Config;
-use rignolda::settings::Entry;
+use rignolda::settings::{shown, Entry};
 use rignoldactl::{digest, Diff, Difference};
 use std::collections::{BTreeMap, BTreeSet};
 
@@ -11,7 +11,8 @@ pub fn diff<'a>(changes: impl IntoIterator<Item = Entry<'a>>, held: String) -> D
     for (key, value) in changes {
         // (the same changes have the same digest)
         diff.digest = diff.digest.wrapping_add(digest(key, value));
-        diff.changes.push(Difference { key: key.into(), bytes: value.map(|it| it.len() as u64) });
+        let bytes = value.map(|it| it.len() as u64);
+        diff.changes.push(Difference { key: shown(key).into(), bytes });
     }
     diff
 }

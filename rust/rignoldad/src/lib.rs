@@ -12,6 +12,7 @@ pub mod control;
 pub mod digest;
 pub mod disk;
 pub mod hold;
+pub mod hooks;
 pub mod journal;
 pub mod metrics;
 pub mod root;

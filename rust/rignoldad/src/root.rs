@@ -3,13 +3,14 @@
 //! Nothing here waits for the disk: a thread does, and says what it found. A round, and each table,
 //! is of what the folder had when it was asked for; where the disk does not answer in time, it is
 //! of what was known before.
-use crate::config::{is_key, Root as Config};
+use crate::config::Root as Config;
 use crate::disk::{self, Done, Empty, Job, Written};
 use crate::fact;
 use crate::hold;
 use rignolda::net::{Worker, BODY_BYTES};
 use rignolda::settings::{
-    differences, entry_bytes, no_key, Faults, Found, Kept, Published, Publisher, SETTINGS,
+    differences, entry_bytes, no_key, parts, published_by, Faults, Found, Kept, Published,
+    Publisher, SETTINGS,
 };
 use rignoldactl::Diff;
 use std::collections::{BTreeMap, BTreeSet};
@@ -70,8 +71,8 @@ pub struct Root<W> {
     fresh: Option<Instant>,
     /// Changes that were asked for and are not begun, each key once in a batch, and by whom; who
     /// asked for the batch under way; and for which keys that are written and not published.
-    asked: Vec<Vec<(Kept, W)>>,
-    writing: Vec<W>,
+    asked: Vec<Asked<W>>,
+    writing: Option<Writing<W>>,
     written: Vec<(String, W)>,
     /// Who asked for a look.
     looking: Vec<W>,
@@ -83,6 +84,20 @@ pub struct Root<W> {
     /// Whether its numbers went on above others since the last round began.
     went_above: bool,
     faults: Faults,
+}
+
+/// What was asked for, and by whom.
+enum Asked<W> {
+    /// Changes, each of another key.
+    Changes(Vec<(Kept, W)>),
+    /// That the value of this key, for a group, is that for all.
+    Promote(String, W),
+}
+
+/// Who asked for what is written.
+enum Writing<W> {
+    Changes(Vec<W>),
+    Promote(W),
 }
 
 /// To whom, and that all is published, or why something is not.
@@ -125,7 +140,7 @@ impl<W> Root<W> {
             for_table: false,
             fresh: None,
             asked: Vec::new(),
-            writing: Vec::new(),
+            writing: None,
             written: Vec::new(),
             looking: Vec::new(),
             answers: Vec::new(),
@@ -216,7 +231,7 @@ impl<W> Root<W> {
 
     /// What of its state cannot be, where something cannot.
     pub fn fault(&self, config: &Config) -> Option<&'static str> {
-        let jobs = self.reads + u32::from(!self.writing.is_empty());
+        let jobs = self.reads + u32::from(self.writing.is_some());
         match () {
             () if self.config != *config || *self.place != *config.settings => {
                 Some("the root's configuration is another one")
@@ -243,7 +258,7 @@ impl<W> Root<W> {
 
     /// Whether the disk has something to answer.
     pub fn is_busy(&self) -> bool {
-        self.reads > 0 || !self.writing.is_empty()
+        self.reads > 0 || self.writing.is_some()
     }
 
     /// Takes up what the disk says, has the folder read and begins a round, where it is time.
@@ -386,30 +401,55 @@ impl<W> Root<W> {
 
     /// Writes a setting's file after [`Root::commit`], and publishes it then; without a value,
     /// removes it.
-    pub fn ask(&mut self, key: &str, value: Option<Vec<u8>>, who: W) -> Result<(), String> {
-        let settings = self.config.settings.display();
-        let bytes = entry_bytes(&(key, value.as_deref()));
+    pub fn ask(&mut self, name: &str, value: Option<Vec<u8>>, who: W) -> Result<(), String> {
+        let key = self.may_change(name)?;
+        let bytes = entry_bytes(&(&key, value.as_deref()));
         match &value {
+            Some(value) if !self.publisher.has_room(&key, value) => Err("it is too long"),
+            _ if !self.has_room_beside(bytes) => Err("too much waits for the disk: try again"),
+            _ => Ok(()),
+        }?;
+        self.waiting = (self.waiting.0 + 1, self.waiting.1 + bytes);
+        let change = ((key, value), who);
+        match self.asked.last_mut() {
+            Some(Asked::Changes(batch)) if batch.iter().all(|it| it.0 .0 != change.0 .0) => {
+                batch.push(change);
+            }
+            _ => self.asked.push(Asked::Changes(vec![change])),
+        }
+        Ok(())
+    }
+
+    /// Makes the value that a setting has for a group the one for all, after [`Root::commit`]: by
+    /// one change, so that no agent has another value in between.
+    pub fn promote(&mut self, name: &str, who: W) -> Result<(), String> {
+        let key = self.may_change(name)?;
+        let settings = self.publisher.settings();
+        let value = settings.get(&key);
+        match parts(&key) {
+            (_, None) => Err(format!("`{name}` is for no group: KEY@GROUP is expected")),
+            _ if value.is_none() => Err(format!("`{name}` is not set")),
+            (file, _) if value.is_some_and(|it| !self.publisher.has_room(file, it)) => {
+                Err("there is no room for a second one".into())
+            }
+            _ => {
+                self.asked.push(Asked::Promote(key, who));
+                Ok(())
+            }
+        }
+    }
+
+    /// The key of a setting that is to be changed, or why it cannot be now.
+    fn may_change(&self, name: &str) -> Result<String, String> {
+        match published_by(name) {
             _ if self.draining => Err("it is draining".into()),
             _ if self.held.is_some() => Err("a change of its folder is held: see `diff`".into()),
             _ if !self.known && !self.is_new => {
                 let first = self.faults.texts.first().map_or("it is not read yet", |it| it);
-                Err(format!("{settings} is not known: {first}"))
+                Err(format!("{} is not known: {first}", self.config.settings.display()))
             }
-            _ if !is_key(key) => Err(no_key(key)),
-            Some(value) if !self.publisher.has_room(key, value) => Err("it is too long".into()),
-            _ if !self.has_room_beside(bytes) => {
-                Err("too much waits for the disk: try again".into())
-            }
-            _ => Ok(()),
-        }?;
-        self.waiting = (self.waiting.0 + 1, self.waiting.1 + bytes);
-        let change = ((key.into(), value), who);
-        match self.asked.last_mut() {
-            Some(batch) if batch.iter().all(|it| it.0 .0 != key) => batch.push(change),
-            _ => self.asked.push(vec![change]),
+            key => key.ok_or_else(|| no_key(name)),
         }
-        Ok(())
     }
 
     /// Whether there is room beside what waits, as if each of it were a new setting.
@@ -422,35 +462,62 @@ impl<W> Root<W> {
 
     /// Has what was asked for written, one batch after the other.
     pub fn commit(&mut self) {
-        if self.writing.is_empty() && !self.asked.is_empty() {
-            let (changes, writing) = self.asked.remove(0).into_iter().unzip();
-            self.writing = writing;
-            self.disk.begin(Job::Write(changes));
+        if self.writing.is_some() || self.asked.is_empty() {
+            return;
         }
+        let (job, writing) = match self.asked.remove(0) {
+            Asked::Changes(batch) => {
+                let (changes, who) = batch.into_iter().unzip();
+                (Job::Write(changes), Writing::Changes(who))
+            }
+            Asked::Promote(key, who) => (Job::Promote(key), Writing::Promote(who)),
+        };
+        self.writing = Some(writing);
+        self.disk.begin(job);
     }
 
     fn is_written(&mut self, all: Vec<Written>, others: bool, now: Instant) {
         others.then(|| self.notified(now));
-        let writing = std::mem::take(&mut self.writing);
-        for (((key, value), done), who) in all.into_iter().zip(writing) {
-            let bytes = entry_bytes(&(&key, value.as_deref()));
-            self.waiting = (self.waiting.0 - 1, self.waiting.1 - bytes);
-            match done {
-                // (also where it is as it was: whoever asked for it is told a number)
-                Ok(()) => {
-                    if value.is_none() {
-                        self.had.remove(&key);
+        match self.writing.take() {
+            Some(Writing::Changes(writing)) => {
+                for (((key, value), done), who) in all.into_iter().zip(writing) {
+                    let bytes = entry_bytes(&(&key, value.as_deref()));
+                    self.waiting = (self.waiting.0 - 1, self.waiting.1 - bytes);
+                    // (also where it is as it was: whoever asked for it is told a number)
+                    match done.map(|()| self.takes_written(&key, value)) {
+                        Ok(()) => self.written.push((key, who)),
+                        Err(why) => self.answers.push((who, Err(why))),
                     }
-                    self.publisher.put(&key, value);
-                    self.written.push((key, who));
                 }
-                Err(why) => self.answers.push((who, Err(why))),
             }
+            Some(Writing::Promote(who)) => {
+                let (mut last, mut failed) = (None, None);
+                for ((key, value), done) in all {
+                    match done {
+                        Ok(()) => self.takes_written(&key, value),
+                        Err(why) => failed = failed.or(Some(why)),
+                    }
+                    last = Some(key);
+                }
+                match (last, failed) {
+                    (Some(key), None) => self.written.push((key, who)),
+                    (_, why) => self.answers.push((who, Err(why.unwrap_or_default()))),
+                }
+            }
+            None => (),
         }
         if !self.known {
             self.look(now);
         }
         self.commit();
+    }
+
+    /// Takes up what a file is now by request.
+    fn takes_written(&mut self, key: &str, value: Option<Vec<u8>>) {
+        if value.is_none() {
+            self.had.remove(key);
+        }
+        self.publisher.put(key, value);
     }
 
     fn have_changed(&mut self, changes: Vec<Kept>, now: Instant) {

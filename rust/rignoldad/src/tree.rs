@@ -3,8 +3,9 @@
 //!
 //! Each agent sends its list up now and then, itself first and each agent after its parent, and its
 //! parent puts it behind its own.
+use crate::config::GROUPS;
 pub use rignolda::net::wire::REPORT_BYTES;
-use rignolda::settings::furthest;
+use rignolda::settings::{furthest, is_group};
 use rignoldactl::{ChildStatus, Seen, Status};
 use std::cmp::Reverse;
 use std::collections::BTreeMap;
@@ -43,6 +44,8 @@ fn read(child: &str, bytes: &[u8]) -> Option<Vec<Seen>> {
         is_new && depth <= DEPTH && depths.insert(seen.name.clone(), depth).is_none()
     });
     list[0].cut |= is_deeper;
+    let is_list = |it: &[String]| it.len() <= GROUPS && it.iter().all(|it| is_group(it));
+    list.iter_mut().filter(|it| !is_list(&it.groups)).for_each(|it| it.groups.clear());
     // (an agent of before says none, nor what those below it say)
     let all = list.iter().flat_map(|seen| [seen.sequence, seen.ahead]);
     list[0].ahead = furthest(list[0].sequence, all);
@@ -71,6 +74,12 @@ impl Below {
     /// How many agents they have.
     pub fn agents(&self) -> u32 {
         self.0.values().map(|(_, list)| list.len() as u32).sum()
+    }
+
+    /// Of which groups each of them is.
+    pub fn groups(&self) -> impl Iterator<Item = &[String]> {
+        let all = self.0.values().flat_map(|(_, list)| list);
+        all.map(|seen| &seen.groups[..]).filter(|groups| !groups.is_empty())
     }
 
     /// Forgets a child that was removed.

@@ -1,4 +1,5 @@
 //! What the root publishes.
+use super::groups::{parts, values_of};
 use super::{entry_bytes, proved, Entry, Meaning, HEAD, SETTINGS, VALUE_BYTES};
 use crate::net::{Body, BODY_BYTES};
 use std::collections::{BTreeMap, BTreeSet, VecDeque};
@@ -10,13 +11,17 @@ use std::sync::Arc;
 /// of harmless items and then the whole table; while changes come, they and the harmless items take
 /// turns. Which body is next, its number and what it has of all this is said by calls of the proved
 /// library; its crate `rignolda_root` has the laws.
+///
+/// A key may have values for [groups](super::parts) besides the one for all. A body that has one of
+/// them has all that are set: so whoever takes it needs nothing else to see which one counts.
 #[derive(Debug)]
 pub struct Publisher {
     settings: BTreeMap<String, Vec<u8>>,
     /// How many bytes a whole table of them has.
     bytes: usize,
-    /// The keys whose last value is not published yet, and these in the order in which they came.
-    changed: BTreeSet<String>,
+    /// The keys whose last value is not published yet, behind the one that files have; and these in
+    /// the order in which they came.
+    changed: BTreeMap<String, BTreeSet<String>>,
     order: VecDeque<String>,
     numbers: proved::Publisher,
 }
@@ -62,7 +67,7 @@ impl Publisher {
         Publisher {
             settings: BTreeMap::new(),
             bytes: HEAD,
-            changed: BTreeSet::new(),
+            changed: BTreeMap::new(),
             order: VecDeque::new(),
             numbers: proved::Publisher::new(sequence),
         }
@@ -112,8 +117,13 @@ impl Publisher {
 
     /// A change of this key waits, at the place of the one that waits already.
     fn changes(&mut self, key: &str) {
-        if self.changed.insert(key.into()) {
-            self.order.push_back(key.into());
+        let file = parts(key).0;
+        match self.changed.get_mut(file) {
+            Some(keys) => drop(keys.insert(key.into())),
+            None => {
+                self.order.push_back(file.into());
+                self.changed.insert(file.into(), [key.into()].into());
+            }
         }
     }
 
@@ -138,10 +148,11 @@ impl Publisher {
     /// The keys whose last value is not published yet, each with this value, or none where it is
     /// unset.
     pub fn changed(&self) -> impl Iterator<Item = Entry<'_>> {
-        let value = |key: &String| self.settings.get(key).map(Vec::as_slice);
-        self.changed
-            .iter()
-            .map(move |key| (key.as_str(), value(key)))
+        self.changed.values().flatten().map(|key| self.entry(key))
+    }
+
+    fn entry<'a>(&'a self, key: &'a str) -> Entry<'a> {
+        (key, self.settings.get(key).map(Vec::as_slice))
     }
 
     /// A round with `harmless` harmless items begins, 65,535 at most. One that is under way goes on
@@ -194,53 +205,65 @@ impl Publisher {
             .next(self.changed.len(), self.settings.len(), limit)
     }
 
-    /// How many of the first changes a body has room for. (Of those that unset keys and those that
-    /// set others there may be more than a table has.)
-    fn fits(&self, most: usize) -> usize {
-        let mut room = BODY_BYTES - HEAD;
-        let bytes = |key: &String| entry_bytes(&(key, self.settings.get(key).map(Vec::as_slice)));
-        let first = self.order.iter().take(most).map(bytes);
-        let fit = first.take_while(|bytes| {
-            let has_room = *bytes <= room;
-            room = room.saturating_sub(*bytes);
-            has_room
-        });
-        fit.count()
+    /// All that there is to say of a key that files have: the values that are set, and behind them
+    /// what is unset since the last body.
+    fn entries_of<'a>(&'a self, file: &'a str) -> Vec<Entry<'a>> {
+        let set = values_of(&self.settings, file);
+        let set = set.map(|(key, value)| (key.as_str(), Some(&value[..])));
+        let changed = self.changed.get(file).into_iter().flatten();
+        let unset = changed
+            .map(|key| self.entry(key))
+            .filter(|it| it.1.is_none());
+        set.chain(unset).collect()
+    }
+
+    /// What a body says of the first keys that changed, this many at most, and of how many. (Of
+    /// those that unset keys and those that set others there may be more than it has room for.)
+    fn changes_of(&self, most: usize) -> (Vec<Entry<'_>>, usize) {
+        let (mut entries, mut room, mut count) = (Vec::new(), BODY_BYTES - HEAD, 0);
+        for file in self.order.iter().take(most) {
+            let mut own = self.entries_of(file);
+            let mut bytes = own.iter().map(entry_bytes).sum::<usize>();
+            let lacks =
+                |own: &[Entry<'_>], bytes| bytes > room || entries.len() + own.len() > SETTINGS;
+            // (all that is set has room in a table, and which of the others are unset, that says too)
+            while count == 0 && lacks(&own, bytes) {
+                bytes -= own.pop().map_or(bytes, |last| entry_bytes(&last));
+            }
+            if lacks(&own, bytes) {
+                break;
+            }
+            room -= bytes;
+            count += 1;
+            entries.append(&mut own);
+        }
+        entries.sort_unstable_by_key(|entry| entry.0);
+        (entries, count)
     }
 
     /// The next body to publish. `limit`: how many items may follow a table at most.
     pub fn next(&mut self, limit: u64) -> Option<Published> {
         let (next, changes) = (self.next_body(limit), self.changed.len());
-        let keys = match next.kind {
+        let (meaning, files) = match next.kind {
             0 => return None,
-            b'H' => BTreeSet::new(),
+            b'H' => (Meaning::Harmless, 0),
             b'C' => {
-                let fits = self.fits(next.entries as usize);
-                let keys: BTreeSet<_> = self.order.drain(..fits).collect();
-                for key in &keys {
-                    self.changed.remove(key);
-                }
-                keys
-            }
-            _ => {
-                self.order.clear();
-                std::mem::take(&mut self.changed)
-            }
-        };
-        let meaning = match next.kind {
-            b'H' => Meaning::Harmless,
-            b'C' => {
-                let value = |key: &String| self.settings.get(key).map(Vec::as_slice);
-                Meaning::Changes(keys.iter().map(|key| (key.as_str(), value(key))).collect())
+                let (entries, files) = self.changes_of(next.entries as usize);
+                (Meaning::Changes(entries), files)
             }
             _ => {
                 let all = self.settings.iter().take(next.entries as usize);
                 let all = all.map(|(key, value)| (key.as_str(), Some(value.as_slice())));
-                Meaning::Table(all.collect())
+                (Meaning::Table(all.collect()), self.order.len())
             }
         };
         let body = Body::new(next.number, &meaning);
         self.numbers.publish(changes, limit, body.bytes.len());
+        let files = self.order.drain(..files);
+        let keys = files
+            .filter_map(|file| self.changed.remove(&file))
+            .flatten();
+        let keys = keys.collect();
         Some(Published {
             body,
             is_table: next.kind == b'T',

@@ -1,5 +1,5 @@
 //! Settings that are read out of a folder which others may write to.
-use super::{entry_bytes, is_key, Batch, KEY_BYTES, SETTINGS, VALUE_BYTES};
+use super::{entry_bytes, is_key, shown, Batch, KEY_BYTES, SETTINGS, VALUE_BYTES};
 use crate::net::BODY_BYTES;
 use std::collections::{BTreeMap, BTreeSet};
 use std::fs::{self, OpenOptions};
@@ -57,7 +57,7 @@ impl Faults {
 pub fn no_key(name: &str) -> String {
     format!(
         "`{name}` is no key: that is 1 to {KEY_BYTES} letters, digits, `.`, `_` or `-`, the first \
-         one no dot or hyphen",
+         one no dot or hyphen, and for a group `KEY@GROUP`, where no two dots stand together",
     )
 }
 
@@ -85,14 +85,26 @@ pub fn too_many() -> io::Error {
 /// # Ok::<(), std::io::Error>(())
 /// ```
 pub fn read_folder(folder: &Path) -> io::Result<Found> {
+    read_folder_by(folder, |name| {
+        Some(name.to_owned()).filter(|key| is_key(key))
+    })
+}
+
+/// Reads the settings of a folder, where each file has the key that its name stands for, if that
+/// is one: [`published_by`](super::published_by), where a key may have values for groups.
+///
+/// # Errors
+///
+/// As those of [`read_folder`].
+pub fn read_folder_by(folder: &Path, key: impl Fn(&str) -> Option<String>) -> io::Result<Found> {
     let (mut found, mut bytes) = (Found::default(), 0);
     for entry in fs::read_dir(folder)? {
         let entry = entry?;
         let name = entry.file_name();
         let text = name.to_string_lossy();
-        let key = match name.to_str().filter(|name| is_key(name)) {
+        let key = match name.to_str().and_then(&key) {
             _ if text.starts_with('.') => continue,
-            Some(key) => key.to_owned(),
+            Some(key) => key,
             None => {
                 found.faults.add(no_key(&text));
                 continue;
@@ -105,7 +117,7 @@ pub fn read_folder(folder: &Path) -> io::Result<Found> {
             }
             Err(error) if error.kind() == ErrorKind::NotFound => (),
             Err(error) => {
-                found.faults.add(format!("{key}: {error}"));
+                found.faults.add(format!("{text}: {error}"));
                 // (what was found to be no setting is of the kind `Other`)
                 found.unread.insert(key, error.kind() != ErrorKind::Other);
             }
@@ -144,18 +156,18 @@ pub fn read_plain(path: &Path, most: usize) -> io::Result<Vec<u8>> {
     }
 }
 
-/// Writes or removes files of a folder, and waits until the disk has them: what came of each. No
-/// two are of one key.
+/// Writes or removes files of a folder, which have their names as [people write](shown) them, and
+/// waits until the disk has them: what came of each. No two are of one key.
 pub fn write_folder(folder: &Path, entries: &[Kept]) -> Vec<Result<(), String>> {
     let mut batch = Batch::default();
     let mut write = |(key, value): &Kept| match value {
-        Some(value) => batch.write(folder.join(key), value),
-        None => batch.remove(&folder.join(key)),
+        Some(value) => batch.write(folder.join(&*shown(key)), value),
+        None => batch.remove(&folder.join(&*shown(key))),
     };
     let done: Vec<_> = entries.iter().map(&mut write).collect();
     let failed = batch.commit();
     let done = entries.iter().zip(done).map(|((key, _), done)| {
-        let path = folder.join(key);
+        let path = folder.join(&*shown(key));
         let later = failed.iter().find(|(it, _)| *it == path);
         let error = done.as_ref().err().or(later.map(|(_, error)| error));
         error.map_or(Ok(()), |error| {

@@ -1,5 +1,6 @@
 //! Changes that wait to be applied.
-use super::{is_key, older, proved, Meaning};
+use super::groups::{of_group, parts, that_counts};
+use super::{is_key, is_newer, older, proved, Meaning};
 use std::collections::BTreeMap;
 use std::ops::{Deref, Range};
 use std::sync::Arc;
@@ -45,6 +46,33 @@ impl Change {
         let alone = |value: Value| Value(Arc::new(value.to_vec()), 0..value.len());
         self.value = self.value.map(alone);
         self
+    }
+}
+
+/// What waits of a key that files have: for all agents, and by their own keys those for groups.
+#[derive(Default)]
+struct Values {
+    for_all: Option<Change>,
+    of_groups: BTreeMap<String, Change>,
+}
+
+impl Values {
+    /// What waits for an agent of these groups.
+    fn counting(&self, file: &str, groups: &[String]) -> Change {
+        let value = |group: Option<&str>| {
+            let change = match group {
+                Some(group) => self.of_groups.get(&of_group(file, group)),
+                None => self.for_all.as_ref(),
+            };
+            change?.value.clone()
+        };
+        let all = || self.of_groups.values().chain(&self.for_all);
+        let newer = |one, other| if is_newer(one, other) { one } else { other };
+        Change {
+            value: that_counts(groups, value),
+            first: all().map(|it| it.first).reduce(older).unwrap_or(0),
+            last: all().map(|it| it.last).reduce(newer).unwrap_or(0),
+        }
     }
 }
 
@@ -133,6 +161,52 @@ impl Waiting {
         let (first, last) = (waits.first, waits.last);
         self.changes
             .insert(key.into(), Change { value, first, last });
+    }
+
+    /// What waits for an agent of these groups: under the key that its file has, [the value that
+    /// counts](that_counts) of each setting. And beside that, as they are published, all values of
+    /// the keys that have one for some group; what is none of these any more is unset.
+    pub fn of_groups(mut self, groups: &[String]) -> (Waiting, Waiting) {
+        let (mut all, whole) = (Waiting::default(), self.whole);
+        all.whole = whole;
+        for (file, values) in self.take_grouped() {
+            let counts = values.counting(&file, groups);
+            if counts.value.is_some() || whole.is_none() {
+                self.changes.insert(file.clone(), counts.clone());
+            }
+            let has_groups = values.of_groups.values().any(|it| it.value.is_some());
+            let unset = Change {
+                value: None,
+                ..counts
+            };
+            let for_all = (file, values.for_all.unwrap_or_else(|| unset.clone()));
+            for (key, change) in values.of_groups.into_iter().chain([for_all]) {
+                let change = if has_groups { change } else { unset.clone() };
+                all.changes.insert(key, change);
+            }
+        }
+        (self, all)
+    }
+
+    /// Takes out what waits of keys that have values for groups, or had.
+    fn take_grouped(&mut self) -> BTreeMap<String, Values> {
+        let mut grouped: BTreeMap<String, Values> = BTreeMap::new();
+        for key in self.changes.keys() {
+            if let (file, Some(_)) = parts(key) {
+                grouped.entry(file.to_owned()).or_default();
+            }
+        }
+        if grouped.is_empty() {
+            return grouped;
+        }
+        for (key, change) in std::mem::take(&mut self.changes) {
+            match grouped.get_mut(parts(&key).0) {
+                None => drop(self.changes.insert(key, change)),
+                Some(values) if parts(&key).1.is_none() => values.for_all = Some(change),
+                Some(values) => drop(values.of_groups.insert(key, change)),
+            }
+        }
+        grouped
     }
 
     /// Whether a whole table waits.

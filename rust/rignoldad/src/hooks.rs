@@ -1,0 +1,223 @@
+//! Hooks: programs that are told of changes.
+//!
+//! One is run for each change of a key. Others are each for the keys that some patterns name, with
+//! one run for all of these that changed together.
+use crate::config::Apply;
+use rignolda::settings::{older, remove, Change, Waiting};
+use std::collections::BTreeSet;
+use std::fs::{self, File, OpenOptions};
+use std::io::{self, Seek, Write};
+use std::os::unix::fs::OpenOptionsExt;
+use std::path::{Path, PathBuf};
+use std::process::{Command, Stdio};
+use std::sync::atomic::{AtomicU64, Ordering};
+use std::time::Duration;
+
+/// The folder of the keys whose hooks are due, in the folder of the settings.
+pub const PENDING: &str = ".pending";
+/// How the name of a hook's input begins, while it has one.
+pub const INPUT: &str = ".input";
+
+/// A hook that has one run for all of its keys that changed together.
+#[derive(Clone, Debug, Default, Eq, Ord, PartialEq, PartialOrd)]
+pub struct Hook {
+    /// Patterns of which a key fits one.
+    pub keys: Vec<String>,
+    pub run: PathBuf,
+    pub timeout: Duration,
+}
+
+impl Hook {
+    /// Whether it is told of this key.
+    pub fn is_for(&self, key: &str) -> bool {
+        self.keys.iter().any(|pattern| fits(pattern, key))
+    }
+
+    /// What is said of it.
+    pub fn name(&self) -> String {
+        format!("{} of {}", self.run.display(), self.keys.join(" "))
+    }
+
+    /// Runs it to its end for these keys, of which the last change has this number.
+    pub fn run(&self, folder: &Path, keys: &BTreeSet<String>, number: u64) -> Result<(), String> {
+        let names: String = keys.iter().flat_map(|key| [key, "\n"]).collect();
+        let mut command = command(&self.run, self.timeout, folder, number);
+        finished(command.current_dir(folder).stdin(given(folder, names.as_bytes())?))
+    }
+}
+
+/// Whether a key fits a pattern, in which each `*` stands for any letters, or none, and everything
+/// else for itself.
+pub fn fits(pattern: &str, key: &str) -> bool {
+    let mut parts = pattern.split('*');
+    let front = parts.next().unwrap_or_default();
+    let Some(mut rest) = key.strip_prefix(front) else { return false };
+    let Some(back) = parts.next_back() else { return rest.is_empty() };
+    // (of each part in between the first place will do)
+    for part in parts {
+        match rest.split_once(part) {
+            Some((_, behind)) => rest = behind,
+            None => return false,
+        }
+    }
+    rest.ends_with(back)
+}
+
+/// What is known of the runs of a hook.
+#[derive(Debug, Default)]
+pub struct Runs {
+    /// The keys that change now, together; and those that changed since the last run began.
+    pub changing: Waiting,
+    pub waiting: Waiting,
+    /// Of the run that goes on, its keys and the first number.
+    pub running: Option<(BTreeSet<String>, u64)>,
+    /// The keys of runs that failed.
+    pub due: BTreeSet<String>,
+}
+
+impl Runs {
+    /// The oldest number that is not told yet.
+    pub fn first(&self) -> Option<u64> {
+        let running = self.running.as_ref().map(|it| it.1);
+        let waiting = self.waiting.first().into_iter().chain(self.changing.first());
+        waiting.chain(running).reduce(older)
+    }
+
+    /// How many of its runs are for this key: one that goes on, and one that is to come.
+    pub fn lacking(&self, key: &str) -> usize {
+        let is_running = self.running.as_ref().is_some_and(|it| it.0.contains(key));
+        let waits = self.waiting.has(key) || self.changing.has(key) || self.due.contains(key);
+        usize::from(is_running) + usize::from(waits)
+    }
+
+    /// A key changes: the hook is told of it together with others.
+    pub fn change(&mut self, key: &str, change: &Change) {
+        self.due.remove(key);
+        self.changing.put(key, Change { value: None, ..change.clone() });
+    }
+
+    /// Those that changed together are known.
+    pub fn changed(&mut self) {
+        for (key, change) in std::mem::take(&mut self.changing).in_order() {
+            self.waiting.put(&key, change);
+        }
+    }
+
+    /// Begins a run where something waits and none goes on: of these keys, and the last number.
+    pub fn begin(&mut self) -> Option<(BTreeSet<String>, u64)> {
+        let first = self.waiting.first().filter(|_| self.running.is_none())?;
+        let changes = std::mem::take(&mut self.waiting).in_order();
+        let last = changes.last().map_or(first, |(_, change)| change.last);
+        let keys: BTreeSet<String> = changes.into_iter().map(|(key, _)| key).collect();
+        self.running = Some((keys.clone(), first));
+        Some((keys, last))
+    }
+}
+
+/// Runs the hook of a change to its end, or until its time is up.
+pub fn run(folder: &Path, config: &Apply, key: &str, change: &Change) -> Result<(), String> {
+    let Some(hook) = &config.hook else { return Ok(()) };
+    let input = match change.value.as_deref() {
+        None => Stdio::null(),
+        Some(value) => given(folder, value)?,
+    };
+    let mut command = command(hook, config.hook_timeout, folder, change.last);
+    command.args([if change.value.is_some() { "set" } else { "unset" }, key]);
+    finished(command.stdin(input))
+}
+
+fn command(program: &Path, timeout: Duration, folder: &Path, number: u64) -> Command {
+    let mut command = Command::new("timeout");
+    command.arg("--kill-after=5").arg(format!("{:.3}", timeout.as_secs_f64())).arg(program);
+    command.env("RIGNOLDA_SEQUENCE", number.to_string()).env("RIGNOLDA_FOLDER", folder);
+    // (what systemd gave to the agent alone)
+    for name in ["NOTIFY_SOCKET", "WATCHDOG_USEC", "CREDENTIALS_DIRECTORY"] {
+        command.env_remove(name);
+    }
+    command
+}
+
+fn finished(command: &mut Command) -> Result<(), String> {
+    match command.status() {
+        Err(error) => Err(format!("timeout: {error}")),
+        Ok(status) if status.success() => Ok(()),
+        Ok(status) if status.code() == Some(124) => Err("its time was up".into()),
+        Ok(status) => Err(status.to_string()),
+    }
+}
+
+/// These bytes as an input. (It is a file and not a pipe, since a hook need not read it.)
+fn given(folder: &Path, bytes: &[u8]) -> Result<Stdio, String> {
+    static COUNT: AtomicU64 = AtomicU64::new(0);
+    let name = format!("{INPUT}{}", COUNT.fetch_add(1, Ordering::Relaxed));
+    let input = input(&folder.join(name), bytes);
+    input.map(Stdio::from).map_err(|e| format!("its input: {e}"))
+}
+
+/// A file without a name that has these bytes.
+fn input(path: &Path, bytes: &[u8]) -> io::Result<File> {
+    remove(path)?;
+    let mut options = OpenOptions::new();
+    let mut file = options.read(true).write(true).create_new(true).mode(0o600).open(path)?;
+    file.write_all(bytes)?;
+    fs::remove_file(path)?;
+    file.rewind()?;
+    Ok(file)
+}
+
+/// Says in the folder that hooks of this key are due.
+pub fn announce(folder: &Path, key: &str) -> io::Result<()> {
+    let folder = folder.join(PENDING);
+    if !folder.is_dir() {
+        remove(&folder)?;
+        fs::create_dir_all(&folder)?;
+    }
+    let path = folder.join(key);
+    if !path.is_file() {
+        remove(&path)?;
+        File::create(&path)?;
+    }
+    Ok(())
+}
+
+/// Takes back that hooks of this key are due.
+pub fn settle(folder: &Path, key: &str) {
+    let _ = fs::remove_file(folder.join(PENDING).join(key));
+}
+
+#[cfg(test)]
+mod tests {
+    use super::*;
+
+    #[test]
+    fn a_star_stands_for_any_letters() {
+        for (pattern, key) in [
+            ("*", "a"),
+            ("app.*", "app."),
+            ("app.*", "app.a.b"),
+            ("*.conf", "app.conf"),
+            ("a*b*c", "abc"),
+            ("a*b*c", "aXbYbZc"),
+            ("a**c", "ac"),
+            ("*b*b", "abb"),
+            ("ab*ab", "abab"),
+            ("colour", "colour"),
+        ] {
+            assert!(fits(pattern, key), "{pattern} {key}");
+        }
+        for (pattern, key) in [
+            ("", "a"),
+            ("app.*", "app"),
+            ("app.*", "Xapp.a"),
+            ("*.conf", "app.conf2"),
+            ("a*b*c", "acb"),
+            ("ab*ab", "ab"),
+            ("ab*b", "ab"),
+            ("colour", "colours"),
+            ("a?", "ab"),
+            ("[a]", "a"),
+        ] {
+            assert!(!fits(pattern, key), "{pattern} {key}");
+        }
+    }
+}

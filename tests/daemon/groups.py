@@ -1,0 +1,148 @@
+#!/usr/bin/env python3
+"""Settings that have another value for some groups of agents, and how such a value becomes all's.
+
+    tests/daemon/groups.py [WORD..]     by itself; check.py runs it with all others
+"""
+import shutil
+import sys
+
+from daemons import Tree, patient, read, until
+from operating import digest, holders
+from runner import main, sure, test
+
+OF = {"root": [], "left": ["canary", "eu"], "leaf": [], "right": ["eu"]}
+SHAPE = {"left": "root", "leaf": "left", "right": "root"}
+
+
+def counting(truth, groups):
+    """The files of an agent of these groups, by the files of the root's folder."""
+    files = {}
+    for key in {name.partition("@")[0] for name in truth}:
+        names = [*(f"{key}@{group}" for group in groups), key]
+        value = next((truth[name] for name in names if name in truth), None)
+        if value is not None:
+            files[key] = value
+    return files
+
+
+def wrong(tree):
+    truth = tree.truth()
+    return {agent.name: agent.files() for agent in tree
+            if agent.files() != counting(truth, OF[agent.name])}
+
+
+def notes_changes(tree):
+    """Each agent notes what its hook was told; rounds come where they are asked for."""
+    patient(tree)
+    tree.root.tables["root"]["round"] = "1h"
+    for agent in tree:
+        agent.hook(f'echo $1 $2 $(cat) >>{agent.home}/told')
+        if OF[agent.name]:
+            agent.top["groups"] = OF[agent.name]
+
+
+def told(tree, key):
+    """What each agent's hook was told of a key."""
+    all = {}
+    for agent in tree:
+        lines = (agent.home / "told").read_text().splitlines()
+        all[agent.name] = [line.split()[-1] for line in lines if line.split()[1] == key]
+    return all
+
+
+def here(tree, *words):
+    """Has a change made, and come to be everywhere."""
+    tree.root.ask(*words)
+    tree.root.ask("wait", "--everywhere", "--timeout", "60s")
+    sure(not wrong(tree), *words, wrong(tree))
+
+
+def refused(agent, *words):
+    done = agent.run(*words)
+    sure(done.returncode == 1, words, done)
+    return done.stderr
+
+
+@test
+def a_group_has_its_own_value_until_it_is_that_of_all():
+    with Tree(SHAPE, notes_changes) as tree:
+        root, left, right = tree.root, tree["left"], tree["right"]
+        for name, value in (("colour", "green"), ("size@eu", 1), ("size@us", 2), ("other", 3)):
+            tree.write(name, value)
+        tree.start()
+        sure(tree.ready() and until(lambda: not wrong(tree)), wrong(tree))
+        here(tree, "publish", "colour@canary", "blue")
+        here(tree, "publish", "colour@eu", "white")
+        # that of the group which an agent names first
+        now = {"root": "green", "left": "blue", "leaf": "green", "right": "white"}
+        all = {name: (digest("colour", value.encode()), "") for name, value in now.items()}
+        sure(holders(tree, "colour") == all, holders(tree, "colour"))
+        groups = lambda: {it["name"]: it["groups"] for it in root.ask("tree")}
+        sure(groups() == OF, groups())
+        lines = [line.split() for line in root.run("tree").stdout.splitlines()]
+        sure([line[1] for line in lines][:2] == ["groups", "0"] and lines[2][1] == "canary,eu", lines)
+        # what is for others changes nothing here, and no hook runs
+        here(tree, "publish", "colour", "grey")
+        here(tree, "publish", "colour@us", "pink")
+        # one that begins anew has what counts for it, also where its files are gone
+        right.kill()
+        shutil.rmtree(right.settings)
+        for agent in (right, left, root):
+            agent.restart()
+        sure(tree.ready() and until(lambda: not wrong(tree)), wrong(tree))
+        sure(not root.status()["held"], root.status())
+        root.ask("wait", "--group", "canary", "--timeout", "60s")
+        leaf = tree["leaf"]
+        leaf.kill()
+        root.ask("wait", "--group", "eu", root.ask("publish", "other", "4")["sequence"])
+        why = refused(root, "wait", "--group", "none", "--timeout", "1s")
+        sure("no agent is known that is of `none`" in why, why)
+        left.kill()
+        why = refused(root, "wait", "--group", "canary", "--timeout", "1s")
+        sure(why.endswith("the time is up: left is not connected\n"), why)
+        for agent in (left, leaf):
+            agent.start()
+        sure(tree.ready() and until(lambda: not wrong(tree)), wrong(tree))
+        # the one for all is there at once where the others go
+        here(tree, "unset", "colour@eu")
+        sure(right.files()["colour"] == b"grey", right.files())
+        here(tree, "promote-value", "colour@canary")
+        sure(tree.truth() == {"colour": b"blue", "colour@us": b"pink", "size@eu": b"1",
+                              "size@us": b"2", "other": b"4"}, tree.truth())
+        here(tree, "unset", "size@eu")
+        root.ask("wait", "--everywhere")
+        sure(told(tree, "colour") == {
+            "root": ["green", "grey", "blue"], "left": ["green", "blue"],
+            "leaf": ["green", "grey", "blue"],
+            "right": ["green", "white", "white", "grey", "blue"]}, told(tree, "colour"))
+        sure(told(tree, "size") == {"root": [], "leaf": [], "left": ["1", "size"],
+                                    "right": ["1", "1", "size"]}, told(tree, "size"))
+        # what is no name of one is refused, and named
+        for name in ("a@b@c", "a..b", "a@.b", "@b", "a@", "a@b..c"):
+            why = refused(root, "publish", name, "1")
+            sure(f"`{name}` is no key" in why, why)
+        for name, why in (("colour", "is for no group"), ("colour@none", "is not set")):
+            sure(why in refused(root, "promote-value", name))
+        sure("not the root" in refused(left, "promote-value", "colour@us"))
+        for name in ("a..b", "a@b@c"):
+            tree.write(name, 1)
+        sure(until(lambda: root.status()["unpublished"] == 2), root.status())
+        sure({it.split("`")[1] for it in root.status()["faults"]} == {"a..b", "a@b@c"})
+        for name in ("a..b", "a@b@c"):
+            (root.truth / name).unlink()
+        # (a file by hand, and new groups of an agent, from the next round on)
+        tree.write("colour@canary", "red")
+        root.ask("wait", "--everywhere", "--timeout", "60s")
+        sure(not wrong(tree) and left.files()["colour"] == b"red", wrong(tree))
+        sure(read(left.settings / ".groups").keys() == {"colour", "colour..canary", "colour..us",
+                                                        "size..us"}, left.settings)
+        left.top["groups"] = ["us"]
+        left.reload()
+        sure(until(lambda: left.said("reload done")), left.text())
+        root.ask("round")
+        root.ask("wait", "--everywhere", "--timeout", "60s")
+        sure(left.files() == counting(tree.truth(), ["us"]), left.files())
+
+
+if __name__ == "__main__":
+    sys.exit(main())
