@@ -33,7 +33,8 @@ from runner import sure, test
 
 # (each of them tells its tests)
 for name in ("blocked", "floods", "groups", "hooks", "hostile", "memory_faults", "older",
-             "operating", "parents", "rounds", "store", "watching"):
+for name in ("blocked", "floods", "groups", "hooks", "hostile", "memory_faults", "older",
+             "operating", "paged", "parents", "rounds", "store", "watching"):
     importlib.import_module(name)
 
 PACKAGING = pathlib.Path(__file__).resolve().parents[2] / "rust/rignoldad/packaging"
@@ -859,8 +860,8 @@ def manuals_and_completions_name_everything():
         help_of = lambda *words: subprocess.run([tree.bin / words[0], *words[1:], "-h"],
                                                 capture_output=True, text=True, check=True).stdout
         whole = help_of("rignoldactl")
-        commands = re.findall(r"^  ([a-z]+) +", whole, re.MULTILINE)
-        sure(len(commands) == 15, commands)
+        commands = re.findall(r"^  ([a-z-]+) +", whole, re.MULTILINE)
+        sure(len(commands) == 16, commands)
         pages = {name: (PACKAGING / name).read_text().replace("\\-", "-") for name in (
             "rignoldactl.1", "rignoldactl.bash", "_rignoldactl", "rignoldactl.fish", "rignoldad.8",
             "rignoldad.toml.5")}
@@ -879,7 +880,8 @@ def manuals_and_completions_name_everything():
             sure("--" + option in pages["rignoldad.8"], option)
         source = (PACKAGING.parent / "src/config.rs").read_text()
         keys = re.search(r'const KEYS: &str = "(.*?)";', source, re.DOTALL)
-        for key in keys[1].replace("\\", " ").split():
+        of_hooks = re.search(r"const HOOK_KEYS: .* = \[(.*?)\];", source)[1].replace(",", " ")
+        for key in (keys[1].replace("\\", " ") + " " + of_hooks.replace('"', "")).split():
             sure(re.search(rf"\.B.* {key.split('.')[-1]}\b", pages["rignoldad.toml.5"]), key)
 
 

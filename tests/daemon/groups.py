@@ -80,7 +80,7 @@ def a_group_has_its_own_value_until_it_is_that_of_all():
         groups = lambda: {it["name"]: it["groups"] for it in root.ask("tree")}
         sure(groups() == OF, groups())
         lines = [line.split() for line in root.run("tree").stdout.splitlines()]
-        sure([line[1] for line in lines][:2] == ["groups", "0"] and lines[2][1] == "canary,eu", lines)
+        sure([line[1] for line in lines[:3]] == ["groups", "0", "canary,eu"], lines)
         # what is for others changes nothing here, and no hook runs
         here(tree, "publish", "colour", "grey")
         here(tree, "publish", "colour@us", "pink")

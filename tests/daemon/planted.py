@@ -5,7 +5,7 @@
     tests/daemon/planted.py --fits [NAME..]  whether each fits the code and names a test, at once
 
 A file has the lines `file:`, `old:`, `new:`, as the planted bugs of the crates, and `by:`, the test
-that finds it: one of check.py, or of the library, as FILE::TEST. Before that, the daemon as it is
+that finds it: one of check.py, or of the library or the daemon's crate, as FILE::TEST. Before that, the daemon as it is
 has to pass each of these tests. The copy is built in a folder of its own: PLANTED_TARGET, or one
 beside other temporary files.
 """
@@ -43,7 +43,7 @@ class Edit:
         if times != 1:
             return f"its text is there {times} times"
         file, _, name = self.by.rpartition("::")
-        is_there = (f"\nfn {name}()" in (rust / f"rignolda/tests/{file}.rs").read_text() if file
+        is_there = (f"\nfn {name}()" in crate_of(file, rust)[1].read_text() if file
                     else name in {function.__name__ for function in runner.TESTS})
         return None if is_there else f"there is no test {self.by}"
 
@@ -52,6 +52,14 @@ class Edit:
         text = self.path.read_text()
         self.path.write_text(text.replace(self.old, self.new))
         return text
+
+
+def crate_of(file, rust):
+    """What names the crate of a file of tests to cargo, and the file."""
+    library = rust / f"rignolda/tests/{file}.rs"
+    if library.exists():
+        return ["--manifest-path", "rignolda/Cargo.toml"], library
+    return ["-p", "rignoldad"], rust / f"rignoldad/tests/{file}.rs"
 
 
 def cargo(rust, *words):
@@ -64,7 +72,7 @@ def run(test, rust):
     """Builds the copy, and runs a test: whether it passed, or None where it could not be tried; why
     not; and how many seconds it took."""
     file, _, name = test.rpartition("::")
-    library = "--manifest-path", "rignolda/Cargo.toml", "--test", file
+    library = *crate_of(file, rust)[0], "--test", file
     built = cargo(rust, *(["test", "-q", "--no-run", *library] if file
                           else ["build", "-q", "-p", "rignoldad", "-p", "rignoldactl"]))
     if built.returncode:

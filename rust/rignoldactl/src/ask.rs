@@ -200,11 +200,7 @@ pub fn tree_text(list: &[Seen]) -> String {
             () if seen.failing > 0 => format!("{} failing", seen.failing),
             () if !seen.whole => "waits for a whole table".into(),
             () if seen.draining => "drains".into(),
-            () if seen.expires > 0 => {
-                let days = u64::from(seen.expires).saturating_sub(unix_now()) / 86_400;
-                format!("up, certificate for {days} d")
-            }
-            () => "up".into(),
+            () => up(seen),
         };
         let name = format!("{}{}", "  ".repeat(depth), seen.name);
         let lag = match seen.applied {
@@ -230,6 +226,19 @@ pub fn tree_text(list: &[Seen]) -> String {
         rows.iter_mut().for_each(|row| drop(row.remove(1)));
     }
     table(&rows)
+}
+
+/// What is said of an agent that is up.
+fn up(seen: &Seen) -> String {
+    let mut text = "up".to_string();
+    if seen.place > 0 {
+        let _ = write!(text, ", at its parent {}", seen.place.saturating_add(1));
+    }
+    if seen.expires > 0 {
+        let days = u64::from(seen.expires).saturating_sub(unix_now()) / 86_400;
+        let _ = write!(text, ", certificate for {days} d");
+    }
+    text
 }
 
 /// An agent's settings.
@@ -263,7 +272,7 @@ pub fn diff_text(diff: &Diff) -> String {
 }
 
 /// A time in words.
-fn age(milliseconds: u64) -> String {
+pub fn age(milliseconds: u64) -> String {
     match milliseconds {
         0..=9_999 => format!("{}.{} s", milliseconds / 1_000, milliseconds % 1_000 / 100),
         10_000..=599_999 => format!("{} s", milliseconds / 1_000),

@@ -84,8 +84,10 @@ pub struct Status {
     pub is_root: bool,
     /// Its program's.
     pub version: String,
-    /// The parent that it is connected to; and why none could be connected to last.
+    /// The parent that it is connected to, and its place in the list of parents, from 0; and why none
+    /// could be connected to last.
     pub parent: Option<String>,
+    pub place: u32,
     pub no_parent: String,
     /// What its way costs, 128 and more without a root; and whose names lie on it, its own last.
     pub cost: u16,
@@ -194,6 +196,7 @@ impl Status {
         Seen {
             name: self.name.clone(),
             parent: self.parent.clone().unwrap_or_default(),
+            place: self.place,
             connected: true,
             sequence: self.sequence,
             applied: self.applied,
@@ -233,6 +236,8 @@ impl Status {
 pub struct Seen {
     pub name: String,
     pub parent: String,
+    /// The place of that in its list of parents, from 0.
+    pub place: u32,
     /// Whether its parent has a connection with it. Where not, the rest is as it was last.
     pub connected: bool,
     pub sequence: u64,

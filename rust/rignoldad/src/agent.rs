@@ -1,12 +1,13 @@
 //! The loop of an agent: its sockets, timers and files. One thread does all of it but hooks and the
 //! look-up of names, and never waits for anything else than for all of them at once.
 use crate::apply::{Applied, Applier, Outcome};
-use crate::config::{plain, Address, Apply, Config, Fault};
-use crate::control::{self, Asked, Server};
+use crate::config::{plain, Address, Apply, Config, Fault, Parent};
+use crate::control::{self, Asked, Server, Shown};
 use crate::digest::Published;
 use crate::fact;
 use crate::journal;
 use crate::metrics;
+use crate::page;
 use crate::root::Root;
 use crate::serve::Ticket;
 use crate::tree::{Below, EACH};
@@ -638,6 +639,7 @@ impl Agent {
             failing: applier.as_ref().map_or(0, Applier::failing),
             parent: parent.map(|(parent, _)| parent.to_string()),
             no_parent: parent.map_or(self.peers.no_parent(), |_| "").into(),
+            place: parent.map_or(0, |(parent, _)| place(&self.config.peers.parents, parent)),
             cost: self.peers.way().cost,
             way: self.peers.way().names.clone(),
             connected_since: parent.map_or(0, |(_, since)| millis(since) / 1_000),
@@ -701,14 +703,20 @@ impl Agent {
         status
     }
 
+    /// What whoever watches is shown.
+    fn shown(&self, what: &Shown, now: Instant) -> String {
+        match what {
+            Shown::Counts => metrics::answer(&self.full_status(now)),
+            Shown::Page => page::answer(&self.tree(&self.status(now), now)),
+            Shown::Nothing => metrics::NOTHING.into(),
+        }
+    }
+
     fn serve(&mut self, fired: &HashSet<RawFd>, now: Instant) {
         let asked = self.servers.iter_mut().flat_map(|server| server.ready(fired, now));
         for (ticket, asked) in asked.collect::<Vec<_>>() {
             let (answer, is_last) = match asked {
-                Asked::Counts(is_good) => {
-                    let status = is_good.then(|| self.full_status(now));
-                    (metrics::answer(status.as_ref()).into_bytes(), true)
-                }
+                Asked::Shown(what) => (self.shown(&what, now).into_bytes(), true),
                 Asked::Request(request) => {
                     let response = request.and_then(|it| self.request(ticket, it, now));
                     match response.unwrap_or_else(|why| Some(Response::Refused(why))) {
@@ -807,6 +815,12 @@ fn watch(registry: &Registry, fd: RawFd, token: Token, interest: Interest) -> io
     let mut it = SourceFd(&fd);
     let again = registry.reregister(&mut it, token, interest);
     again.or_else(|_| registry.register(&mut it, token, interest))
+}
+
+/// At which place of a list of parents this one is.
+fn place(parents: &[Parent<Address>], parent: &Parent<Address>) -> u32 {
+    let is_same = |it: &Parent<Address>| it.name == parent.name && it.address == parent.address;
+    parents.iter().zip(0..).find(|(it, _)| is_same(it)).map_or(0, |(_, at)| at)
 }
 
 /// How long another machine may be silent before it counts as gone.

@@ -7,9 +7,9 @@
 //! failed, at the next round, and all are after a crash.
 //! Nothing in the folder has to be right: what is wrong or lacking is made anew by the next round.
 //!
-//! Of a key that has values for groups of agents, the file has the one that counts here. `.groups` has
-//! all of them as they were published, for a root that begins and knows no more than its folder; to
-//! choose one, nothing is read there, since each body has all that are set.
+//! Of a key that has values for groups of agents, the file has the one that counts here. `.groups`
+//! has all of them as they were published, for a root that begins and knows no more than its
+//! folder; to choose one, nothing is read there, since each body has all that are set.
 //!
 //! The marker of the folder has the number up to which its files are, or are about to be: an agent
 //! that starts applies nothing older.

@@ -560,8 +560,9 @@ pub fn line_of(text: &str, key: &str) -> usize {
         let mut table = String::new();
         text.lines().map(str::trim).position(|line| {
             if let Some((name, _)) = line.strip_prefix('[').and_then(|rest| rest.split_once(']')) {
-                table = format!("{}.", name.trim());
-                return name.trim() == key;
+                let name = name.trim_start_matches('[').trim();
+                table = format!("{name}.");
+                return name == key;
             }
             line.split_once('=').is_some_and(|(word, _)| format!("{table}{}", word.trim()) == key)
         })

@@ -1,6 +1,6 @@
-//! The sockets at which a running agent is asked: by an operator, and for its [counts](metrics).
+//! The sockets at which a running agent is asked: by an operator, and for its
+//! [counts](crate::metrics) and [page](crate::page).
 use crate::config::Address;
-use crate::metrics;
 use crate::serve;
 use rignolda_tls::Listener;
 use rignoldactl::{Request, Response};
@@ -21,8 +21,27 @@ const COUNTS_IDLE: Duration = Duration::from_secs(5);
 pub enum Asked {
     /// Something of an operator, or why it is no request.
     Request(Result<Request, String>),
-    /// The counts, or a page that is none.
-    Counts(bool),
+    /// Something for whoever watches.
+    Shown(Shown),
+}
+
+/// What is shown at the address for metrics.
+pub enum Shown {
+    Counts,
+    Page,
+    Nothing,
+}
+
+impl Shown {
+    /// What this request is for.
+    pub fn of(request: &[u8]) -> Shown {
+        let is_for = |text: &str| request.starts_with(text.as_bytes());
+        match () {
+            () if is_for("GET /metrics ") || is_for("GET /metrics?") => Shown::Counts,
+            () if is_for("GET / ") => Shown::Page,
+            () => Shown::Nothing,
+        }
+    }
 }
 
 pub type Server = serve::Server<Asked, Listener>;
@@ -37,12 +56,12 @@ pub fn server(path: &Path) -> io::Result<Server> {
     }))
 }
 
-/// Listens at an address for whoever asks for the counts.
+/// Listens at an address for whoever asks for the counts, or the page.
 pub fn counts(address: SocketAddr) -> io::Result<Server> {
     let listener = Listener::new(&Address::Tcp(address.to_string()), None)?;
     Ok(Server::new(listener, COUNTS_BYTES, COUNTS_IDLE, |bytes| {
         let end = bytes.windows(4).position(|four| four == b"\r\n\r\n")?;
-        Some((Asked::Counts(metrics::is_asked_for(bytes)), end + 4))
+        Some((Asked::Shown(Shown::of(bytes)), end + 4))
     }))
 }
 

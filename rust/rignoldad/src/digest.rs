@@ -149,8 +149,8 @@ impl Published {
         }
     }
 
-    /// What is known of the values of a key: of that for all, and of those for groups. Of one that is
-    /// unset, that is no more than since when all settings are as they are.
+    /// What is known of the values of a key: of that for all, and of those for groups. Of one that
+    /// is unset, that is no more than since when all settings are as they are.
     pub fn key(&self, key: &str) -> Keys {
         let since = self.files.get(&[][..]).and_then(|it| it.since.front());
         let since = since.map_or(0, |(number, ..)| *number);

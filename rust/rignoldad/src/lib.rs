@@ -15,6 +15,7 @@ pub mod hold;
 pub mod hooks;
 pub mod journal;
 pub mod metrics;
+pub mod page;
 pub mod root;
 pub mod tree;
 

@@ -89,20 +89,16 @@ fn head(text: &mut String, whose: &str, name: &str, kind: &str, help: &str) {
     let _ = writeln!(text, "# TYPE rignolda_{whose}{name} {kind}");
 }
 
-/// Whether a request is for the counts.
-pub fn is_asked_for(request: &[u8]) -> bool {
-    ["GET /metrics ", "GET /metrics?", "GET / "].iter().any(|it| request.starts_with(it.as_bytes()))
-}
+/// The answer to a request for what there is not.
+pub const NOTHING: &str = "HTTP/1.1 404 Not Found\r\nContent-Type: text/plain\r\n\
+    Content-Length: 46\r\nConnection: close\r\n\r\nThe counts are at /metrics, the tree is at /.\n";
 
-/// The answer to a request: the counts of an agent, or that they are elsewhere.
-pub fn answer(status: Option<&Status>) -> String {
-    let (head, body) = match status {
-        Some(status) => ("200 OK", text(status)),
-        None => ("404 Not Found", "The counts are at /metrics.\n".into()),
-    };
+/// The answer to a request for the counts.
+pub fn answer(status: &Status) -> String {
+    let text = text(status);
     format!(
-        "HTTP/1.1 {head}\r\nContent-Type: text/plain; version=0.0.4\r\n\
-         Content-Length: {}\r\nConnection: close\r\n\r\n{body}",
-        body.len()
+        "HTTP/1.1 200 OK\r\nContent-Type: text/plain; version=0.0.4\r\n\
+         Content-Length: {}\r\nConnection: close\r\n\r\n{text}",
+        text.len()
     )
 }

@@ -9,6 +9,7 @@ children = ["host31", "host32"]
 parents = ["hub@hub.example:7464", "hub2@10.1.0.2:7464"]
 control = "/run/rignolda/control"
 metrics = "127.0.0.1:9464"
+groups = ["canary", "eu"]
 
 [link]
 ack_timeout = "500ms"
@@ -25,6 +26,15 @@ folder = "/var/lib/rignolda/settings"
 mode = "0600"
 hook = "/etc/rignolda/hook"
 hook_timeout = "1m"
+
+[[hook]]
+keys = ["app.*", "b"]
+run = "/etc/rignolda/app"
+timeout = "1m"
+
+[[hook]]
+keys = "*"
+run = "/all"
 "#;
 
 #[test]
@@ -43,6 +53,13 @@ fn reads_every_key() {
     assert_eq!(config.tls.unwrap().authority.to_str(), Some("/etc/rignolda/authority.crt"));
     let apply = config.apply.unwrap();
     assert_eq!((apply.mode, apply.hook_timeout), (0o600, Duration::from_secs(60)));
+    assert_eq!(apply.groups, ["canary", "eu"]);
+    let [app, all] = &apply.hooks[..] else { panic!("{:?}", apply.hooks) };
+    assert_eq!(
+        (&app.keys[..], app.timeout),
+        (&["app.*".into(), "b".into()][..], Duration::from_secs(60))
+    );
+    assert_eq!((all.run.to_str(), all.timeout), (Some("/all"), Duration::from_secs(30)));
     assert_eq!(config.root, None);
     assert!(!config.insecure);
     let root = |more: &str| {
@@ -364,5 +381,46 @@ fn drawn_bytes_do_no_harm() {
         if let Err(faults) = Config::parse(&String::from_utf8_lossy(&bytes)) {
             assert!(!faults.is_empty());
         }
+    }
+}
+
+#[test]
+fn says_what_is_wrong_with_groups_and_hooks() {
+    let front = "name = \"a\"\nparents = [\"[::1]:1\"]\n";
+    let apply = "[apply]\nfolder = \"/f/g\"\n";
+    let hook = "[[hook]]\nkeys = \"*\"\nrun = \"/r\"\n";
+    let list = || {
+        let names: Vec<String> = (0..17).map(|at| format!("g{at}")).collect();
+        format!("groups = {names:?}\n")
+    };
+    let cases: [(String, usize, &str, &str); 17] = [
+        (format!("{front}groups = [\"a\"]\n"), 3, "groups", "keeps no settings"),
+        (format!("{front}{hook}"), 3, "hook", "keeps no settings"),
+        (format!("{front}groups = [\"a\", \"b/c\"]\n{apply}"), 3, "groups", "`b/c` is no group"),
+        (format!("{front}groups = \"a..b\"\n{apply}"), 3, "groups", "two dots together"),
+        (format!("{front}groups = \"a@b\"\n{apply}"), 3, "groups", "is no group"),
+        (format!("{front}groups = [\"a\", \"a\"]\n{apply}"), 3, "groups", "`a` is there twice"),
+        (format!("{front}{}{apply}", list()), 3, "groups", "more than 16"),
+        (format!("{front}groups = 3\n{apply}"), 3, "groups", "a list of texts"),
+        (format!("{front}{apply}[hook]\nrun = \"/r\"\n"), 5, "hook", "a table [[hook]]"),
+        (format!("{front}{apply}{hook}[[hook]]\nrun = \"/r\"\n"), 8, "hook.keys", "is missing"),
+        (format!("{front}{apply}{hook}[[hook]]\nkeys = \"*\"\n"), 8, "hook.run", "is missing"),
+        (format!("{front}{apply}{hook}when = 1\n"), 8, "hook.when", "no such key"),
+        (format!("{front}{apply}{hook}timeout = \"1ms\"\n"), 8, "hook.timeout", "100ms to"),
+        (format!("{front}{apply}{hook}{hook}"), 8, "hook", "there twice"),
+        (format!("{front}{apply}[[hook]]\nrun = \"r\"\nkeys = \"*\"\n"), 6, "hook.run", "absolute"),
+        (
+            format!("{front}{apply}[[hook]]\nrun = \"/r\"\nkeys = [\"a\", \"b*/c\"]\n"),
+            7,
+            "hook.keys",
+            "`b*/c`",
+        ),
+        (format!("{front}{apply}[[hook]]\nrun = \"/r\"\nkeys = \"\"\n"), 7, "hook.keys", "not ``"),
+    ];
+    for (text, line, key, why) in cases {
+        let faults = Config::parse(&text).unwrap_err();
+        let [fault] = &faults[..] else { panic!("{text}: {faults:?}") };
+        assert_eq!((fault.line, &*fault.key), (line, key), "{text}: {fault}");
+        assert!(fault.text.contains(why), "{fault}");
     }
 }

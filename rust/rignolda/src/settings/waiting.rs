@@ -169,9 +169,11 @@ impl Waiting {
     pub fn of_groups(mut self, groups: &[String]) -> (Waiting, Waiting) {
         let (mut all, whole) = (Waiting::default(), self.whole);
         all.whole = whole;
+        // (what a whole table does not name is unset)
+        let is_said = |change: &Change| change.value.is_some() || whole.is_none();
         for (file, values) in self.take_grouped() {
             let counts = values.counting(&file, groups);
-            if counts.value.is_some() || whole.is_none() {
+            if is_said(&counts) {
                 self.changes.insert(file.clone(), counts.clone());
             }
             let has_groups = values.of_groups.values().any(|it| it.value.is_some());
@@ -182,7 +184,9 @@ impl Waiting {
             let for_all = (file, values.for_all.unwrap_or_else(|| unset.clone()));
             for (key, change) in values.of_groups.into_iter().chain([for_all]) {
                 let change = if has_groups { change } else { unset.clone() };
-                all.changes.insert(key, change);
+                if is_said(&change) {
+                    all.changes.insert(key, change);
+                }
             }
         }
         (self, all)
