@@ -33,7 +33,6 @@ from runner import sure, test
 
 # (each of them tells its tests)
 for name in ("blocked", "floods", "groups", "hooks", "hostile", "memory_faults", "older",
-for name in ("blocked", "floods", "groups", "hooks", "hostile", "memory_faults", "older",
              "operating", "paged", "parents", "rounds", "store", "watching"):
     importlib.import_module(name)
 
