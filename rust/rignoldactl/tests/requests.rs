@@ -1,5 +1,5 @@
 //! What is said to an agent, and how it is written.
-use rignoldactl::{milliseconds, report, Key, Request, Response, Seen};
+use rignoldactl::{milliseconds, report, Key, Keys, Request, Response, Seen};
 
 #[test]
 fn requests_and_answers_are_json() {
@@ -21,8 +21,11 @@ fn what_is_known_of_a_key_is_json() {
     let request = Request::Key { key: "a".into() };
     assert_eq!(serde_json::from_str::<Request>(text).unwrap(), request);
     let known = Key { digest: 0xab, number: 7, old: 0, old_number: 0 };
-    let text = r#"{"key":{"digest":"00000000000000ab","number":7,"old":"","old_number":0}}"#;
-    assert_eq!(serde_json::to_string(&Response::Key(known)).unwrap(), text);
+    let value = r#"{"digest":"00000000000000ab","number":7,"old":"","old_number":0}"#;
+    let text = format!(r#"{{"key":{{"all":{value},"groups":{{"eu":{value}}},"since":5}}}}"#);
+    let groups = [("eu".into(), known.clone())].into();
+    let known = Response::Key(Keys { all: known, groups, since: 5 });
+    assert_eq!(serde_json::to_string(&known).unwrap(), text);
     // (by another program: `printf '\4\1pathup' | sha256sum`)
     assert_eq!(rignoldactl::digest("path", Some(b"up")), 0x36e4_557c_afcc_3106);
 }

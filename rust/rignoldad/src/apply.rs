@@ -127,6 +127,8 @@ struct State {
     hooks: Waiting,
     /// The keys whose hooks run, and the first number of the change.
     running: BTreeMap<String, u64>,
+    /// How many threads run a hook.
+    busy: usize,
     /// The hooks that have one run for many keys.
     runs: BTreeMap<Hook, Runs>,
     /// The keys whose marks are going, since no hook of them is due.
@@ -348,15 +350,17 @@ impl Applier {
         let (files, hooks) = (state.files.first(), state.has_hooks());
         // (what came before each look may not have been taken yet)
         let took_files = std::mem::take(&mut state.took_files) || state.writing.is_some();
-        let is_running = state.runs.values().any(|it| it.running.is_some());
-        let took_hooks = std::mem::take(&mut state.took_hooks);
-        let took_hooks = took_hooks || is_running || !state.running.is_empty();
+        let runs = state.runs.values().filter(|it| it.running.is_some());
+        let running = state.running.len() + runs.count();
+        let took_hooks = std::mem::take(&mut state.took_hooks) || running > 0;
         let is_lost = files.is_some() && !state.holds && !took_files || hooks && !took_hooks;
         self.lost.set(if is_lost { self.lost.get() + 1 } else { 0 });
         match () {
             () if self.threads.iter().any(JoinHandle::is_finished) || self.lost.get() >= LOST => {
                 Some("nobody applies settings")
             }
+            // (one whose table is gone may run to its end)
+            () if running > state.busy => Some("a hook runs that no thread runs"),
             () if state.config != *config
                 || self.shared.folder != config.folder
                 || !state.runs.keys().eq(config.hooks.iter().collect::<BTreeSet<_>>()) =>
@@ -646,6 +650,7 @@ fn run_hooks(shared: &Shared) {
             Some(Told::One(key, change))
         })?;
         state.took_hooks = true;
+        state.busy += 1;
         Some((told, state.config.clone()))
     };
     while let Some((told, config)) = shared.next(&shared.hooks, take) {
@@ -667,6 +672,7 @@ fn run_one(shared: &Shared, config: &Apply, key: &str, change: &Change) {
     }
     let mut state = shared.lock();
     state.running.remove(key);
+    state.busy = state.busy.saturating_sub(1);
     let outcome = status.map_or_else(Outcome::Hook, |()| Outcome::Done);
     if outcome != Outcome::Done {
         state.failures += 1;
@@ -682,6 +688,7 @@ fn run_many(shared: &Shared, hook: &Hook, keys: BTreeSet<String>, last: u64) {
         settle(shared, keys.iter().map(String::as_str));
     }
     let mut state = shared.lock();
+    state.busy = state.busy.saturating_sub(1);
     let outcome = status.map_or_else(Outcome::Hook, |()| Outcome::Done);
     if outcome != Outcome::Done {
         state.failures += 1;

@@ -29,10 +29,9 @@ impl Place {
     fn config(&self) -> Apply {
         Apply {
             folder: self.folder(),
-            take: false,
             mode: 0o640,
-            hook: None,
             hook_timeout: Duration::from_secs(600),
+            ..Apply::default()
         }
     }
 
