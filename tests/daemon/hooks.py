@@ -52,6 +52,7 @@ def keys_that_changed_together_have_one_run():
         for key in ("app.a", "app.b", "colour", "other", "yapp.c"):
             tree.write(key, 1)
         tree.start()
+        sure(until(root.up), root.text())
         number = root.ask("publish", "last", "1")["sequence"]
         first = ["app.a=1", "app.b=1", "colour=1"]
         sure(until(lambda: runs(leaf, "app") == [first]), runs(leaf, "app"))
