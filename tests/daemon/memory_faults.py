@@ -32,6 +32,7 @@ import sys
 import time
 
 from daemons import Tree, running
+from groups import counting
 from memory import stopped, writable
 from runner import sure, test
 
@@ -253,7 +254,11 @@ class Trials:
         self.tree.root.tables["root"].update(round=f"{int(ROUND * 1_000)}ms", harmless=7)
         for at in range(6):
             self.tree.write(f"key{at}", f"value {at}")
+        # (one agent has another value, and each tells a hook of some)
+        self.tree.write("key2@canary", "another")
+        list(self.tree)[-1].top["groups"] = ["canary"]
         for unit in self.units:
+            unit.agent.hooks = [{"keys": ["key*"], "run": "/bin/true"}]
             unit.start()
         if not self.holds(lambda: not self.wrong() and self.says_right(), 60):
             raise RuntimeError("a new tree does not come to be right")
@@ -307,7 +312,8 @@ class Trials:
         for agent in self.tree:
             files = agent.files()
             settings = {name: value for name, value in files.items() if KEY.fullmatch(name)}
-            wrong += [agent.name] if settings != truth else []
+            right = counting(truth, agent.top.get("groups", []))
+            wrong += [agent.name] if settings != right else []
             if len(settings) < len(files):
                 self.litter.add(agent.name)
         return wrong

@@ -340,7 +340,7 @@ fn a_chain_without_end_is_cut() {
     let parent = |at: usize| if at == 0 { "".into() } else { name(at - 1) };
     let chain: Vec<Seen> = (0..3_000).map(|at| seen(&name(at), &parent(at), true)).collect();
     let (now, mut root) = (Instant::now(), Below::default());
-    assert!(root.heard("liar", &serde_json::to_vec(&chain).unwrap(), now));
+    assert!(root.heard("liar", &rignoldactl::report(&chain), now));
     let list = root.tree(&status("root", &["liar"]), now);
     assert_eq!((list.len(), depths(&list).pop()), (65, Some(64)));
     assert_eq!(lacks(&list[1], 5), Some("has more agents below it than it can report"));
