@@ -68,6 +68,7 @@ def the_last_release_and_this_one_make_a_tree():
 
     with running(chain(3), by_parent) as tree:
         agents = list(tree)
+        whole = [[it.name for it in agents[:at + 1]] for at in range(len(agents))]
         for turn, program in enumerate((None, last_release())):
             for at, agent in enumerate(agents if program is None else agents[::-1]):
                 tree.write("while_up", f"{turn} {at}")
@@ -76,6 +77,9 @@ def the_last_release_and_this_one_make_a_tree():
                 agent.program = program
                 agent.start()
                 sure(tree.right(), agent.name, tree.wrong(), agent.text()[-300:])
+                # (by the oldest version that both know, no way would be said)
+                ways = lambda: [it.status()["way"] for it in agents]
+                sure(until(lambda: ways() == whole), agent.name, ways())
             tree.root.ask("round")
             sure(tree.ready() and tree.right(), tree.wrong())
         sure(not any(agent.said("panicked") for agent in tree))
