@@ -1,5 +1,5 @@
 #!/usr/bin/env python3
-"""Measures `stab` on jobs of growing size: bench/run.py [--stab PROGRAM] [--quick]
+"""Measures `stab` on jobs of growing size: bench/run.py [--stab PROGRAM] [--quick | --runs]
 
 Makes the jobs in bench/build/ (the same bytes each time), runs each job five times, and prints the
 median of the processor time, the events per second and the peak memory. Nothing is subtracted: a
@@ -7,12 +7,20 @@ time is that of the whole process. Run it by hand; the gate does not. Needs Pyth
 and the kit, whose clang builds tests/hostile/measure.c.
 Without --stab it measures the program of ./stab, which builds it if that was not done yet for these
 sources.
+
+With --runs it measures runs of worker threads instead, in turn with the same tree of threads over
+channels (channels.rs, which rustc builds): alone, and beside one busy loop for each processor.
+Linux gives each session a share of the processors, and within one each thread (see autogroup in
+sched(7)). So the loops are in sessions of their own, or in the one of the programs. It prints the
+medians of wall time, and of the ratios in turn. A run that has not delivered every item is named.
 """
 import argparse
+import contextlib
 import json
 import os
 import random
 import statistics
+import subprocess
 import sys
 import time
 
@@ -25,6 +33,8 @@ from largest import build_measure, run  # noqa: E402
 from programs import built  # noqa: E402
 
 RUNS = 5
+TURNS = 7
+PATIENCE = 60  # seconds, of one run of worker threads
 MAX_TREE_STEPS = 900_000  # more do not fit a file of 16,777,216 bytes
 
 
@@ -107,6 +117,79 @@ def jobs(quick):
     yield ["tree"], "4 x 100,000 letters", 400_000, scripts_job
 
 
+def run_jobs():
+    """Yields a name for each run of worker threads, its number of items, and the places of the
+    parents of all nodes but the first."""
+    yield "chain of 2", 10_000, [0]
+    yield "chain of 64", 1_000, list(range(63))
+    yield "star of 64", 1_000, [0] * 63
+    yield "binary tree of 64", 1_000, [node // 2 for node in range(63)]
+
+
+def run_job(items, parents):
+    """The job of a run of capacity 1 from a clean start, without loss."""
+    tree = [{"name": "n0"}]
+    for node, parent in enumerate(parents):
+        tree.append({"name": f"n{node + 1}", "parent": f"n{parent}"})
+    return {"capacity": 1, "labels": 4, "tree": tree, "items": list(range(items))}
+
+
+@contextlib.contextmanager
+def busy_loops(beside):
+    """A busy loop for each processor, or none. A loop ends by itself after some minutes."""
+    loops = []
+    try:
+        for _ in range(os.cpu_count() if beside else 0):
+            loops.append(subprocess.Popen(["sh", "-c", "ulimit -t 300; while :; do :; done"],
+                                          start_new_session=beside == "other sessions"))
+        yield
+    finally:
+        for loop in loops:
+            loop.kill()
+            loop.wait()
+
+
+def wall_of(words, all_items):
+    """The wall time of a program in seconds, and whether it has delivered every item."""
+    begun = time.perf_counter()
+    try:
+        ended = subprocess.run(words, capture_output=True, timeout=PATIENCE)
+    except subprocess.TimeoutExpired:
+        return PATIENCE, False
+    wall = time.perf_counter() - begun
+    return wall, ended.returncode == 0 and all_items(ended.stdout)
+
+
+def measure_runs(program):
+    """Measures each run of worker threads in turn with its channels, alone and beside loops."""
+    channels = os.path.join(BUILD, "channels")
+    subprocess.run(["rustc", "-O", "-o", channels, os.path.join(HERE, "channels.rs")], check=True)
+    print(f"{'run':18} {'beside':15} {'channels ms':>11} {'locks':>8} {'ratio':>6} {'words':>8} "
+          f"{'ratio':>6}")
+    for name, items, parents in run_jobs():
+        path = path_of(["run"], name, items, lambda: run_job(items, parents))
+        nodes = len(parents) + 1
+        full = f" received {items} acked ".encode()
+        columns = [([channels, str(items), *map(str, parents)], lambda _: True)]
+        for words in (["run"], ["run", "--words"]):
+            columns.append(([program, *words, path], lambda text: text.count(full) == nodes))
+        for beside in ("", "this session", "other sessions"):
+            taken = [[] for _ in columns]
+            for turn in range(TURNS):
+                with busy_loops(beside):
+                    for place in range(len(columns)):
+                        place = (place + turn) % len(columns)
+                        wall, all_delivered = wall_of(*columns[place])
+                        taken[place].append(wall)
+                        if not all_delivered:
+                            print(f"{' '.join(columns[place][0][1:3])} has not delivered all")
+            line = f"{name:18} {beside or 'nothing':15} {statistics.median(taken[0]) * 1000:11.0f}"
+            for walls in taken[1:]:
+                ratio = statistics.median(it / peer for it, peer in zip(walls, taken[0]))
+                line += f" {statistics.median(walls) * 1000:8.0f} {ratio:6.2f}"
+            print(line, flush=True)
+
+
 def path_of(words, name, count, job):
     """The file of a job, made where it is not there yet."""
     path = os.path.join(BUILD, f"{words[0]} {name} {count}.json".replace(" ", "_").replace(",", ""))
@@ -120,14 +203,18 @@ def main():
     parser = argparse.ArgumentParser(description=__doc__.splitlines()[0])
     parser.add_argument("--stab", metavar="PROGRAM", help="measure it, not the program of ./stab")
     parser.add_argument("--quick", action="store_true", help="jobs of up to 100,000 events")
+    parser.add_argument("--runs", action="store_true", help="runs of worker threads instead")
     options = parser.parse_args()
     os.makedirs(BUILD, exist_ok=True)
     program = options.stab or built("stab", BUILD)
     if not os.access(program, os.X_OK):
         sys.exit(f"there is no program at {program}")
-    measure = build_measure(BUILD)
     load = os.getloadavg()[0]
     print(f"{time.strftime('%Y-%m-%d')}, {os.cpu_count()} processors, load {load:.1f}")
+    if options.runs:
+        measure_runs(program)
+        return
+    measure = build_measure(BUILD)
     print(f"{'job':24} {'events':>9} {'MB':>6} {'ms':>8} {'events/s':>11} {'peak MB':>8}")
     for words, name, count, job in jobs(options.quick):
         path = path_of(words, name, count, job)

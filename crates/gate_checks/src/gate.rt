@@ -1,10 +1,14 @@
-//! A gate that counts.
+//! The gates of the checks: one that counts, and one that does nothing.
 
 ghost use Rattle.std.specs.Prelude.{⊤};
 
-use stab_node::{Free, Gate};
+use stab_free::Free;
+use stab_node::Gate;
+use stab_tree::Tree;
 use std::array;
+use std::sync::Wait;
 use std::sync::atomic::{AtomicU64, Ordering};
+use std::time::Clock;
 
 /// How many nodes a chain has.
 pub const NODES: usize = 3;
@@ -12,17 +16,17 @@ pub const NODES: usize = 3;
 /// A gate that refuses no turn, and counts how often each node asked for one, and how often it said
 /// that it is done.
 #[derive(Drop)]
-pub struct CountingGate {
-    free: Free,
+pub struct CountingGate<'r, R> {
+    free: Free<'r, R>,
     asked: [AtomicU64; NODES],
     done: [AtomicU64; NODES],
 }
 
-impl CountingGate {
-    /// The gate of one run.
-    pub fn new() -> CountingGate {
+impl<'r, R> CountingGate<'r, R> {
+    /// The gate of a run of this tree.
+    pub fn for_tree(rt: &'r R, tree: &'r Tree) -> CountingGate<'r, R> {
         CountingGate {
-            free: Free::for_nodes(NODES as u16),
+            free: Free::for_tree(rt, tree),
             asked: array::from_fn(|_| AtomicU64::new(0)),
             done: array::from_fn(|_| AtomicU64::new(0)),
         }
@@ -42,7 +46,7 @@ impl CountingGate {
     }
 }
 
-impl Gate for CountingGate {
+impl<R: Wait + Clock> Gate for CountingGate<'_, R> {
     ghost may_refuse = { λ gate node turn. ⊥ };
 
     ghost has_passed = { λ gate node turn. ⊤ };
@@ -62,4 +66,22 @@ impl Gate for CountingGate {
         }
         self.free.done(node)
     }
+}
+
+/// A gate that refuses no turn and holds no worker back.
+#[derive(Drop)]
+pub struct OpenGate;
+
+impl Gate for OpenGate {
+    ghost may_refuse = { λ gate node turn. ⊥ };
+
+    ghost has_passed = { λ gate node turn. ⊤ };
+
+    ghost is_done = { λ gate node. ⊤ };
+
+    fn pass(&self, _node: u16, _turn: u32) -> bool {
+        true
+    }
+
+    fn done(&self, _node: u16) {}
 }

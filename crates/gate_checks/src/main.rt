@@ -36,6 +36,7 @@ use std::io;
 use std::process::ExitCode;
 use std::sync::Wait;
 use std::thread::Threads;
+use std::time::Clock;
 
 /// Makes the calls. The status is 0 unless the program cannot print, or is refused twice.
 fn main(rt: HostRuntime) -> ExitCode {
@@ -49,7 +50,9 @@ fn main(rt: HostRuntime) -> ExitCode {
 }
 
 /// Makes the calls, and prints what is told of them.
-fn run<R: Print + Eprint + Threads + Wait + Send + Sync + AllocGlobal>(rt: &R) -> io::Result<()> {
+fn run<R: Print + Eprint + Threads + Wait + Clock + Send + Sync + AllocGlobal>(
+    rt: &R,
+) -> io::Result<()> {
     let mut texts = match Texts::new(rt.alloc()) {
         Ok(texts) => texts,
         Err(_) => Texts::new(rt.alloc())?,
@@ -61,7 +64,7 @@ fn run<R: Print + Eprint + Threads + Wait + Send + Sync + AllocGlobal>(rt: &R) -
 }
 
 /// Makes the calls, those of the lowest layer first.
-fn make_all<R: Threads + Wait + Send + Sync>(
+fn make_all<R: Threads + Wait + Clock + Send + Sync>(
     rt: &R,
     alloc: Global,
     texts: &mut Texts,

@@ -12,6 +12,7 @@ use stab_run::{Job, Report, RunFault, read_job, run_locked, run_mixed, run_words
 use std::alloc::{AllocError, Global};
 use std::sync::Wait;
 use std::thread::Threads;
+use std::time::Clock;
 
 /// What the root of the chain publishes.
 const PUBLISHED: [Item; 5] = [1, 2, 3, 4, 5];
@@ -39,7 +40,7 @@ const RUNS: [(&str, Links, &str); 3] = [
 ];
 
 /// Makes the runs.
-pub fn make_all<R: Threads + Wait + Send + Sync>(
+pub fn make_all<R: Threads + Wait + Clock + Send + Sync>(
     rt: &R,
     alloc: Global,
     texts: &mut Texts,
@@ -62,7 +63,7 @@ fn new_job(alloc: Global, texts: &mut Texts, text: &str) -> Result<Job, AllocErr
 
 /// Runs a job, once more where it is refused, and tells what it answers. A call that starts threads
 /// is given a runtime that they share, which a method of a trait cannot ask for.
-fn make_run<R: Threads + Wait + Send + Sync>(
+fn make_run<R: Threads + Wait + Clock + Send + Sync>(
     rt: &R,
     alloc: Global,
     texts: &mut Texts,
@@ -80,14 +81,14 @@ fn make_run<R: Threads + Wait + Send + Sync>(
 }
 
 /// Runs a chain. Where memory, or the start of a worker, was refused, that is no answer.
-fn run<R: Threads + Wait + Send + Sync>(
+fn run<R: Threads + Wait + Clock + Send + Sync>(
     rt: &R,
     alloc: Global,
     job: &Job,
     links: Links,
     text: &mut String,
 ) -> Result<(), AllocError> {
-    let gate = CountingGate::new();
+    let gate = CountingGate::for_tree(rt, job.tree());
     let answer = match links {
         Links::Locked => run_locked(rt, alloc, job, &gate),
         Links::Words => run_words(rt, alloc, job, &gate),

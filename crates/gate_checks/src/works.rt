@@ -1,10 +1,11 @@
 //! The work of a node, over ends without a link.
 
 use crate::again::{Calls, Made, Row, push_answer};
+use crate::gate::OpenGate;
 use stab_ends::FrameSeen;
 use stab_ends::plain::{PlainRecv, PlainSend};
 use stab_frames::Item;
-use stab_node::{Free, work};
+use stab_node::work;
 use std::alloc::{AllocError, Global};
 use std::collections::VecDeque;
 
@@ -75,8 +76,7 @@ impl Calls for Works {
     fn make(&mut self, _call: &(), text: &mut String) -> Result<(), AllocError> {
         let (alloc, up) = (self.alloc, self.ups.pop());
         let downs = self.downs.pop().unwrap_or(Vec::new(alloc));
-        let gate = Free::for_nodes(1);
-        let account = work(&(), alloc, 0, up, downs, &OPENED, TURNS, &gate);
+        let account = work(&(), alloc, 0, up, downs, &OPENED, TURNS, &OpenGate);
         push_answer(text, account)
     }
 }

@@ -6,6 +6,7 @@ use std::process::ExitCode;
 use std::rt::{Env, Files};
 use std::sync::Wait;
 use std::thread::Threads;
+use std::time::Clock;
 
 /// Runs the program, and prints a fault in one line on the standard error.
 fn main(rt: HostRuntime) -> ExitCode {
@@ -19,7 +20,7 @@ fn main(rt: HostRuntime) -> ExitCode {
 }
 
 /// Does the task that the command line names.
-fn run<R: Env + Files + Input + Print + Threads + Wait + Send + Sync + AllocGlobal>(
+fn run<R: Env + Files + Input + Print + Threads + Wait + Clock + Send + Sync + AllocGlobal>(
     rt: &R,
 ) -> Result<(), CliFault> {
     let words = words(rt, rt.alloc())?;

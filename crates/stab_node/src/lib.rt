@@ -19,7 +19,6 @@ mod columns;
 mod downs;
 mod fault;
 mod first;
-mod free;
 mod gate;
 mod gathered;
 mod run;
@@ -32,7 +31,6 @@ mod workers_fault;
 
 pub use account::{Ended, NodeAccount};
 pub use fault::NodeFault;
-pub use free::Free;
 pub use gate::Gate;
 pub use gathered::Gathered;
 pub use run::run_workers;

@@ -33,7 +33,7 @@ use std::alloc::{AllocError, Global};
 /// further call on its ends, which are given up: what their earlier calls did stays in the links.
 ///
 /// Where the calls of the ends and of the gate return, so does this one, since its turns are
-/// counted. Over ends whose `Pass` is `()`, no call waits.
+/// counted. Over ends whose `Pass` is `()`, no call of an end waits.
 pub fn work<P, U, D, G>(
     pass: &P,
     alloc: Global,

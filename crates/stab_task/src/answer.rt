@@ -18,21 +18,22 @@ use crate::command::Task;
 use crate::fault::CliFault;
 use crate::file::load;
 use crate::link::answer_link;
+use stab_free::Free;
 use stab_job::JobFault;
 use stab_job_stream::{read_job, read_unscheduled_job};
-use stab_node::Free;
 use stab_run::{Job, Links, Report, RunFault, report_text, run_locked, run_mixed, run_words};
 use stab_treecore::{TreeStartFault, schedule_text};
 use std::alloc::Global;
 use std::io::{self, Read, Write};
 use std::sync::Wait;
 use std::thread::Threads;
+use std::time::Clock;
 
 /// Reads a job, does the task, and writes the whole text; or writes nothing where the fault is
 /// another than `Write`.
 ///
 /// A run waits for its workers. The functions of the other tasks are not handed the runtime.
-pub fn act<T: Threads + Wait + Send + Sync, R: Read, W: Write>(
+pub fn act<T: Threads + Wait + Clock + Send + Sync, R: Read, W: Write>(
     rt: &T,
     alloc: Global,
     task: Task,
@@ -66,7 +67,7 @@ pub fn act<T: Threads + Wait + Send + Sync, R: Read, W: Write>(
 }
 
 /// The text of a task for what the reader gives.
-fn text_of<T: Threads + Wait + Send + Sync, R: Read>(
+fn text_of<T: Threads + Wait + Clock + Send + Sync, R: Read>(
     rt: &T,
     alloc: Global,
     task: Task,
@@ -87,7 +88,7 @@ fn text_of<T: Threads + Wait + Send + Sync, R: Read>(
 }
 
 /// The text of a task for these bytes. A run alone is handed the runtime.
-fn answer_bytes<T: Threads + Wait + Send + Sync>(
+fn answer_bytes<T: Threads + Wait + Clock + Send + Sync>(
     rt: &T,
     alloc: Global,
     task: Task,
@@ -139,7 +140,7 @@ fn tree_text(alloc: Global, job: &Job) -> Result<String, TreeStartFault>
 /// The text of the report of a run, by one worker per node. A run does not look at the schedule, so
 /// no step of it is kept.
 #[tactic(auto, using(crate::proofs::Unscheduled::run_answered))]
-fn answer_run<T: Threads + Wait + Send + Sync>(
+fn answer_run<T: Threads + Wait + Clock + Send + Sync>(
     rt: &T,
     alloc: Global,
     links: Links,
@@ -165,7 +166,7 @@ fn read_unscheduled(alloc: Global, bytes: &[u8]) -> Result<Job, JobFault>
 }
 
 /// The text of the report of a run of a job that was read, or the fault of the run.
-fn run_answer<T: Threads + Wait + Send + Sync>(
+fn run_answer<T: Threads + Wait + Clock + Send + Sync>(
     rt: &T,
     alloc: Global,
     links: Links,
@@ -179,7 +180,7 @@ fn run_answer<T: Threads + Wait + Send + Sync>(
 }
 
 /// The text of the report of a run of a job that was read.
-fn run_text<T: Threads + Wait + Send + Sync>(
+fn run_text<T: Threads + Wait + Clock + Send + Sync>(
     rt: &T,
     alloc: Global,
     links: Links,
@@ -193,7 +194,7 @@ fn run_text<T: Threads + Wait + Send + Sync>(
 }
 
 /// The report of a run of a job, under a gate that refuses no turn.
-fn run_job<T: Threads + Wait + Send + Sync>(
+fn run_job<T: Threads + Wait + Clock + Send + Sync>(
     rt: &T,
     alloc: Global,
     links: Links,
@@ -202,7 +203,7 @@ fn run_job<T: Threads + Wait + Send + Sync>(
     ensures report { IfOk result (IsReport links job.now) }
     ensures reason { IfErr result (IsFreeRunReason links job.now) }
 {
-    let gate = Free::for_nodes(job.tree().len());
+    let gate = Free::for_tree(rt, job.tree());
     match links {
         Links::Locked => run_locked(rt, alloc, job, &gate),
         Links::Words => run_words(rt, alloc, job, &gate),

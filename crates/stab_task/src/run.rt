@@ -11,6 +11,7 @@ use std::io::{self, ErrorKind};
 use std::rt::{Env, Files};
 use std::sync::Wait;
 use std::thread::Threads;
+use std::time::Clock;
 
 /// The words of the command line, the program's name first. A word that is no text is a refused
 /// command line.
@@ -30,7 +31,7 @@ pub fn words<R: Env + AllocGlobal>(rt: &R, alloc: Global) -> Result<Vec<String>,
 }
 
 /// Does a task with its file, or with the standard input where it has none.
-pub fn perform<R: Files + Input + Print + Threads + Wait + Send + Sync + AllocGlobal>(
+pub fn perform<R: Files + Input + Print + Threads + Wait + Clock + Send + Sync + AllocGlobal>(
     rt: &R,
     task: Task,
     path: Option<String>,
@@ -49,7 +50,7 @@ pub fn perform<R: Files + Input + Print + Threads + Wait + Send + Sync + AllocGl
 }
 
 /// Does a task with the file of this name.
-fn perform_file<R: Files + Print + Threads + Wait + Send + Sync + AllocGlobal>(
+fn perform_file<R: Files + Print + Threads + Wait + Clock + Send + Sync + AllocGlobal>(
     rt: &R,
     task: Task,
     path: &str,

@@ -10,6 +10,7 @@ use stab_tree::NodeId;
 use std::alloc::Global;
 use std::sync::Wait;
 use std::thread::Threads;
+use std::time::Clock;
 
 /// A chain of three nodes, up to the members that a test adds.
 const CHAIN_WITH: &str = r#"{"capacity":1,"labels":4,"tree":[{"name":"r"},{"name":"a","parent":"r"},
@@ -26,7 +27,7 @@ const TOO_MANY: ParamsFault = ParamsFault::LabelsTooMany;
 const CAPACITY: ParamsFault = ParamsFault::CapacityOutOfRange;
 
 /// Whether each of these tasks refuses the job of these two pieces so, and writes nothing.
-fn refuse<T: Threads + Wait + Send + Sync + Alloc<A = Global>>(
+fn refuse<T: Threads + Wait + Clock + Send + Sync + Alloc<A = Global>>(
     rt: &T,
     tasks: &[Task],
     (before, members): (&'static str, &'static str),

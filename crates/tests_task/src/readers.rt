@@ -6,6 +6,7 @@ use std::alloc::{AllocError, Global};
 use std::io::ErrorKind;
 use std::sync::Wait;
 use std::thread::Threads;
+use std::time::Clock;
 
 const INTERRUPTED: Option<ErrorKind> = Some(ErrorKind::Interrupted);
 
@@ -29,7 +30,7 @@ fn gives(alloc: Global, reader: Pieces<'_>, want: &[u8]) -> bool {
 
 /// Whether loading a reader that fails this often, with a failure of this kind, between its pieces
 /// and the task over it go on, or report that it cannot be read.
-fn reads_on<T: Threads + Wait + Send + Sync + Alloc<A = Global>>(
+fn reads_on<T: Threads + Wait + Clock + Send + Sync + Alloc<A = Global>>(
     rt: &T,
     work: Work,
     reader: Pieces<'_>,
@@ -61,7 +62,7 @@ const FAILURES: &[(Option<ErrorKind>, usize, bool)] = &[
 /// Whether a job in pieces of `count` bytes is read, and one that ends after them, or has a byte
 /// after them that the reader did not give, is no JSON. Where it wrote nothing its piece has a
 /// zero, as at first, and no JSON has a byte 0.
-fn is_read_as_given<T: Threads + Wait + Send + Sync + Alloc<A = Global>>(
+fn is_read_as_given<T: Threads + Wait + Clock + Send + Sync + Alloc<A = Global>>(
     rt: &T,
     work: Work,
     reader: Pieces<'_>,

@@ -8,6 +8,7 @@ use std::alloc::Global;
 use std::io::{self, ErrorKind, Read};
 use std::sync::Wait;
 use std::thread::Threads;
+use std::time::Clock;
 
 const PLAIN: Task = Task::Link { trace: false };
 
@@ -138,7 +139,7 @@ pub(crate) fn not_json(task: Task) -> CliFault {
 
 /// Whether a task ends so over a reader: where it ends well this text was written, and else
 /// nothing.
-pub(crate) fn ends<T: Threads + Wait + Send + Sync + Alloc<A = Global>>(
+pub(crate) fn ends<T: Threads + Wait + Clock + Send + Sync + Alloc<A = Global>>(
     rt: &T,
     work: Work,
     reader: Pieces<'_>,

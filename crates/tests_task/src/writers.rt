@@ -6,6 +6,7 @@ use std::alloc::Global;
 use std::io::{self, ErrorKind, Write};
 use std::sync::Wait;
 use std::thread::Threads;
+use std::time::Clock;
 
 /// A writer that takes at most `most` bytes at a time, and sees that they are those of a text.
 /// After as many bytes as its place says it fails `times` times, and then takes the others. Where
@@ -53,7 +54,7 @@ impl Write for Failing {
 
 /// Whether a work ends so over a writer, and the first bytes of its text were written, as many as
 /// counted.
-fn writes<T: Threads + Wait + Send + Sync + Alloc<A = Global>>(
+fn writes<T: Threads + Wait + Clock + Send + Sync + Alloc<A = Global>>(
     rt: &T,
     work: Work,
     writer: Failing,
@@ -69,7 +70,7 @@ fn writes<T: Threads + Wait + Send + Sync + Alloc<A = Global>>(
 /// Whether a failure after `place` bytes is reported, an interruption is not, and pieces of as many
 /// bytes are taken until the whole text is written; and a failure at the flush is reported after
 /// that.
-fn is_written_as_taken<T: Threads + Wait + Send + Sync + Alloc<A = Global>>(
+fn is_written_as_taken<T: Threads + Wait + Clock + Send + Sync + Alloc<A = Global>>(
     rt: &T,
     work: Work,
     place: usize,
