@@ -67,12 +67,14 @@ fn read_hello(bytes: &[u8]) -> Option<(Message, usize)> {
     let to_end = from_end + 1 + number(bytes, from_end, 1)? as usize;
     let from = String::from_utf8(bytes.get(16..from_end)?.to_vec()).ok()?;
     let to = String::from_utf8(bytes.get(from_end + 1..to_end)?.to_vec()).ok()?;
-    let kind =
-        [&b"RGND\x01"[..], b"RGND\x02", b"RGNL\x02"].iter().position(|it| bytes.starts_with(it));
-    let good = is_name(&from) && (to.is_empty() || is_name(&to));
+    let is_look = bytes.starts_with(b"RGNL");
+    let is_first = is_look || bytes.starts_with(b"RGND");
+    // (of looks, version 1 knows nothing)
+    let is_one = is_first && bytes[4] > u8::from(is_look);
+    let good = is_one && is_name(&from) && (to.is_empty() || is_name(&to));
     let (life, label) = (number(bytes, 5, 8)?, number(bytes, 13, 2)? as u16);
     let hello = Hello { version: bytes[4], life, label, from, to };
-    let message = if kind? == 2 { Message::Look(hello) } else { Message::Hello(hello) };
+    let message = if is_look { Message::Look(hello) } else { Message::Hello(hello) };
     good.then_some((message, to_end))
 }
 
@@ -128,6 +130,20 @@ fn frames(bytes: &[u8]) {
     let (mut input, mut at) = (bytes.to_vec(), 0);
     loop {
         let rest = &bytes[at..];
+        if rest.first() == Some(&b'D') {
+            let is_long = number(rest, 7, 4).is_some_and(|it| it > BODY_BYTES as u64);
+            match take(&mut input, Expect::Frames) {
+                Ok(Some(Message::Reference(label, it))) => {
+                    assert!(!is_long);
+                    assert_eq!(wire::reference(label, &it), rest[..52]);
+                }
+                Ok(None) => return assert!(!is_long && rest.len() < 52),
+                Err(_) => return assert!(is_long),
+                other => panic!("{other:?}"),
+            }
+            at += 52;
+            continue;
+        }
         // (where the length lies, how many bytes it has, and how long what follows may be)
         let (place, digits, most) = match rest.first() {
             Some(b'F') => (7, 4, BODY_BYTES),
@@ -196,6 +212,11 @@ fn answers(bytes: &[u8]) {
                 assert_eq!(Some(u64::from(label)), number(rest, 1, 2));
                 at += 3;
             }
+            Ok(Some(Message::Lacks(label))) => {
+                assert_eq!(rest[0], b'N');
+                assert_eq!(Some(u64::from(label)), number(rest, 1, 2));
+                at += 3;
+            }
             Ok(Some(Message::Report(json))) => {
                 assert_eq!((rest[0], Some(json.len())), (b'R', length));
                 assert_eq!(json, rest[5..5 + json.len()]);
@@ -209,7 +230,7 @@ fn answers(bytes: &[u8]) {
             Ok(None) => {
                 let needed = match rest.first() {
                     None => return,
-                    Some(b'A') => 3,
+                    Some(b'A' | b'N') => 3,
                     Some(b'R') => length.map_or(5, |it| 5 + it),
                     _ => panic!("more is waited for of what is no message"),
                 };
@@ -218,7 +239,7 @@ fn answers(bytes: &[u8]) {
             }
             Err(_) => {
                 let is_long = rest[0] == b'R' && length.is_some_and(|it| it > REPORT_BYTES);
-                assert!(is_long || !b"AGR".contains(&rest[0]));
+                assert!(is_long || !b"AGNR".contains(&rest[0]));
                 return;
             }
             other => panic!("{other:?}"),
@@ -329,7 +350,7 @@ fn ready(server: &mut Server) -> Vec<(Ticket, Result<Request, String>)> {
     asked
         .map(|(ticket, asked)| match asked {
             Asked::Request(request) => (ticket, request),
-            Asked::Counts(_) => panic!("they are asked for elsewhere"),
+            Asked::Shown(_) => panic!("they are asked for elsewhere"),
         })
         .collect()
 }
