@@ -21,8 +21,8 @@
  *
  * The calls are those of an archive, librignolda.a. Where RIGNOLDA_INLINE is defined before this
  * header is included, they are `static inline` functions, which need no archive, so also processors
- * for which there is none may have them: rignolda_inline.h says what they are made from, and x86-64
- * is where they are tested. A compiler then knows all that a call does. One program may have both
+ * for which there is none may have them: rignolda_inline.h says what they are made from; they are
+ * tested on x86-64 and arm64. A compiler then knows all that a call does. One program may have both
  * forms, since their structs are the same.
  *
  * What a struct means:
