@@ -713,8 +713,8 @@ class Release(Commands):
         # (what was built there by hand stays)
         ignore = shutil.ignore_patterns("__pycache__", "out", "target")
         for part in ("README.md CHANGELOG.md examples LICENSE Makefile docs man completions "
-                     "include agents install.sh rust/rignolda rust/rignoldad/Cargo.toml "
-                     "rust/rignoldad/packaging page/index.html").split():
+                     "include agents install.sh Containerfile rust/rignolda "
+                     "rust/rignoldad/Cargo.toml rust/rignoldad/packaging page/index.html").split():
             if (TOP / part).is_dir():
                 shutil.copytree(TOP / part, to / part, ignore=ignore, dirs_exist_ok=True)
             elif (TOP / part).exists():

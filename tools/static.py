@@ -72,7 +72,7 @@ def linked(library, program, *files, options=()):
     first, second, archive, last = (library.lib / it for it in FILES)
     return [f"{kit()}/toolchain/bin/ld.lld", "-static", "-pie", "--no-dynamic-linker", "-z", "text",
             "-z", "relro", "-z", "now", "-z", "noexecstack", "-z", f"stack-size={STACK}",
-            "--gc-sections", "--strip-debug", *options, "-o", program, first, second, *files,
+            "--gc-sections", "--strip-all", *options, "-o", program, first, second, *files,
             archive, last]
 
 
