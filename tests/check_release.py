@@ -471,6 +471,12 @@ holds("an archive is one of the sources of its own machine's daemon alone",
 checked("and of that", 31, *[of(it)[0] for it in BY_CARGO])
 run()
 keep()
+checked("what was built before for arm64 is not built again", 33)
+remove(work / "compiled")
+checked("which is the same", 33)
+holds("(the others are)", house.read("compiled").count("aarch64") == 0
+      and house.read("compiled").count("x86_64") > 0)
+remove(top / "out")
 for text in "another", "":
     house.musl(text, "aarch64")
     checked(f"of another C library or none one for arm64 passes that is of the object ({text})",
