@@ -33,7 +33,7 @@ from runner import sure, test
 
 # (each of them tells its tests)
 for name in ("blocked", "floods", "groups", "hooks", "hostile", "memory_faults", "older",
-             "operating", "paged", "parents", "rounds", "store", "watching"):
+             "operating", "paged", "parents", "roots", "rounds", "store", "watching"):
     importlib.import_module(name)
 
 PACKAGING = pathlib.Path(__file__).resolve().parents[2] / "rust/rignoldad/packaging"
@@ -860,7 +860,7 @@ def manuals_and_completions_name_everything():
                                                 capture_output=True, text=True, check=True).stdout
         whole = help_of("rignoldactl")
         commands = re.findall(r"^  ([a-z-]+) +", whole, re.MULTILINE)
-        sure(len(commands) == 16, commands)
+        sure(len(commands) == 18, commands)
         pages = {name: (PACKAGING / name).read_text().replace("\\-", "-") for name in (
             "rignoldactl.1", "rignoldactl.bash", "_rignoldactl", "rignoldactl.fish", "rignoldad.8",
             "rignoldad.toml.5")}

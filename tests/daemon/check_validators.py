@@ -60,6 +60,8 @@ CASES = {
     # (the clock begins at 0 there: 20 days, 14 days and an hour, and 13 days; at first all have 20)
     "RignoldaCertificateExpires": [("certificate_expires_timestamp_seconds", "1728000x80",
                                     "1728000x1 1213200x79", "1728000x1 1123200x79")],
+    "RignoldaTwoRoots": [("other_root", "0x80", "0x39 1x3 0x40", "0x10 1x70")],
+    "RignoldaStandsBy": [("stands_by", "0x80", "0x39 1x3 0x40", "0x10 1x70")],
     "RignoldaDraining": [("draining", "0x160", "0x80 1x80", "0x10 1x150")],
 }
 

@@ -122,6 +122,7 @@ fn setup(name: &str, parents: Vec<Parent<String>>, children: Children<String>) -
     Setup {
         name: name.into(),
         parents,
+        rank: None,
         children,
         ack_timeout: ACK_TIMEOUT,
         evict,

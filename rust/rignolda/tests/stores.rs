@@ -81,6 +81,7 @@ fn setup(name: &str, parents: Vec<Parent<String>>, children: &[&str]) -> Setup<S
     Setup {
         name: name.into(),
         parents,
+        rank: None,
         children: Children::Named(children.iter().map(child).collect()),
         ack_timeout: Duration::from_millis(500),
         evict: Duration::from_secs(60),

@@ -308,6 +308,7 @@ impl Net {
         Setup {
             name: name.into(),
             parents,
+            rank: None,
             children: Children::Named(children.into_iter().map(child).collect()),
             ack_timeout: Duration::from_millis(200),
             evict: Duration::from_secs(3),

@@ -1,7 +1,8 @@
 //! The other end of the control socket: asks an agent, and makes text of what it says.
 use crate::files::{File, Holder};
 use crate::{
-    dotted, unix_now, ChildStatus, Compared, Diff, Difference, Request, Response, Seen, Status,
+    dotted, unix_now, ChildStatus, Compared, Diff, Difference, Request, Response, Seen, Standby,
+    Status,
 };
 use rignolda::settings::is_newer;
 use serde::Serialize;
@@ -199,6 +200,7 @@ pub fn tree_text(list: &[Seen]) -> String {
             () if !seen.connected => format!("away for {}", age(seen.age)),
             () if seen.failing > 0 => format!("{} failing", seen.failing),
             () if !seen.whole => "waits for a whole table".into(),
+            () if seen.stands_by => "stands by: another root is there".into(),
             () if seen.draining => "drains".into(),
             () => up(seen),
         };
@@ -230,7 +232,7 @@ pub fn tree_text(list: &[Seen]) -> String {
 
 /// What is said of an agent that is up.
 fn up(seen: &Seen) -> String {
-    let mut text = "up".to_string();
+    let mut text = if seen.standby { "up, standby" } else { "up" }.to_string();
     if seen.place > 0 {
         let _ = write!(text, ", at its parent {}", seen.place.saturating_add(1));
     }
@@ -299,6 +301,17 @@ pub fn status_text(status: &Status) -> String {
     }
     let lacks = if status.is_rootless() { "no root: " } else { "" };
     fact("way", &format!("{lacks}{}, costs {}", status.way.join(" > "), status.cost));
+    let other = if status.other_root.is_empty() { "another one" } else { &*status.other_root };
+    match status.standby {
+        Standby::No => (),
+        Standby::Below => fact("standby", &"yes, see `promote`"),
+        Standby::Looks => fact("standby", &"it looks for another root before it publishes"),
+        Standby::StandsBy => {
+            fact("standby", &format!("it was the root, and stands by for {other}: see `demote`"));
+        }
+        Standby::Root if status.other_root.is_empty() => fact("standby", &"promoted"),
+        Standby::Root => fact("standby", &format!("promoted, and {other} is another root")),
+    }
     fact("sequence", &status.sequence);
     fact("applied", &status.applied);
     match status.round {

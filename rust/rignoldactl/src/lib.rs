@@ -30,6 +30,13 @@ pub enum Request {
     Status,
     /// This agent, and all that is known of the agents below it.
     Tree,
+    /// Where it may be promoted: makes the agent the root, with what it has applied, or with what
+    /// its root's folder has as it is; and an agent as any other.
+    Promote {
+        #[serde(default)]
+        as_is: bool,
+    },
+    Demote,
     /// At the root: publishes nothing more until `Resume`.
     Drain,
     Resume,
@@ -82,6 +89,10 @@ pub enum Response {
 pub struct Status {
     pub name: String,
     pub is_root: bool,
+    /// What it is where it may be promoted; and the other root that it has found, for which it
+    /// stands by, where that is known.
+    pub standby: Standby,
+    pub other_root: String,
     /// Its program's.
     pub version: String,
     /// The parent that it is connected to, and its place in the list of parents, from 0; and why none
@@ -210,6 +221,8 @@ impl Status {
             round: self.round,
             whole: self.whole,
             draining: self.draining,
+            standby: self.standby == Standby::Below,
+            stands_by: self.standby == Standby::StandsBy,
             backlog: self.children.iter().map(|child| child.backlog).max().unwrap_or(0),
             limit: self.limit,
             harmless: self.harmless,
@@ -260,6 +273,9 @@ pub struct Seen {
     pub round: u64,
     pub whole: bool,
     pub draining: bool,
+    /// Whether it may be promoted; or was the root, and stands by for another one.
+    pub standby: bool,
+    pub stands_by: bool,
     /// The longest backlog for a child of it, and the limit of each.
     pub backlog: u64,
     pub limit: u64,
@@ -368,6 +384,23 @@ pub enum Compared {
     Differs,
     /// It has not heard from which number they are, or does not remember the digest of that.
     NotKnown,
+}
+
+/// What an agent is that may be promoted.
+#[derive(Clone, Copy, Debug, Default, Deserialize, Eq, PartialEq, Serialize)]
+#[serde(rename_all = "kebab-case")]
+pub enum Standby {
+    /// It is none of these.
+    #[default]
+    No,
+    /// An agent as any other.
+    Below,
+    /// The same, since it has found another root.
+    StandsBy,
+    /// The root, before it publishes anything: it looks for another one.
+    Looks,
+    /// The root.
+    Root,
 }
 
 /// How many seconds before a certificate expires it is told.

@@ -79,6 +79,14 @@ enum Command {
         #[arg(long, default_value = "30s", value_parser = time)]
         timeout: Duration,
     },
+    /// Makes an agent with `standby` the root: it publishes what it has applied.
+    Promote {
+        /// It publishes what lies in its root's folder, as it is.
+        #[arg(long)]
+        as_is: bool,
+    },
+    /// Makes it an agent as any other again.
+    Demote,
     /// At the root: publishes nothing more, and waits until all backlogs are empty.
     Drain {
         #[arg(long, default_value = "30s", value_parser = time)]
@@ -159,6 +167,8 @@ fn run(arguments: &Arguments) -> Result<String, Failed> {
         Command::Unset { key } => Request::Unset { key: key.clone() },
         Command::PromoteValue { key } => Request::PromoteValue { key: key.clone() },
         Command::Confirm { digest } => Request::Confirm { digest: digest.unwrap_or(0) },
+        Command::Promote { as_is } => Request::Promote { as_is: *as_is },
+        Command::Demote => Request::Demote,
         Command::Round => Request::Round,
         Command::Resume => Request::Resume,
         Command::Child { what: Child::Add { name } } => Request::ChildAdd { name: name.clone() },

@@ -2,7 +2,7 @@
 _rignoldactl() {
     local word=${COMP_WORDS[COMP_CWORD]} before=${COMP_WORDS[COMP_CWORD - 1]} at command=
     local commands='publish unset round status tree list get wait drain resume diff confirm'
-    commands="$commands promote-value child bounds help"
+    commands="$commands promote demote promote-value child bounds help"
     for ((at = 1; at < COMP_CWORD; at++)); do
         case ${COMP_WORDS[at]} in
         --socket | --timeout | --group) ((at++)) ;;
@@ -20,6 +20,7 @@ _rignoldactl() {
     wait) options="$options --everywhere --group --timeout" ;;
     get) options="$options --everywhere" ;;
     drain) options="$options --timeout" ;;
+    promote) options="$options --as-is" ;;
     child) options="$options add remove" ;;
     esac
     mapfile -t COMPREPLY < <(compgen -W "$options" -- "$word")

@@ -10,15 +10,16 @@ use crate::metrics;
 use crate::page;
 use crate::root::Root;
 use crate::serve::Ticket;
+use crate::standby::{Change, Standby};
 use crate::tree::{Below, EACH};
 use mio::unix::SourceFd;
 use mio::{Events, Interest, Poll, Registry, Token, Waker};
 use rignolda::net::wire::HEAD_BYTES;
-use rignolda::net::{Body, Handler, Peers};
+use rignolda::net::{Body, Handler, Peers, Way};
 use rignolda::settings::{furthest, older, table_of, Meaning, Table, Taker};
 use rignolda_redis::Stores;
 use rignolda_tls::{Caller, Line, Listener, Maker};
-use rignoldactl::{ChildStatus, Compared, Request, Response, Seen, Status};
+use rignoldactl::{ChildStatus, Compared, Request, Response, Seen, Standby as Role, Status};
 use std::collections::{BTreeMap, HashSet};
 use std::fmt::Display;
 use std::io::{self, ErrorKind, Read};
@@ -80,6 +81,8 @@ pub struct Agent {
     peers: Peers<Line, Address>,
     stores: Stores,
     root: Option<Root<Ticket>>,
+    /// Wakes the loop.
+    wake: Arc<dyn Fn() + Send + Sync>,
     state: State,
     servers: Vec<Server>,
     reported: Instant,
@@ -96,6 +99,8 @@ struct State {
     published: Published,
     table: Table,
     applier: Option<Applier>,
+    /// Where it may be promoted.
+    standby: Option<Standby<Ticket>>,
     below: Below,
     /// The number that was furthest ahead of its own when an agent below said that it has it.
     ahead: u64,
@@ -140,7 +145,7 @@ pub fn run(path: &Path, config: Config) -> Result<(), String> {
             }
             notify(&format!("STATUS={}", agent.reload_failed));
         }
-        agent.turn(&fired, now);
+        agent.turn(&fired, now)?;
         agent.check(now).map_err(|what| format!("its memory is spoiled: {what}"))?;
         if watchdog.is_some_and(|part| now >= watched + part) {
             watched = now;
@@ -210,9 +215,27 @@ fn random() -> io::Result<u64> {
 }
 
 impl State {
+    /// Begins as the root, or as an agent below one, of which nothing has come yet.
+    fn begins(&mut self, is_root: bool, now: Instant) {
+        let taker = Taker::new(self.table.taker.floor);
+        self.is_root = is_root;
+        self.published = Published::default();
+        self.table = Table::default();
+        self.table.taker = taker;
+        (self.below, self.ahead) = (Below::default(), 0);
+        (self.round_at, self.changed) = (Some(now), true);
+    }
+
     /// Its own number, that of its files, and the one that is furthest ahead of those below.
     fn numbers(&self) -> [u64; 3] {
         [self.table.taker.number, self.table.taker.floor, self.ahead]
+    }
+
+    /// The digest of its files, where these are a whole table, and nothing waits.
+    fn whole(&self) -> Option<u64> {
+        let number = self.table.taker.number;
+        let applier = self.applier.as_ref().filter(|_| self.table.taker.is_whole())?;
+        applier.files(number).filter(|(before, _)| *before == number).map(|(_, digest)| digest)
     }
 
     /// Whether to say now what a peer can make happen at any rate: once in a second, but in trials.
@@ -318,6 +341,10 @@ impl Handler for State {
         self.below.forget(child);
     }
 
+    fn on_looked(&mut self, at: usize, said: Option<(&Way, u64)>) {
+        self.standby.iter_mut().for_each(|it| it.looked(at, said));
+    }
+
     fn on_fact(&mut self, fact: &'static str, words: std::fmt::Arguments<'_>) {
         self.changed = true;
         journal::lines(fact, [words.to_string()]);
@@ -325,9 +352,8 @@ impl Handler for State {
 }
 
 impl Agent {
-    pub fn new(path: &Path, config: Config) -> Result<Agent, String> {
+    pub fn new(path: &Path, mut config: Config) -> Result<Agent, String> {
         let now = Instant::now();
-        let life = random().map_err(of("/dev/urandom"))?;
         let listen = |address: &Address| {
             Listener::new(address, Some(0o660)).map_err(of(format!("listen: {address}")))
         };
@@ -341,13 +367,18 @@ impl Agent {
         let applier = config.apply.as_ref().map(|it| Applier::new(it, wake.clone())).transpose();
         let applier = applier.map_err(of("apply: its threads cannot be started"))?;
         let applied = applier.as_ref().map_or(BTreeMap::new(), Applier::settings);
-        let root = config.root.as_ref().map(|it| Root::new(it, applied, now, wake.clone()));
-        let root = root.transpose().map_err(of("root: its thread cannot be started"))?;
+        let standby = Standby::new(&config, now, wake.clone());
+        let mut standby = standby.map_err(of("root: its thread cannot be started"))?;
+        config.peers.rank = standby.as_ref().and_then(Standby::rank);
+        let root = match &mut standby {
+            Some(standby) => {
+                standby.has(applied);
+                None
+            }
+            None => begun(&config, applied, now, &wake)?,
+        };
         let mut table = Table::default();
         table.taker = Taker::new(applier.as_ref().map_or(0, Applier::floor));
-        let mut peers = Peers::new(config.peers.clone(), life, config.backlog, now);
-        // (the others are for children that came, files and control)
-        peers.bound_waiting((descriptors() / 4).max(1));
         Ok(Agent {
             path: path.into(),
             maker: maker(&config)?,
@@ -361,18 +392,20 @@ impl Agent {
             listeners: config.listen.iter().map(listen).collect::<Result<_, _>>()?,
             full_until: now,
             caller: Caller::new(wake.clone()),
-            peers,
+            peers: peers(&config, now)?,
             stores: Stores::new(config.store.clone(), silence(&config), wake.clone()),
-            root,
             state: State {
-                is_root: config.root.is_some(),
+                is_root: root.is_some(),
                 table,
                 applier,
+                standby,
                 round_at: Some(now),
                 changed: true,
                 traces: std::env::var_os("RIGNOLDA_TRACE").is_some(),
                 ..State::default()
             },
+            root,
+            wake,
             servers: control.chain(counts).collect::<Result<_, _>>()?,
             reported: now,
             checked: now,
@@ -448,12 +481,13 @@ impl Agent {
         let files = self.state.applying.then(|| now + ASKS_AGAIN);
         let more = self.may_publish().then_some(now);
         let (peers, checks) = (self.peers.deadline(now), Some(self.checked + CHECKS));
-        let all = [peers, root, report, served, full, files, more, expires, checks];
+        let standby = self.state.standby.as_ref().and_then(Standby::deadline);
+        let all = [peers, root, standby, report, served, full, files, more, expires, checks];
         all.into_iter().flatten().min().unwrap_or(now + CLOCK)
     }
 
     /// Does all that can be done now. Mostly there is something to read, and nothing else.
-    fn turn(&mut self, fired: &HashSet<RawFd>, now: Instant) {
+    fn turn(&mut self, fired: &HashSet<RawFd>, now: Instant) -> Result<(), String> {
         self.peers.read(self.ready.drain(..), now, &mut self.state);
         if self.is_due {
             self.stores.done(&mut self.peers, now, &mut self.state);
@@ -468,12 +502,54 @@ impl Agent {
                 root.tick(now);
             }
             self.state.applied();
+            self.stand(now)?;
             self.serve(fired, now);
             self.report(now);
         }
         self.publish(now);
         self.stores.go_on(&mut self.peers, now, &mut self.state);
         self.peers.write(now, &mut self.state);
+        Ok(())
+    }
+
+    /// Where it may be promoted, becomes what it is to be.
+    fn stand(&mut self, now: Instant) -> Result<(), String> {
+        let whole = self.state.whole();
+        let Some(standby) = &mut self.state.standby else { return Ok(()) };
+        whole.into_iter().for_each(|digest| standby.notes(digest));
+        let change = standby.tick(self.config.peers.parents.len(), now);
+        let answers = standby.answers();
+        let (rank, was_root) = (standby.rank(), self.config.peers.rank.is_some());
+        self.config.peers.rank = rank;
+        if rank.is_some() != was_root {
+            self.begins_anew(now)?;
+        }
+        if let Some(Change::Root(number, applied)) = change {
+            self.state.begins(true, now);
+            self.root = begun(&self.config, applied, now, &self.wake)?;
+            self.root.iter_mut().for_each(|root| root.begins_above(number));
+        }
+        for (ticket, done) in answers {
+            let response = done.map_or_else(Response::Refused, |()| Response::Done);
+            say(&mut self.servers, ticket, &control::answer(&response), false);
+        }
+        Ok(())
+    }
+
+    /// Leaves all connections and is there anew, as after a restart, at another place of the tree.
+    /// What it applies goes on.
+    fn begins_anew(&mut self, now: Instant) -> Result<(), String> {
+        let asked = self.root.take().map_or(Vec::new(), Root::ends);
+        let refused = control::answer(&Response::Refused("it is not the root any more".into()));
+        asked.into_iter().for_each(|it| say(&mut self.servers, it, &refused, false));
+        self.state.begins(false, now);
+        (self.lines, self.expires) = (BTreeMap::new(), i64::MAX);
+        self.ready.clear();
+        self.caller = Caller::new(self.wake.clone());
+        self.stores =
+            Stores::new(self.config.store.clone(), silence(&self.config), self.wake.clone());
+        self.peers = peers(&self.config, now)?;
+        Ok(())
     }
 
     /// Each second: brings back what has a bound, and says what else cannot be, as after a fault of
@@ -504,9 +580,22 @@ impl Agent {
             (!listen.all(|it| it)).then_some("it does not listen"),
             applier.zip(apply).and_then(|(applier, config)| applier.fault(config)),
             root.and_then(|(root, config)| root.fault(config)),
+            (!self.is_what_it_is()).then_some("it is the root, and is not"),
+            self.state.standby.as_ref().and_then(|it| it.fault(&self.config)),
             self.stores.fault(&self.peers),
         ];
         faults.into_iter().flatten().next().map_or(Ok(()), Err)
+    }
+
+    /// Whether all that says whether it is the root says the same.
+    fn is_what_it_is(&self) -> bool {
+        let standby = self.config.root.as_ref().map(|root| root.standby);
+        let is_root = match &self.state.standby {
+            Some(standby) => standby.role() == Role::Root,
+            None => standby.is_some(),
+        };
+        let is_there = (standby == Some(true)) == self.state.standby.is_some();
+        is_there && [self.root.is_some(), self.state.is_root] == [is_root; 2]
     }
 
     // ---- Connections
@@ -610,6 +699,7 @@ impl Agent {
     pub fn status(&self, now: Instant) -> Status {
         let millis = |since: Instant| now.saturating_duration_since(since).as_millis() as u64;
         let State { table, applier, .. } = &self.state;
+        let standby = self.state.standby.as_ref();
         let number = table.taker.number;
         let (relay, parent) = (self.peers.relay(), self.peers.parent());
         let faults = self.root.as_ref().map(Root::faults);
@@ -635,6 +725,8 @@ impl Agent {
         Status {
             name: self.config.peers.name.clone(),
             is_root: self.root.is_some(),
+            standby: standby.map_or(Role::No, Standby::role),
+            other_root: standby.map_or(String::new(), |it| it.other().into()),
             version: env!("CARGO_PKG_VERSION").into(),
             failing: applier.as_ref().map_or(0, Applier::failing),
             parent: parent.map(|(parent, _)| parent.to_string()),
@@ -751,6 +843,18 @@ impl Agent {
                 self.peers.remove(&name, now, &mut self.state)?;
                 self.config.peers = self.peers.setup().clone();
             }
+            (Request::Promote { as_is }, _) => {
+                let digest = self.state.whole();
+                let seen = furthest(self.state.table.taker.number, self.state.numbers());
+                let standby = self.state.standby.as_mut();
+                let standby = standby.ok_or("its [root] has no `standby`")?;
+                return standby.promote(!as_is, seen, digest, ticket).map(|()| None);
+            }
+            (Request::Demote, _) => {
+                let standby = self.state.standby.as_mut();
+                let standby = standby.ok_or("its [root] has no `standby`")?;
+                return standby.demote(ticket).map(|()| None);
+            }
             (_, None) => return Err("it is not the root".into()),
             (Request::Key { key }, _) => {
                 return Ok(Some(Response::Key(self.state.published.key(&key))));
@@ -791,10 +895,13 @@ impl Agent {
     fn reload(&mut self, now: Instant) -> Result<(), String> {
         let nothing = |why: String| format!("nothing changes: {}", plain(&why));
         let whys = |faults: Vec<Fault>| faults.iter().map(Fault::to_string).collect::<Vec<_>>();
-        let new = Config::read(&self.path).map_err(|faults| nothing(whys(faults).join("; ")))?;
-        if new.root.is_some() != self.root.is_some() {
+        let mut new =
+            Config::read(&self.path).map_err(|faults| nothing(whys(faults).join("; ")))?;
+        let standby = |config: &Config| config.root.as_ref().map(|root| root.standby);
+        if standby(&new) != standby(&self.config) {
             return Err(nothing("a root is one from its start alone".into()));
         }
+        new.peers.rank = self.config.peers.rank;
         self.maker = maker(&new).map_err(nothing)?;
         let late = self.config.take(new).join(", ");
         if let (Some(applier), Some(apply)) = (&mut self.state.applier, &self.config.apply) {
@@ -835,4 +942,24 @@ fn maker(config: &Config) -> Result<Maker, String> {
         fact!("certificate", "no DNS name of its SAN is `{name}`: others refuse this agent");
     }
     Ok(maker)
+}
+
+/// The connections of an agent that begins.
+fn peers(config: &Config, now: Instant) -> Result<Peers<Line, Address>, String> {
+    let life = random().map_err(of("/dev/urandom"))?;
+    let mut peers = Peers::new(config.peers.clone(), life, config.backlog, now);
+    // (the others are for children that came, files and control)
+    peers.bound_waiting((descriptors() / 4).max(1));
+    Ok(peers)
+}
+
+/// What the root of a configuration publishes, if it is one's.
+fn begun(
+    config: &Config,
+    applied: BTreeMap<String, Vec<u8>>,
+    now: Instant,
+    wake: &Arc<dyn Fn() + Send + Sync>,
+) -> Result<Option<Root<Ticket>>, String> {
+    let root = config.root.as_ref().map(|it| Root::new(it, applied, now, wake.clone()));
+    root.transpose().map_err(of("root: its thread cannot be started"))
 }

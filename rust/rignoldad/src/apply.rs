@@ -34,7 +34,7 @@ use std::time::Duration;
 
 /// The folder of values as they were published, of keys that have one for some group; and their
 /// mode.
-const GROUPS: &str = ".groups";
+pub const GROUPS: &str = ".groups";
 const GROUPS_MODE: u32 = 0o600;
 /// The file that says that a folder is an agent's, and up to which number its files are.
 const MARKER: &str = ".rignolda";

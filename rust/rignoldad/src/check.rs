@@ -44,6 +44,11 @@ pub fn check(paths: &[PathBuf], words: &[String]) -> Vec<(usize, Fault)> {
     it.faults
 }
 
+/// Whether it is the root only once it is promoted.
+fn may_be_promoted(config: &Config) -> bool {
+    config.root.as_ref().is_some_and(|root| root.standby)
+}
+
 struct Check<'a> {
     paths: &'a [PathBuf],
     words: &'a [String],
@@ -73,10 +78,15 @@ impl Check<'_> {
             self.faults[before..].iter_mut().for_each(|it| it.1.line = line);
         }
         if let Some(path) = config.root.as_ref().map(|it| &it.settings) {
+            let standby = may_be_promoted(config);
             let tests = if path.is_dir() { "-r -x" } else { "-r -f" };
             let is_well = self.may("root.settings", path, tests) && config.control.is_some();
-            if is_well && path.is_dir() && !self.test("-w", path) {
-                self.say(0, true, "root.settings", "cannot be written: `publish` is refused");
+            if standby && path.is_file() {
+                self.say(0, false, "root.settings", "is no folder: `promote` is refused");
+            } else if is_well && path.is_dir() && !self.test("-w", path) {
+                let what = if standby { "promote" } else { "publish" };
+                let text = format!("cannot be written: `{what}` is refused");
+                self.say(0, !standby, "root.settings", text);
             }
         }
         if let Some(apply) = &config.apply {
@@ -135,8 +145,12 @@ impl Check<'_> {
                 self.say(at, false, "name", text);
             }
         }
-        for at in roots.iter().skip(1) {
-            self.say(*at, false, "root", format!("{} is the root", paths[roots[0]].display()));
+        for at in roots.iter().filter(|at| !may_be_promoted(&all[**at])) {
+            if let Some(other) = roots.iter().find(|other| *other != at) {
+                let other = paths[*other].display();
+                let text = format!("{other} is a root too, and not both have `standby`");
+                self.say(*at, false, "root", text);
+            }
         }
         let mut above = vec![Vec::new(); all.len()];
         for (at, it) in all.iter().enumerate() {
@@ -164,10 +178,25 @@ impl Check<'_> {
                 }
             }
         }
-        let Some(root) = roots.first() else {
-            return self.say(0, false, "root", "no file has [root]");
-        };
-        let mut depths: Vec<_> = all.iter().map(|it| it.root.as_ref().map(|_| 0)).collect();
+        if roots.is_empty() {
+            self.say(0, false, "root", "no file has [root]");
+        }
+        for root in &roots {
+            for other in roots.iter().filter(|other| *other != root) {
+                if may_be_promoted(&all[*root]) && !above[*root].contains(other) {
+                    let name = &all[*other].peers.name;
+                    let text = format!("`{name}` is missing: two roots look at each other");
+                    self.say(*root, false, "parents", text);
+                }
+            }
+            self.below(all, &above, *root, roots.len() > 1);
+        }
+    }
+
+    /// What does not fit where this one is the root.
+    fn below(&mut self, all: &[Config], above: &[Vec<usize>], root: usize, is_named: bool) {
+        let mut depths = vec![None; all.len()];
+        depths[root] = Some(0);
         // (first by the first parents alone, then by any)
         for most in [1, usize::MAX] {
             while let Some((at, depth)) = (0..all.len()).find_map(|at| {
@@ -177,15 +206,17 @@ impl Check<'_> {
                 depths[at] = Some(depth);
             }
         }
+        let name = if is_named { format!(" `{}`", all[root].peers.name) } else { String::new() };
         for at in (0..all.len()).filter(|at| depths[*at].is_none()) {
             let next = |at: &usize| above[*at].first().copied();
             let way = std::iter::successors(Some(at), next).take(WAY);
             let way: Vec<_> = way.map(|at| &*all[at].peers.name).collect();
-            self.say(at, false, "parents", format!("no way leads to the root: {}", way.join(", ")));
+            let text = format!("no way leads to the root{name}: {}", way.join(", "));
+            self.say(at, false, "parents", text);
         }
-        let least = 2 * depths.into_iter().flatten().max().unwrap_or(0) + 3;
-        if all[*root].root.as_ref().is_some_and(|root| root.harmless < least) {
-            self.say(*root, false, "root.harmless", format!("in this tree it is at least {least}"));
+        let least: u32 = 2 * depths.into_iter().flatten().max().unwrap_or(0) + 3;
+        if all[root].root.as_ref().is_some_and(|root| root.harmless < least) {
+            self.say(root, false, "root.harmless", format!("in this tree it is at least {least}"));
         }
     }
 

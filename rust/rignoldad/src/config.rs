@@ -56,6 +56,8 @@ pub struct Config {
 pub struct Root {
     /// A folder with a file for each setting: the truth.
     pub settings: PathBuf,
+    /// Whether it is an agent as any other until it is promoted.
+    pub standby: bool,
     pub round: Duration,
     /// How many harmless items a round begins with.
     pub harmless: u32,
@@ -184,7 +186,7 @@ impl Config {
 
 /// All keys that there are, those of a table behind its name.
 const KEYS: &str = "name groups listen children parents insecure control metrics metrics_open \
-    root.settings root.round root.harmless root.hold root.unsets \
+    root.settings root.standby root.round root.harmless root.hold root.unsets \
     link.ack_timeout link.backlog link.evict \
     store.user store.password store.database store.poll \
     tls.certificate tls.key tls.authority apply.folder apply.take apply.mode apply.hook \
@@ -345,6 +347,7 @@ impl<'a> Check<'a> {
             listen: listen.iter().filter_map(|text| self.address("listen", text)).collect(),
             peers: Setup {
                 parents: parents.iter().filter_map(|text| self.parent(&name, text)).collect(),
+                rank: None,
                 ack_timeout: self.time("link.ack_timeout", 2_000, 100..=600_000),
                 evict: self.time("link.evict", 60_000, 200..=86_400_000),
                 poll: self.time("store.poll", 100, 5..=60_000),
@@ -354,6 +357,7 @@ impl<'a> Check<'a> {
             backlog: self.number("link.backlog", 1_024, 8..=65_536),
             root: self.has("root").then(|| Root {
                 settings: self.needed("root.settings"),
+                standby: self.is_set("root.standby"),
                 round: self.time("root.round", 30_000, 100..=86_400_000),
                 harmless: self.number("root.harmless", 23, 1..=10_000) as u32,
                 hold: self.is_set("root.hold"),
@@ -407,14 +411,22 @@ impl<'a> Check<'a> {
         }
         let nobody = !has_children && !parent_comes;
         self.refuse("listen", nobody && !nowhere, "nobody may connect: there are no `children`");
-        for parent in peers.parents.iter().filter_map(|parent| parent.name.as_deref()) {
+        // (two roots are each the other's)
+        let standby = config.root.as_ref().filter(|root| root.standby);
+        let named = peers.parents.iter().filter(|_| standby.is_none());
+        for parent in named.filter_map(|parent| parent.name.as_deref()) {
             if matches!(&peers.children, Children::Named(names) if names.contains_key(parent)) {
                 self.fault("children", format!("`{parent}` is a parent"));
             }
         }
-        self.refuse("root", is_root && !parents.is_empty(), "the root has no `parents`");
-        let text = "an agent without [root] has a parent";
-        self.refuse("parents", !is_root && parents.is_empty(), text);
+        if standby.is_some() {
+            self.standby(&config);
+        } else {
+            let text = "the root has no `parents`, unless it has `standby`";
+            self.refuse("root", is_root && !parents.is_empty(), text);
+            let text = "an agent without [root] has a parent";
+            self.refuse("parents", !is_root && parents.is_empty(), text);
+        }
         let least = config.root.as_ref().map_or(0, |root| 4 * (u64::from(root.harmless) + 2));
         let text = format!("at this root it is at least {least}, four rounds");
         self.refuse("link.backlog", config.backlog < least, text);
@@ -452,6 +464,26 @@ impl<'a> Check<'a> {
             }
         }
         Children::Named(children)
+    }
+
+    /// What one that may be promoted needs.
+    fn standby(&mut self, config: &Config) {
+        let parents = &config.peers.parents;
+        let text = "an agent with `standby` has parents until it is promoted, the other root first";
+        self.refuse("parents", parents.is_empty(), text);
+        let may_look = |it: &Parent<Address>| {
+            matches!(&it.address, Some(Address::Tcp(_) | Address::Unix(_))) && it.name.is_some()
+        };
+        let text = "with `standby` each is NAME@ADDRESS, in no store: the root looks at it there";
+        self.refuse("parents", !parents.iter().all(may_look), text);
+        let text = "it is promoted with what it has applied: [apply] is missing";
+        self.refuse("root.standby", config.apply.is_none(), text);
+        let text = "it is promoted by a command: `control` is missing";
+        self.refuse("root.standby", config.control.is_none(), text);
+        let has_children =
+            !matches!(&config.peers.children, Children::Named(names) if names.is_empty());
+        let text = "it has `children` once it is promoted, the other root with them";
+        self.refuse("root.standby", !has_children, text);
     }
 
     fn parent(&mut self, own: &str, text: &str) -> Option<Parent<Address>> {

@@ -17,6 +17,7 @@ pub mod journal;
 pub mod metrics;
 pub mod page;
 pub mod root;
+pub mod standby;
 pub mod tree;
 
 pub use rignolda::net::serve;

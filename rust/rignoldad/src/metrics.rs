@@ -1,16 +1,23 @@
 //! What an agent counts, as text for Prometheus, on a local address.
-use rignoldactl::{ChildStatus, Status};
+use rignoldactl::{ChildStatus, Standby, Status};
 use std::fmt::Write;
 
 /// A number of an agent: its name, its kind, what it is, and how to get it.
 type Number<T> = (&'static str, &'static str, &'static str, fn(&T) -> u64);
 
-const OF_AGENT: [Number<Status>; 27] = [
+const OF_AGENT: [Number<Status>; 30] = [
     ("connected", "gauge", "Whether the agent has its parent; 1 at the root.", |s| {
         u64::from(s.parent.is_some() || s.is_root)
     }),
     ("way_cost", "gauge", "Cost of the way from the root.", |s| s.cost.into()),
     ("rootless", "gauge", "Whether there is no way from a root.", |s| u64::from(s.is_rootless())),
+    ("root", "gauge", "Whether it is the root.", |s| u64::from(s.is_root)),
+    ("stands_by", "gauge", "Whether it was the root, and has found another one.", |s| {
+        u64::from(s.standby == Standby::StandsBy)
+    }),
+    ("other_root", "gauge", "At the root: whether it has found another one.", |s| {
+        u64::from(s.is_root && !s.other_root.is_empty())
+    }),
     ("sequence", "gauge", "Sequence number of the last body.", |s| s.sequence),
     ("applied_sequence", "gauge", "That of the last one applied.", |s| s.applied),
     ("round_sequence", "gauge", "That of the last whole table.", |s| s.round),

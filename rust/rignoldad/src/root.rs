@@ -153,6 +153,27 @@ impl<W> Root<W> {
         Ok(root)
     }
 
+    /// Publishes above this number, at which a promoted agent begins.
+    pub fn begins_above(&mut self, number: u64) {
+        self.publisher.go_above(number);
+    }
+
+    /// Ends it: who asked for something and was not answered.
+    pub fn ends(self) -> Vec<W> {
+        let asked = self.asked.into_iter().flat_map(|asked| match asked {
+            Asked::Changes(changes) => changes.into_iter().map(|(_, who)| who).collect(),
+            Asked::Promote(_, who) => vec![who],
+        });
+        let writing = self.writing.into_iter().flat_map(|writing| match writing {
+            Writing::Changes(all) => all,
+            Writing::Promote(who) => vec![who],
+        });
+        let written = self.written.into_iter().map(|(_, who)| who);
+        let answered = self.answers.into_iter().map(|(who, _)| who);
+        let looking = self.looking.into_iter().chain(self.diffing).chain(writing);
+        asked.chain(written).chain(answered).chain(looking).collect()
+    }
+
     /// Takes a new period and number of harmless items. The folder stays.
     pub fn reload(&mut self, config: &Config, now: Instant) {
         self.next_round = self.next_round.min(now + config.round);

@@ -45,6 +45,8 @@ const READ_BYTES: usize = 16 << 10;
 const JOINED: usize = 16 << 10;
 /// A body that is longer than this is read to its place.
 const LONG: usize = READ_BYTES;
+/// Why a root ends a look that it has taken up.
+const LOOKED: &str = "it was looked at";
 /// How long a connection has to stand to count as one that did, and how often a refusal is said.
 const SHORT: Duration = Duration::from_secs(1);
 
@@ -85,6 +87,9 @@ pub trait Handler {
     fn on_report(&mut self, child: &str, report: &[u8], now: Instant) -> bool;
     /// A child is one no longer: what it said may be forgotten.
     fn on_gone(&mut self, child: &str);
+    /// A root that [has parents](Setup::rank) has looked at the one at this place, which says this
+    /// way, and, where it is a root itself, its rank; or nothing where it could not be looked at.
+    fn on_looked(&mut self, _at: usize, _said: Option<(&Way, u64)>) {}
     /// A fact for a journal: `connected`, `closed`, `refused`, `left-behind`, `evicted`, or
     /// `parent` and `child` where one cannot be connected to, and `clash` where two processes have
     /// the name of one child, which is said once; and its words.
@@ -96,9 +101,14 @@ pub trait Handler {
 pub struct Setup<A> {
     /// The agent's own name.
     pub name: String,
-    /// In the order in which they are tried. Empty at the root alone. [`Parents`] says by what rule
-    /// one of several is chosen.
+    /// In the order in which they are tried. [`Parents`] says by what rule one of several is
+    /// chosen. Who has none is the root.
     pub parents: Vec<Parent<A>>,
+    /// The rank of a root that has parents all the same: it takes none, but looks at each now and
+    /// then, since another root may be above it. Whoever looks at it is told the rank, by which two
+    /// roots that find each other know which of them goes on. None stays none in a
+    /// [new set-up](Peers::set_up), and a root one.
+    pub rank: Option<u64>,
     /// Those below.
     pub children: Children<A>,
     /// How long the answer to a frame, or a hello, may take before the connection is left. Who was
@@ -110,6 +120,19 @@ pub struct Setup<A> {
     pub evict: Duration,
     /// How often a [store](super::Store) is looked at where nothing changes there.
     pub poll: Duration,
+}
+
+impl<A> Setup<A> {
+    /// Whether nobody is above it.
+    pub fn is_root(&self) -> bool {
+        self.parents.is_empty() || self.rank.is_some()
+    }
+
+    /// What the ways over the parents cost besides 1. A root takes none of them.
+    fn prices(&self) -> impl Iterator<Item = Option<u16>> + '_ {
+        let taken = self.parents.iter().filter(move |_| !self.is_root());
+        taken.map(|it| it.price)
+    }
 }
 
 /// A parent. It has a name, an address or both.
@@ -215,8 +238,9 @@ enum State {
     Answered,
     /// The parent at this place has made it, and its way is to come.
     Comes(usize, Hello),
-    /// By it the parent at this place is looked at for this call, and its hello has come or not.
-    Looks(Whom, usize, bool),
+    /// By it the parent at this place is looked at for this call; and the rank that its hello told,
+    /// once it has come.
+    Looks(Whom, usize, Option<u64>),
     /// It is one of the link with this end, whose hello came then or is to come.
     Link(Whom, Connection, Option<Instant>),
 }
@@ -279,7 +303,7 @@ impl<L> Conn<L> {
         match &self.state {
             State::Link(Whom::Child(_), _, Some(_)) => Expect::Acks,
             State::Link(_, _, Some(_)) => Expect::Frames,
-            State::Looks(_, _, true) | State::Comes(..) => Expect::Way,
+            State::Looks(_, _, Some(_)) | State::Comes(..) => Expect::Way,
             _ => Expect::Hello,
         }
     }
@@ -422,11 +446,10 @@ impl<L: Line, A: Clone + PartialEq + fmt::Display> Peers<L, A> {
     /// An agent without connections. `life`: a number that the process drew when it began; `room`:
     /// how many items its list has room for.
     pub fn new(setup: Setup<A>, life: u64, room: u64, now: Instant) -> Peers<L, A> {
-        let prices = setup.parents.iter().map(|it| it.price);
         let mut peers = Peers {
             // (an agent without children makes tables of what it keeps)
-            relay: Relay::new(setup.parents.is_empty(), room, true),
-            parents: Parents::new(&setup.name, prices, false),
+            relay: Relay::new(setup.is_root(), room, true),
+            parents: Parents::new(&setup.name, setup.prices(), false),
             setup,
             life,
             conns: BTreeMap::new(),
@@ -462,7 +485,7 @@ impl<L: Line, A: Clone + PartialEq + fmt::Display> Peers<L, A> {
     pub fn set_up(&mut self, setup: Setup<A>, now: Instant, to: &mut dyn Handler) {
         let cx = &mut Context { now, to };
         let old = mem::replace(&mut self.setup, setup);
-        self.setup.name = old.name;
+        (self.setup.name, self.setup.rank) = (old.name, old.rank);
         if let Children::Named(children) = &self.setup.children {
             let all = self.relay.children().map(|(name, _)| name);
             let gone = all.filter(|name| !children.contains_key(*name));
@@ -474,7 +497,7 @@ impl<L: Line, A: Clone + PartialEq + fmt::Display> Peers<L, A> {
             let who = |it: &Parent<A>| (it.name.clone(), it.address.clone());
             let here = old.parents.get(self.parents.at()).map(who);
             let at = parents.iter().position(|it| Some(who(it)) == here);
-            self.parents.set(parents.iter().map(|it| it.price), at);
+            self.parents.set(self.setup.prices(), at);
             // (a look is at a place of the list)
             let is_look =
                 |conn: &Conn<L>| matches!(conn.state, State::Looks(..) | State::Comes(..));
@@ -499,7 +522,7 @@ impl<L: Line, A: Clone + PartialEq + fmt::Display> Peers<L, A> {
         self.due.set(None);
         let mut whoms = BTreeSet::new();
         for (at, parent) in self.setup.parents.iter().enumerate() {
-            whoms.insert(Whom::Parent);
+            whoms.extend((!self.setup.is_root()).then_some(Whom::Parent));
             whoms.extend(parent.address.as_ref().map(|_| Whom::Candidate(at)));
         }
         if let Children::Named(children) = &self.setup.children {
@@ -726,6 +749,7 @@ impl<L: Line, A: Clone + PartialEq + fmt::Display> Peers<L, A> {
         let is_connected = match whom {
             Whom::Parent => self.above.is_some(),
             Whom::Child(name) => self.children.contains_key(name),
+            Whom::Candidate(_) if self.setup.is_root() => false,
             Whom::Candidate(at) => {
                 let above = self.above.and_then(|id| self.conns.get(&id));
                 let is_old = above.map_or(false, |it| it.is_old() && it.greeted().is_some());
@@ -822,7 +846,7 @@ impl<L: Line, A: Clone + PartialEq + fmt::Display> Peers<L, A> {
         let looks = !is_old && !is_child;
         let made = line.and_then(|line| {
             let number = match whom {
-                _ if looks => return Ok((line, State::Looks(whom.clone(), at, false))),
+                _ if looks => return Ok((line, State::Looks(whom.clone(), at, None))),
                 Whom::Child(name) => self.relay.made_to(name),
                 _ => self.relay.made(),
             };
@@ -860,7 +884,7 @@ impl<L: Line, A: Clone + PartialEq + fmt::Display> Peers<L, A> {
     }
 
     /// Says a hello where it is one of a link; else it looks at a candidate, or answers that: by
-    /// that no life is told, and no label.
+    /// that no life is told, but the rank of a root, and no label.
     fn say(&mut self, id: u64, to: String) {
         if let Some(conn) = self.conns.get(&id) {
             let whom = conn.link().map(|(whom, _)| whom);
@@ -879,7 +903,7 @@ impl<L: Line, A: Clone + PartialEq + fmt::Display> Peers<L, A> {
             Some(Whom::Parent) => (self.told(), self.relay.label()),
             Some(_) if version == OLD => (self.life, self.relay.label()),
             Some(_) => (self.life, Hello::range(OLD..=VERSION)),
-            None => (0, Hello::range(OLD..=VERSION)),
+            None => (self.setup.rank.unwrap_or(0), Hello::range(OLD..=VERSION)),
         };
         Hello {
             version,
@@ -968,9 +992,15 @@ impl<L: Line, A: Clone + PartialEq + fmt::Display> Peers<L, A> {
         }
         let rounds = (dial.failed / all).min(5);
         (dial.mute, dial.failed) = (0, dial.failed.saturating_add(1));
+        if let Whom::Candidate(at) = whom {
+            let is_told = why == LOOKED || !self.setup.is_root();
+            (!is_told).then(|| cx.to.on_looked(*at, None));
+        }
         // (each agent at its own time, so that a parent that is back is not run over)
         let drawn = (self.life ^ self.made.wrapping_mul(0x9e37_79b9_7f4a_7c15)) % 1_000;
         let pause = match whom {
+            Whom::Candidate(_) if self.setup.is_root() && why == LOOKED => BEAT,
+            Whom::Candidate(_) if self.setup.is_root() => BEAT / 2,
             Whom::Candidate(at) => self.parents.pause(*at),
             _ => Duration::from_millis(50 << rounds),
         };
@@ -1361,7 +1391,7 @@ impl<L: Line, A: Clone + PartialEq + fmt::Display> Peers<L, A> {
         let conn = self.conns.get_mut(&id).ok_or("it is gone")?;
         conn.version = version;
         match (&mut conn.state, whom) {
-            (State::Looks(_, _, has_come), _) if is_look => *has_come = true,
+            (State::Looks(_, _, rank), _) if is_look => *rank = Some(hello.life),
             (State::Link(Whom::Child(_), ..), _) if is_look => {
                 return Err("it has another parent".into());
             }
@@ -1434,7 +1464,11 @@ impl<L: Line, A: Clone + PartialEq + fmt::Display> Peers<L, A> {
         let conn = self.conns.get(&id).ok_or("it is gone")?;
         let since = conn.since;
         match conn.state.clone() {
-            State::Looks(whom, at, true) => {
+            State::Looks(_, at, Some(rank)) if self.setup.is_root() => {
+                cx.to.on_looked(at, Some((&way, rank)));
+                return Err(LOOKED);
+            }
+            State::Looks(whom, at, Some(_)) => {
                 self.parents.looked(at, &way)?;
                 self.leave(at, cx);
                 if whom != Whom::Parent {

@@ -175,6 +175,11 @@ impl Relay {
         }
     }
 
+    /// Whether it is the root's.
+    pub(crate) fn is_root(&self) -> bool {
+        matches!(self.above, Above::Root(_))
+    }
+
     /// How many items it has room for.
     pub fn room(&self) -> u64 {
         self.room

@@ -65,7 +65,7 @@ pub struct Hello {
     /// Which version of the protocol the end speaks here.
     pub version: u8,
     /// A number that the process drew when it began. A parent that comes after another
-    /// one is told a further one.
+    /// one is told a further one. A look has the rank of a root instead, or 0.
     pub life: u64,
     /// What the receiver remembers; or, in a look and where a parent begins, the
     /// [range](Hello::range) of versions.

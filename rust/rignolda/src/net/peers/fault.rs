@@ -110,7 +110,8 @@ impl<L: Line, A: Clone + PartialEq + fmt::Display> Peers<L, A> {
             ..
         } = &self.setup;
         let has_address = |it: &&Option<A>| it.is_some();
-        let mut calls = usize::from(!parents.is_empty());
+        let is_root = self.setup.is_root();
+        let mut calls = usize::from(!is_root);
         calls += parents.iter().filter(|it| it.address.is_some()).count();
         let mut is_set_up = true;
         if let Children::Named(children) = children {
@@ -132,11 +133,13 @@ impl<L: Line, A: Clone + PartialEq + fmt::Display> Peers<L, A> {
         };
         let are_known = self.conns.iter().all(is_known) && connected == self.children.len();
         let has_above = self.above.map_or(true, |id| self.conns.contains_key(&id));
-        let prices = parents.iter().map(|it| it.price);
         match () {
+            () if is_root != self.relay.is_root() => Some("it is the root, and is not"),
             () if !is_set_up => Some("its children are other ones"),
             () if self.waiting != !self.not_waiting => Some("other ones may wait"),
-            () if !self.parents.are(name, prices) => Some("its parents are other ones"),
+            () if !self.parents.are(name, self.setup.prices()) => {
+                Some("its parents are other ones")
+            }
             () if self.dials.len() != calls || !self.dials.keys().all(is_called) => {
                 Some("it calls other ones")
             }

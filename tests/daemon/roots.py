@@ -1,0 +1,447 @@
+#!/usr/bin/env python3
+"""A second root: it is promoted when the first one is gone, and of two roots one goes on.
+
+    tests/daemon/roots.py [WORD..]                 by itself; check.py runs it with all others
+    tests/daemon/roots.py --trials 100 --seed 1    kills, by hand
+
+In a trial two agents that may be the root, and four others, are changed and killed all the time.
+At a drawn moment the root is killed for ever, or cut off from the other one and goes on; the other
+one is promoted, and may be killed meanwhile. Two rounds later all have to have what its folder has.
+Then the old root is back, with a folder that somebody has changed, and has to change nothing.
+"""
+import argparse
+import concurrent.futures
+import random
+import subprocess
+import sys
+import time
+
+from daemons import Tree, by_tls, counted, free_port, read, until
+from runner import main, sure, test
+
+ROUND = 0.5
+SHAPE = {"second": "root", "left": "root", "right": "root", "leaf": "left", "deep": "leaf"}
+
+
+def at(agent, port=None):
+    return f"{agent.name}@127.0.0.1:{port or agent.port}"
+
+
+def two(tree):
+    """Either of two agents may be the root; the others are below either."""
+    root, second = tree.root, tree["second"]
+    racks = [agent.name for agent in tree if agent.parent is root and agent is not second]
+    second.truth = second.home / "truth"
+    second.truth.mkdir()
+    for one, other in ((root, second), (second, root)):
+        one.tables["root"] = {"settings": str(one.truth), "round": f"{int(ROUND * 1_000)}ms",
+                              "standby": True}
+        one.top.update(parents=[at(other)], children=[other.name, *racks])
+    for name in racks:
+        tree[name].top["parents"] = [at(root), at(second)]
+
+
+def begin(tree):
+    """Starts all, and makes the first one the root of what lies in its folder."""
+    for number in range(8):
+        tree.write(f"key{number}", f"value {number}")
+    tree.start()
+    root = tree.root
+    sure(until(root.socket.exists), root.text())
+    root.ask("promote", "--as-is")
+    sure(tree.ready() and tree.right(), [agent.text()[-300:] for agent in tree])
+
+
+def change(agent, key, value):
+    """Changes the folder of a root as an editor does."""
+    new = agent.truth / f".{key}.new"
+    new.write_bytes(value if isinstance(value, bytes) else str(value).encode())
+    new.rename(agent.truth / key)
+
+
+def wrong(tree, truth, agents=None):
+    """Who has not what this folder has, of those that run."""
+    there = [agent for agent in (agents or tree) if agent.alive()]
+    return [agent.name for agent in there if agent.files() != truth]
+
+
+def right(tree, agent, seconds=15, agents=None):
+    """Whether all that run come to have what this root's folder has."""
+    return until(lambda: not wrong(tree, read(agent.truth), agents), seconds, 0.05)
+
+
+def is_now(agent, what, other=""):
+    """Whether an agent comes to say that it is this."""
+    def says():
+        status = agent.request(do="status").get("status", {})
+        return (status.get("standby"), status.get("other_root")) == (what, other)
+    return until(says, pause=0.05)
+
+
+def goes_on(rounds=3):
+    """Waits for as long as so many rounds of a root take."""
+    time.sleep(rounds * ROUND)
+
+
+def strays(tree):
+    return {agent.name: agent.request(do="status").get("status", {}).get("strays")
+            for agent in tree if agent.alive()}
+
+
+@test(begins=True)
+def an_agent_that_is_promoted_goes_on_and_the_old_root_stands_by():
+    with Tree(SHAPE, lambda tree: (two(tree), by_tls(tree), counted(tree))) as tree:
+        root, second, others = tree.root, tree["second"], ["left", "right", "leaf", "deep"]
+        begin(tree)
+        # what lies in the folder of one that is not promoted is nobody's
+        change(second, "key0", "of long ago")
+        change(second, "stale", "1")
+        second.restart()
+        sure(is_now(second, "below"), second.text())
+        goes_on()
+        sure(not tree.wrong(), tree.wrong())
+        done = second.run("publish", "key0", "x")
+        sure(done.returncode == 1 and "not the root" in done.stderr, done)
+        done = tree["left"].run("promote")
+        sure(done.returncode == 1 and "no `standby`" in done.stderr, done)
+        seen = {it["name"]: it for it in root.ask("tree")}
+        sure(seen["second"]["standby"] and not seen["left"]["standby"], seen)
+        # (its numbers are ahead of the others' clocks)
+        root.kill()
+        far = int((time.time() + 86_400) * 1e6)
+        (root.truth / ".root").write_text(f"{far:020}\n")
+        root.start()
+        sure(is_now(root, "root"), root.text())
+        sure(until(lambda: second.status()["applied"] > far), second.status())
+        # others have more than it has seen, and then there is no root
+        known = second.files()
+        second.kill()
+        number = 0
+        for turn in range(20):
+            number = root.ask("publish", "later", str(turn))["sequence"]
+        sure(until(lambda: tree["deep"].files().get("later") == b"19"), tree["deep"].files())
+        root.kill()
+        before = strays(tree)
+        second.start()
+        sure(is_now(second, "below") and second.files() == known)
+        second.ask("promote")
+        sure(is_now(second, "root"), second.text())
+        sure(read(second.truth) == known and right(tree, second), wrong(tree, known))
+        # (nothing that it published was older than what they had)
+        sure(strays(tree) == {**before, "second": 0}, before, strays(tree))
+        sure(second.status()["sequence"] > number, second.status(), number)
+        change(second, "key1", "of the second")
+        second.ask("publish", "key2", "of the second too")
+        sure(right(tree, second), wrong(tree, read(second.truth)))
+        # it stays the root, and nothing is held of what it has applied
+        second.tables["root"]["hold"] = True
+        second.restart()
+        sure(is_now(second, "root") and right(tree, second), second.text())
+        sure(second.status()["held"] == 0, second.status())
+        change(second, "key3", "looked at")
+        diff = lambda: second.ask("diff")["changes"]
+        sure(until(lambda: diff() == [{"key": "key3", "bytes": 9}]), diff())
+        second.ask("confirm")
+        sure(right(tree, second), wrong(tree, read(second.truth)))
+        # the old root is back, with a folder of its own
+        truth = read(second.truth)
+        change(root, "key1", "of the old root")
+        change(root, "mine", "1")
+        begun = root.said("this is the root now")
+        root.start()
+        sure(is_now(root, "stands-by", "second"), root.text())
+        goes_on()
+        below = [agent for agent in tree if agent is not root]
+        sure(not wrong(tree, truth, below), wrong(tree, truth))
+        sure(right(tree, second), wrong(tree, truth))
+        sure(root.said("second is another root: this one stands by"), root.text())
+        sure(root.said("this is the root now") == begun, root.text())
+        sure("\nrignolda_stands_by 1\n" in root.counts()[1], root.counts()[1])
+        sure("stands by for second" in root.run("status").stdout, root.run("status").stdout)
+        tree_of = lambda: {it["name"]: it["stands_by"] for it in second.ask("tree")}
+        sure(until(lambda: tree_of().get("root")), tree_of())
+        sure("stands by" in second.run("tree").stdout, second.run("tree").stdout)
+        # also where the other one is gone again: nobody chooses a root but an operator
+        second.kill()
+        root.restart()
+        sure(is_now(root, "stands-by"), root.text())
+        goes_on()
+        sure(not wrong(tree, truth), wrong(tree, truth))
+        sure(root.status()["parent"] is None, root.status())
+        second.start()
+        sure(is_now(second, "root") and right(tree, second), second.text())
+        root.ask("demote")
+        sure(is_now(root, "below") and right(tree, second), root.text())
+        done = root.run("demote")
+        sure(done.returncode == 1 and "is not the root" in done.stderr, done)
+        # and back again, as it is planned: the second one sees it, and gives way
+        sure(second.request(do="drain") == "done", second.text())
+        root.ask("promote")
+        sure(is_now(root, "root"), root.text())
+        sure(is_now(second, "stands-by", "root"), second.text())
+        change(root, "key1", "of the first one again")
+        sure(right(tree, root) and tree["deep"].files()["key1"] == b"of the first one again",
+             wrong(tree, read(root.truth)))
+        second.ask("demote")
+        sure(is_now(second, "below"), second.text())
+        # a folder that is not as it was applied is not published
+        root.ask("demote")
+        sure(until(lambda: second.status()["cost"] >= 128), second.status())
+        second.ask("wait")
+        (second.settings / "key0").write_text("drifted")
+        done = second.run("promote")
+        sure(done.returncode == 1 and "not a whole table" in done.stderr, done)
+        sure(not (second.truth / ".root").exists() and is_now(second, "below"), second.text())
+        sure(others and not any(agent.said("panicked") for agent in tree))
+
+
+def cut(tree, is_cut):
+    """Cuts the two roots off from each other, or no more."""
+    for one, other in ((tree.root, tree["second"]), (tree["second"], tree.root)):
+        one.top["parents"] = [at(other, free_port() if is_cut else None)]
+        one.reload()
+
+
+@test
+def of_two_roots_that_find_each_other_one_goes_on():
+    with Tree({"second": "root", "left": "root", "leaf": "left"}, two) as tree:
+        root, second, left = tree.root, tree["second"], tree["left"]
+        begin(tree)
+        for is_demoted in (True, False):
+            cut(tree, True)
+            sure(until(lambda: second.status()["parent"] is None), second.text())
+            second.ask("promote")
+            change(second, "who", "second")
+            change(root, "who", "root")
+            sure(right(tree, root, agents=[root, left, tree["leaf"]]), root.text())
+            sure(right(tree, second, agents=[second]), second.text())
+            goes_on(2)
+            if is_demoted:
+                # (by hand, while it does not see the other one)
+                root.ask("demote")
+                sure(right(tree, second, agents=[left, second, tree["leaf"]]), second.text())
+                sure(is_now(root, "below"), root.text())
+            cut(tree, False)
+            if not is_demoted:
+                sure(is_now(root, "stands-by", "second"), root.text())
+            sure(right(tree, second), wrong(tree, read(second.truth)))
+            sure(tree["leaf"].files()["who"] == b"second", tree["leaf"].files())
+            sure(is_now(second, "root"), second.status())
+            if is_demoted:
+                root.ask("promote")
+                sure(is_now(second, "stands-by", "root") and right(tree, root), second.text())
+                second.ask("demote")
+
+
+@test
+def a_spoiled_mark_of_a_root_is_harmless_or_refused():
+    with Tree({"second": "root", "left": "root"}, two) as tree:
+        root, mark = tree.root, tree.root.truth / ".root"
+        begin(tree)
+        for spoiled in (b"", b"\xff" * 9, b"12", mark.read_bytes()[:7] + b"x\n", b"0" * 5_000):
+            root.kill()
+            mark.write_bytes(spoiled)
+            change(root, "key0", spoiled[:9])
+            root.start()
+            sure(is_now(root, "root") and tree.right(), spoiled, root.text())
+        sure(root.said(".root has no number: any other root goes on"), root.text())
+        root.kill()
+        mark.unlink()
+        mark.mkdir()
+        change(root, "key0", "never")
+        root.start()
+        sure(is_now(root, "stands-by") and root.said(".root is no plain file"), root.text())
+        goes_on()
+        sure(tree["left"].files()["key0"] != b"never", tree["left"].files())
+        mark.rmdir()
+        root.ask("promote", "--as-is")
+        sure(is_now(root, "root") and tree.right(), root.text())
+
+
+@test
+def the_files_of_two_roots_are_checked():
+    with Tree({"second": "root", "left": "root"}, two) as tree:
+        def check(*agents):
+            for agent in tree:
+                agent.configure()
+            words = [tree.bin / "rignoldad", "--check", "--user", "root"]
+            words += [agent.file for agent in agents]
+            done = subprocess.run(words, capture_output=True, text=True, timeout=60)
+            return done.returncode, done.stderr
+
+        root, second, left = tree.root, tree["second"], tree["left"]
+        sure(check(*tree) == (0, ""), check(*tree))
+        sure(check(root) == (0, ""), check(root))
+
+        def finds(what, why, *agents):
+            """Whether it is found once this is changed, which is undone then."""
+            agent, table, key, value = what
+            keys = agent.tables[table] if table else agent.top
+            old = keys.get(key)
+            keys.update({key: value}) if value is not None else keys.pop(key)
+            done = check(*(agents or tree))
+            keys.update({key: old}) if old is not None else keys.pop(key)
+            sure(done[0] == 1 and why in done[1], why, done)
+
+        finds((second, "root", "standby", False), "unless it has `standby`")
+        finds((second, "", "parents", []), "has parents until it is promoted")
+        finds((second, "", "parents", ["root@redis://127.0.0.1:1/x"]), "in no store")
+        finds((second, "", "parents", [at(left)]), "two roots look at each other")
+        finds((second, "root", "harmless", 1), "it is at least 7")
+        finds((second, "root", "settings", str(second.file)), "`promote` is refused", second)
+        apply = second.tables.pop("apply")
+        done = check(second)
+        sure(done[0] == 1 and "[apply] is missing" in done[1], done)
+        second.tables["apply"] = apply
+
+
+# ---- Kills, by hand
+
+class Trial:
+    """One tree, in which roots are killed for ever one after the other."""
+
+    def __init__(self, seed):
+        self.draw = random.Random(seed)
+        self.tree = Tree(SHAPE, two)
+        self.root, self.other = self.tree.root, self.tree["second"]
+        begin(self.tree)
+        self.turn = 0
+
+    def changes(self, agent, count):
+        """Some changes of a root's folder, and some kills of others."""
+        for _ in range(count):
+            self.turn += 1
+            key = f"key{self.draw.randrange(40)}"
+            kind = self.draw.random()
+            if kind < 0.15:
+                (agent.truth / key).unlink(missing_ok=True)
+            elif kind < 0.3:
+                agent.request(1, do="publish", key=key, value=self.draw.randbytes(40).hex())
+            else:
+                size = self.draw.choice([0, 10, 300, 3_000, 100_000])
+                change(agent, key, self.draw.randbytes(size))
+            if self.draw.random() < 0.1:
+                others = [it for it in self.tree if it.alive() and it is not agent]
+                self.draw.choice(others).restart()
+            time.sleep(self.draw.choice([0, 0, 0.01, 0.05]))
+
+    def promote(self, agent):
+        """Has it promoted, also where it is killed meanwhile; else it is told what to publish."""
+        if self.draw.random() < 0.3:
+            with concurrent.futures.ThreadPoolExecutor(1) as pool:
+                asked = pool.submit(agent.request, 20, do="promote")
+                time.sleep(self.draw.choice([0, 0.001, 0.003, 0.01, 0.03]))
+                agent.restart()
+                asked.result()
+        applied = None
+
+        def is_root():
+            nonlocal applied
+            sure(agent.alive(), agent.text()[-500:])
+            found = agent.request(do="status").get("status", {})
+            if found.get("standby") == "root":
+                return True
+            applied = agent.files()
+            said = agent.request(20, do="promote")
+            return said == "done" or said
+        # (whoever was killed while it applied a table has none that is whole)
+        said = None
+        for _ in range(200):
+            said = is_root()
+            if said is True:
+                return "promoted"
+            if "not a whole table" in str(said):
+                break
+            time.sleep(0.05)
+        sure("not a whole table" in str(said), said, agent.text()[-500:])
+        for path in agent.truth.iterdir():
+            if not path.name.startswith("."):
+                path.unlink()
+        for key, value in agent.files().items():
+            change(agent, key, value)
+        sure(agent.request(20, do="promote", as_is=True) == "done", agent.text()[-500:])
+        return "by hand"
+
+    def two_rounds(self, agent):
+        """Whether two rounds later all have what its folder has; else for how long it took."""
+        start = None
+        rounds = lambda: agent.request(do="status").get("status", {}).get("round")
+        sure(until(lambda: rounds(), pause=0.02), agent.text()[-500:])
+        for _ in range(2):
+            start = rounds()
+            sure(until(lambda: rounds() not in (None, start), pause=0.02), agent.text()[-500:])
+        # (the last one has to come down)
+        begun = time.monotonic()
+        sure(right(self.tree, agent), "not right:", wrong(self.tree, read(agent.truth)))
+        return time.monotonic() - begun
+
+    def go(self):
+        """One kill, and what follows: what was done, and how long the last round took."""
+        root, other, draw = self.root, self.other, self.draw
+        self.changes(root, draw.randrange(1, 30))
+        is_cut = draw.random() < 0.3
+        if is_cut:
+            cut(self.tree, True)
+            parent = lambda: other.request(do="status").get("status", {}).get("parent", 1)
+            sure(until(lambda: parent() is None, pause=0.05), other.text()[-500:])
+            self.changes(root, draw.randrange(1, 10))
+        else:
+            root.kill()
+        how = self.promote(other)
+        self.changes(other, draw.randrange(0, 20))
+        if is_cut:
+            self.changes(root, draw.randrange(0, 20))
+            if draw.random() < 0.5:
+                sure(root.request(20, do="demote") == "done", root.text()[-500:])
+            cut(self.tree, False)
+            sure(is_now(root, "below") or is_now(root, "stands-by", other.name), root.text()[-500:])
+            late = self.two_rounds(other)
+        else:
+            late = self.two_rounds(other)
+            truth = read(other.truth)
+            change(root, f"old{self.turn}", "of the old root")
+            root.start()
+            sure(is_now(root, "stands-by", other.name), root.text()[-500:])
+            goes_on(2)
+            others = [agent for agent in self.tree if agent is not root]
+            sure(not wrong(self.tree, truth, others), "changed:", wrong(self.tree, truth, others))
+            sure(right(self.tree, other), "the old root:", wrong(self.tree, truth))
+        if root.request(do="status")["status"]["standby"] == "stands-by":
+            sure(root.request(20, do="demote") == "done", root.text()[-500:])
+        self.root, self.other = other, root
+        return ("both" if is_cut else "killed"), how, late
+
+
+def trials(count, seed, trees):
+    """So many kills, in several trees at once."""
+    def work(which):
+        done, trial = [], Trial(f"{seed} {which}")
+        with trial.tree:
+            for _ in range(which, count, trees):
+                try:
+                    done.append(trial.go())
+                except Exception as error:
+                    done.append(("FAILED", repr(error)[:600], 0))
+                    print(seed, which, len(done), done[-1], flush=True)
+                    break
+        return done
+
+    with concurrent.futures.ThreadPoolExecutor(trees) as pool:
+        done = sum(pool.map(work, range(trees)), [])
+    for kind in sorted({it[:2] for it in done}):
+        late = [it[2] for it in done if it[:2] == kind]
+        print(*kind, len(late), "the last round came down within", f"{max(late):.2f} s")
+    failed = sum(it[0] == "FAILED" for it in done)
+    print(f"{len(done) - failed} passed, {failed} failed")
+    return 1 if failed else 0
+
+
+if __name__ == "__main__":
+    words = argparse.ArgumentParser(add_help=False)
+    words.add_argument("--trials", type=int)
+    words.add_argument("--seed", default="1")
+    words.add_argument("--trees", type=int, default=4)
+    chosen, rest = words.parse_known_args()
+    if chosen.trials:
+        sys.exit(trials(chosen.trials, chosen.seed, chosen.trees))
+    sys.exit(main())
