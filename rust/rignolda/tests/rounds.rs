@@ -93,6 +93,7 @@ impl Agent {
         let setup = Setup {
             name: if is_root { "root" } else { "a" }.into(),
             parents: (!is_root).then_some(parent).into_iter().collect(),
+            rank: None,
             children: Children::Named(is_root.then(|| ("a".into(), None)).into_iter().collect()),
             ack_timeout: Duration::from_millis(500),
             evict: Duration::from_secs(60),

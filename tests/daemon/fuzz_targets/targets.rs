@@ -474,6 +474,7 @@ fn agent(bytes: &[u8]) {
     let setup = Setup {
         name: "inner".into(),
         parents: vec![
+        rank: None,
             parent("hub1", None),
             parent("hub2", Some("line")),
             parent("hub3", Some("store")),
