@@ -473,8 +473,8 @@ fn agent(bytes: &[u8]) {
         |name: &str, address| Parent { name: Some(name.to_string()), address, price: None };
     let setup = Setup {
         name: "inner".into(),
-        parents: vec![
         rank: None,
+        parents: vec![
             parent("hub1", None),
             parent("hub2", Some("line")),
             parent("hub3", Some("store")),
