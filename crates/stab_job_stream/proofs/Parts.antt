@@ -21,7 +21,7 @@ put_both false name k d ms us is same =
 
 -- what is held of a member stays, where another one is put
 holds_on : {X : Type 0} (meaning : Data → Option X) (name k : List ℕ) (d : Data) (ms : Members) (read : Option X) → name ≢ k → Holds meaning name ms read → Holds meaning name (put k d ms) read
-holds_on meaning name k d ms None other h = h
+holds_on meaning name k d ms None other h = get_member-put_other name k d ms other ∙ h
 holds_on meaning name k d ms (Some x) other h = ap (λ o. o >>= meaning) (get_member-put_other name k d ms other) ∙ h
 
 -- so do the steps

@@ -4,4 +4,5 @@ pub mod Entries
 pub mod Members
 pub mod Meaning
 pub mod Jobs
+pub mod Plain
 pub mod Leads

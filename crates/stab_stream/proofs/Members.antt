@@ -25,7 +25,7 @@ still_no_others k d ms apart none = λ name other. get_member-put_other name k d
 
 -- what was read of the events stays as well
 events_hold_on : (k : List ℕ) (d : Data) (ms : Members) (read : Option (Option (List Event))) → Apart (codes "events") k → HoldsEvents ms read → HoldsEvents (put k d ms) read
-events_hold_on k d ms None apart h = h
+events_hold_on k d ms None apart h = stays (codes "events") k d ms apart ∙ h
 events_hold_on k d ms (Some events) apart h = (h.0, ap (λ o. o >>= as_array) (stays (codes "events") k d ms apart) ∙ h.1, h.2, h.3)
 
 module _ {X : Type 0} (meaning : Data → Option X) where
@@ -33,7 +33,7 @@ module _ {X : Type 0} (meaning : Data → Option X) where
   put_there k d ms x is = ap (λ o. o >>= meaning) (get_member-put k d ms) ∙ is
 
   holds_on : (q k : List ℕ) (d : Data) (ms : Members) (read : Option X) → Apart q k → Holds meaning q ms read → Holds meaning q (put k d ms) read
-  holds_on q k d ms None apart h = h
+  holds_on q k d ms None apart h = stays q k d ms apart ∙ h
   holds_on q k d ms (Some x) apart h = ap (λ o. o >>= meaning) (stays q k d ms apart) ∙ h
 
   list_put : (k : List ℕ) (d : Data) (ms : Members) (xs : List X) → list_of meaning d ≡ Some xs → list_or_absent meaning (get_member k (put k d ms)) ≡ Some xs

@@ -1,3 +1,4 @@
 pub mod Standing
 pub mod Members
 pub mod Leads
+pub mod Plain

@@ -2,7 +2,7 @@
 -- Example: Of `"capacity": 1, "labels": 4` the capacity is 1, there are four labels, and there is no
 -- member but those of a link job. An object with a member `tree` has another one.
 -- Source: this project's own.
-use Rattle.std.specs.Prelude.{◌≡◌, ◌≢◌, ◌≤◌, ℕ, codes, List, Option, Some, None, IfSome}
+use Rattle.std.specs.Prelude.{◌≡◌, ◌≢◌, ◌≤◌, ℕ, codes, List, Option, Some, None, MatchOption}
 use Rattle.stab_core.specs.declared.event.Event.{Event}
 use Rattle.stab_core.specs.declared.start.Start.{Start}
 use Rattle.stab_frames.specs.Parameters.{Parameters}
@@ -26,9 +26,10 @@ in_member = 126
 abbrev pub in_start : ℕ
 in_start = 125
 
--- what was read of a member, if anything, is what the member of that name means
+-- what was read of a member is what the member of that name means; where nothing was, there is none
 abbrev pub Holds : {X : Type 0} → (Data → Option X) → List ℕ → Members → Option X → Type 0
-Holds meaning name ms read = IfSome read (λ x. get_member name ms >>= meaning ≡ Some x)
+Holds meaning name ms read = MatchOption read (get_member name ms ≡ None)
+    (λ x. get_member name ms >>= meaning ≡ Some x)
 
 -- the members of a start
 abbrev pub HasStart : List Frame → List ℕ → Option ℕ → Option ℕ → Members → Type 0
@@ -47,10 +48,10 @@ IsOther name = (name ≢ codes "capacity") × (name ≢ codes "labels") × (name
 abbrev pub HasNoOthers : Data → Type 0
 HasNoOthers d = (name : List ℕ) → IsOther name → get name d ≡ None
 
--- what was read of the events, if anything, is what a list of no more entries than a job may have
--- means: its events, or none where an entry is no event
+-- what was read of the events is what a list of no more entries than a job may have means: its
+-- events, or none where an entry is no event; where nothing was, there is no such member
 abbrev pub HoldsEvents : Members → Option (Option (List Event)) → Type 0
-HoldsEvents ms read = IfSome read (λ events. (ds : Items)
+HoldsEvents ms read = MatchOption read (get_member (codes "events") ms ≡ None) (λ events. (ds : Items)
     × (get_member (codes "events") ms >>= as_array ≡ Some ds)
     × (count ds ≤ most_events) × (entries event ds ≡ events))
 

@@ -1,5 +1,7 @@
-ghost use Rattle.std.specs.Prelude.{◌<◌, Option, length, IfSome};
+ghost use Rattle.std.specs.Prelude.{◌<◌, List, Option, length, IfSome};
+ghost use Rattle.json.specs.Token.{Token as SpecToken};
 ghost use Rattle.serde_json.specs.Data.{Data};
+ghost use Rattle.stab_stream.specs.Plain.{IsRead};
 ghost use Rattle.stab_stream.specs.Standing.{Means};
 
 use json::Reader;
@@ -13,8 +15,13 @@ pub(crate) trait Entry {
     // What a value means as such an entry.
     ghost meaning: { Data → Option Self.Read };
 
+    // The plain form of such an entry.
+    ghost form: { List SpecToken → List SpecToken → Type 0 };
+
     /// What the value that comes next means, where it has the plain form of such an entry.
     fn next(reader: &mut Reader<'_>) -> Option<Self::Read>
         ensures value { IfSome result (λ entry. Means meaning reader.old entry reader.new) }
-        ensures shorter { IfSome result (λ _. length reader.new < length reader.old) };
+        ensures shorter { IfSome result (λ _. length reader.new < length reader.old) }
+        ensures plain { (rest : List SpecToken) → form reader.old rest
+            → IsRead result reader.new rest };
 }

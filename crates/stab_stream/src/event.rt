@@ -1,7 +1,8 @@
-ghost use Rattle.std.specs.Prelude.{◌≡◌, ◌∷◌, ◌<◌, length, IfSome};
+ghost use Rattle.std.specs.Prelude.{◌≡◌, ◌∷◌, ◌<◌, List, length, IfSome};
 ghost use Rattle.json.specs.Token as token;
 ghost use Rattle.serde_json.specs.Data.{Data, number as number_data, unsigned, string as string_data};
 ghost use Rattle.stab_script.specs.Events.{event, numbered_event};
+ghost use Rattle.stab_stream.specs.Plain.{IsEvent, IsRead};
 ghost use Rattle.stab_stream.specs.Standing.{StandsInLists};
 
 use crate::number::{next_whole, whole_of};
@@ -79,6 +80,8 @@ fn listed_event(reader: &mut Reader<'_>) -> Option<Option<Event>>
     ensures value { IfSome result (λ found. (d : Data)
         × (StandsInLists (token.begin_array ∷ reader.old) d reader.new) × (event d ≡ found)) }
     ensures shorter { IfSome result (λ _. length reader.new < length reader.old) }
+    ensures plain { (rest : List token.Token) → IsEvent (token.begin_array ∷ reader.old) rest
+        → IsRead result reader.new rest }
 {
     let Token::String(word) = reader.next()? else {
         return None;
@@ -99,6 +102,8 @@ pub(crate) fn next_event(reader: &mut Reader<'_>) -> Option<Option<Event>>
     ensures value { IfSome result (λ found. (d : Data)
         × (StandsInLists reader.old d reader.new) × (event d ≡ found)) }
     ensures shorter { IfSome result (λ _. length reader.new < length reader.old) }
+    ensures plain { (rest : List token.Token) → IsEvent reader.old rest
+        → IsRead result reader.new rest }
 {
     match reader.next()? {
         Token::String(word) => Some(word_event(word)),

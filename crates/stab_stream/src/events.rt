@@ -1,11 +1,13 @@
-ghost use Rattle.std.specs.Prelude.{◌≡◌, ◌<◌, ◌≤◌, ◌⊎◌, [], ◌∷◌, ℕ, length, true, false};
+ghost use Rattle.std.specs.Prelude.{◌≡◌, ◌<◌, ◌≤◌, ◌⊎◌, List, [], ◌∷◌, ℕ, length, true, false};
 ghost use Rattle.std.specs.Prelude.{Some, None, IfSome, IfOk};
 ghost use Rattle.std.specs.Bool.{MatchBool};
+ghost use Rattle.json.specs.Token.{Token as SpecToken};
 ghost use Rattle.serde_json.specs.Data.{Items, array};
 ghost use Rattle.stab_json.specs.Values.{count};
 ghost use Rattle.stab_script.specs.LinkJobs.{most_events};
 ghost use Rattle.stab_stream.specs.Leads.{LeadsOn, EntriesTaken};
 ghost use Rattle.stab_stream.specs.Members.{in_member};
+ghost use Rattle.stab_stream.specs.Plain.{AreEntries, IsEvent, IsEvents, IsRead};
 ghost use Rattle.stab_stream.specs.Standing.{Stands, EntriesStand};
 
 use crate::event::next_event;
@@ -50,6 +52,8 @@ fn take_entries<T: TakesEvents>(
         × (count ds ≤ most_events) × EntriesTaken T.StandsAfter to.old ds are_events to.new)) }
     ensures shorter { IfOk result (λ found. IfSome found (λ _.
         length reader.new < length reader.old)) }
+    ensures plain { IfOk result (λ found. (n : ℕ) (rest : List SpecToken) → n ≤ most_events
+        → AreEntries IsEvent n reader.old rest → IsRead found reader.new rest) }
 {
     let mut count = 0;
     let mut are_events = true;
@@ -76,6 +80,8 @@ pub(crate) fn take_list<T: TakesEvents>(
         × (count ds ≤ most_events) × EntriesTaken T.StandsAfter to.old ds are_events to.new)) }
     ensures shorter { IfOk result (λ found. IfSome found (λ _.
         length reader.new < length reader.old)) }
+    ensures plain { IfOk result (λ found. (rest : List SpecToken)
+        → IsEvents reader.old rest → IsRead found reader.new rest) }
 {
     let Some(Token::BeginArray) = reader.next() else {
         return Ok(None);

@@ -1,4 +1,5 @@
 ghost use Rattle.stab_script.specs.Starts.{frame};
+ghost use Rattle.stab_stream.specs.Plain.{IsFrame};
 
 use crate::entry::Entry;
 use crate::number::{next_u16, next_u32};
@@ -10,6 +11,8 @@ impl Entry for Frame {
     type Read = Frame;
 
     ghost meaning = { frame };
+
+    ghost form = { IsFrame };
 
     fn next(reader: &mut Reader<'_>) -> Option<Frame> {
         let Token::BeginArray = reader.next()? else {

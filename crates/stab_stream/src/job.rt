@@ -1,6 +1,7 @@
-ghost use Rattle.std.specs.Prelude.{◌≡◌, ◌≢◌, ◌≤◌, ◌<◌, [], List, Option, length, Some, None};
+ghost use Rattle.std.specs.Prelude.{◌≡◌, ◌≢◌, ◌≤◌, ◌<◌, ℕ, [], List, Option, length, Some, None};
 ghost use Rattle.std.specs.Prelude.{Ok, Err, MatchResult, MatchOption, IfSome, IfOk, OnErr, IsTrue};
-ghost use Rattle.std.specs.Prelude.{option_map};
+ghost use Rattle.std.specs.Prelude.{IsSome, option_map};
+ghost use Rattle.json.specs.Token.{Token as SpecToken};
 ghost use Rattle.json.specs.Lex.{tokens};
 ghost use Rattle.serde_json.specs.Data.{Data, Items, Members, no_members, put, array, object};
 ghost use Rattle.stab_core.specs.declared.event.Event.{Event};
@@ -9,8 +10,10 @@ ghost use Rattle.stab_frames.specs.Parameters.{Parameters, fault_of};
 ghost use Rattle.stab_json.specs.Values.{value_of, count, entries};
 ghost use Rattle.stab_script.specs.Events.{event};
 ghost use Rattle.stab_script.specs.LinkJobs.{link_job, most_events};
+ghost use Rattle.stab_script.specs.declared.link_job.LinkJob.{LinkJob};
 ghost use Rattle.stab_stream.specs.Standing.{Stands, MembersMake};
 ghost use Rattle.stab_stream.specs.Members.{in_job, in_member, HasJob, HasNoOthers, job_with};
+ghost use Rattle.stab_stream.specs.Plain.{IsEvents, IsInObject, IsMemberOfJob, IsPlain, IsRead};
 
 use crate::events::take_list;
 use crate::number::next_u16;
@@ -49,10 +52,13 @@ pub fn read_link_job(alloc: Global, bytes: &[u8]) -> Result<LinkJob, LinkJobFaul
     }
 }
 
-/// The link job that these bytes mean, where they have the plain form; nothing is said of them
-/// where there is none. The value of a text in this form has no members but those of a link job.
+/// The link job that these bytes mean, where they have the plain form; where there is none, they
+/// have it not, or mean no job. The value of a text in this form has no members but those of a link
+/// job.
 pub fn read_plain_link_job(alloc: Global, bytes: &[u8]) -> Result<Option<LinkJob>, AllocError>
     ensures job { IfOk result (λ found. IfSome found (λ job. link_job bytes.now ≡ Ok job)) }
+    ensures plain { IfOk result (λ found. IsPlain bytes.now
+        → (job : LinkJob) → link_job bytes.now ≡ Ok job → found ≡ Some job) }
     ensures others { IfOk result (λ found. IfSome found (λ _.
         IfSome (value_of bytes.now) HasNoOthers)) }
     ensures memory { OnErr result (0 < length bytes.now) }
@@ -68,6 +74,8 @@ pub fn read_plain_link_job(alloc: Global, bytes: &[u8]) -> Result<Option<LinkJob
 fn read_plain(alloc: Global, bytes: &[u8]) -> Result<Option<Option<LinkJob>>, AllocError>
     ensures job { IfOk result (λ found. IfSome found (λ job. MatchOption job
         (link_job bytes.now ≡ Err LinkJobFault.Event) (λ job. link_job bytes.now ≡ Ok job))) }
+    ensures plain { IfOk result (λ found. IsPlain bytes.now
+        → (job : LinkJob) → link_job bytes.now ≡ Ok job → IsSome found) }
     ensures others { IfOk result (λ found. IfSome found (λ _.
         IfSome (value_of bytes.now) HasNoOthers)) }
     ensures memory { OnErr result (0 < length bytes.now) }
@@ -89,6 +97,7 @@ fn read_text(alloc: Global, text: &str) -> Result<Option<JobParts>, AllocError>
     ensures value { IfOk result (λ found. IfSome found (λ parts. (ms : Members)
         × (Stands in_job (tokens text.now) (object ms) [])
         × HasJob parts.capacity parts.labels parts.start parts.events ms)) }
+    ensures plain { IfOk result (λ found. IsPlain text.now → IsSome found) }
     ensures memory { OnErr result (0 < length text.now) }
 {
     let mut scratch = Scratch::new(alloc);
@@ -107,9 +116,11 @@ fn read_text(alloc: Global, text: &str) -> Result<Option<JobParts>, AllocError>
 
 /// The members of a link job, whose opening brace was taken.
 fn read_members(alloc: Global, reader: &mut Reader<'_>) -> Result<Option<JobParts>, AllocError>
-    ensures { IfOk result (λ found. IfSome found (λ parts. (ms : Members)
+    ensures value { IfOk result (λ found. IfSome found (λ parts. (ms : Members)
         × (MembersMake in_member no_members (length reader.old) reader.old ms reader.new)
         × HasJob parts.capacity parts.labels parts.start parts.events ms)) }
+    ensures plain { IfOk result (λ found. (rest : List SpecToken)
+        → IsInObject IsMemberOfJob reader.old rest → IsRead found reader.new rest) }
 {
     let mut parts = JobParts {
         capacity: None,
@@ -144,6 +155,8 @@ pub(crate) fn read_member(
         → HasJob parts.new.capacity parts.new.labels parts.new.start parts.new.events
         (put name.now d ms))) }
     ensures shorter { IfOk result (λ done. IsTrue done → length reader.new < length reader.old) }
+    ensures plain { IfOk result (λ done. (rest : List SpecToken)
+        → IsMemberOfJob name.now reader.old rest → IsTrue done × (reader.new ≡ rest)) }
 {
     match name {
         "capacity" => {
@@ -186,6 +199,8 @@ fn read_events(
         × (count ds ≤ most_events) × (entries event ds ≡ events))) }
     ensures shorter { IfOk result (λ found. IfSome found (λ _.
         length reader.new < length reader.old)) }
+    ensures plain { IfOk result (λ found. (rest : List SpecToken)
+        → IsEvents reader.old rest → IsRead found reader.new rest) }
 {
     let mut events = Sequence::new(alloc);
     let Some(are_events) = take_list(reader, &mut events)? else {
@@ -201,12 +216,16 @@ fn read_events(
 /// The link job of these parts, where all are there and pass each check: `Some(None)` where an
 /// entry of the events alone fails.
 fn whole_job(parts: JobParts) -> Option<Option<LinkJob>>
-    ensures { IfSome result (λ job. (params : Parameters) × (start : Start)
+    ensures job { IfSome result (λ job. (params : Parameters) × (start : Start)
         × (events : Option (List Event))
         × (parts.capacity ≡ Some params.capacity) × (parts.labels ≡ Some params.labels)
         × (fault_of params.capacity params.labels ≡ None)
         × (parts.start ≡ Some start) × (parts.events ≡ Some events)
         × (job ≡ option_map (job_with params start) events)) }
+    ensures plain { (capacity : ℕ) (labels : ℕ) (start : Start) (events : Option (List Event))
+        → parts.capacity ≡ Some capacity → parts.labels ≡ Some labels
+        → parts.start ≡ Some start → parts.events ≡ Some events
+        → fault_of capacity labels ≡ None → IsSome result }
 {
     let JobParts {
         capacity,

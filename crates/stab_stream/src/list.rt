@@ -1,5 +1,7 @@
-ghost use Rattle.std.specs.Prelude.{◌<◌, ℕ, length, IfSome, IfOk};
+ghost use Rattle.std.specs.Prelude.{◌<◌, ℕ, List, length, IfSome, IfOk};
+ghost use Rattle.json.specs.Token.{Token as SpecToken};
 ghost use Rattle.stab_json.specs.Values.{list_of};
+ghost use Rattle.stab_stream.specs.Plain.{IsInList, IsList, IsRead};
 ghost use Rattle.stab_stream.specs.Standing.{MeansWithin, EntriesMean};
 
 use crate::entry::Entry;
@@ -15,6 +17,8 @@ fn read_entries<E: Entry>(
         → EntriesMean depth E.meaning (length reader.old) reader.old list.items reader.new)) }
     ensures shorter { IfOk result (λ found. IfSome found (λ _.
         length reader.new < length reader.old)) }
+    ensures plain { IfOk result (λ found. (rest : List SpecToken)
+        → IsInList E.form reader.old rest → IsRead found reader.new rest) }
 {
     let mut list = Vec::new(alloc);
     'entries: while !reader.take_end_array() {
@@ -35,6 +39,8 @@ pub(crate) fn read_list<E: Entry>(
         → MeansWithin depth (list_of E.meaning) reader.old list.items reader.new)) }
     ensures shorter { IfOk result (λ found. IfSome found (λ _.
         length reader.new < length reader.old)) }
+    ensures plain { IfOk result (λ found. (rest : List SpecToken)
+        → IsList E.form reader.old rest → IsRead found reader.new rest) }
 {
     let Some(Token::BeginArray) = reader.next() else {
         return Ok(None);

@@ -1,6 +1,10 @@
-ghost use Rattle.std.specs.Prelude.{◌≡◌, ◌≤◌, ◌<◌, ℕ, length, Some, IfSome};
+ghost use Rattle.std.specs.Prelude.{◌≡◌, ◌≤◌, ◌<◌, ℕ, List, length, Some, IfSome};
+ghost use Rattle.std.specs.Str.Parse.{IsNumeral, digits_value};
+ghost use Rattle.json.specs.Token.{Token as SpecToken};
 ghost use Rattle.serde_json.specs.Data.{number, unsigned};
 ghost use Rattle.serde_json.specs.Read.{number_of};
+ghost use Rattle.stab_json.specs.Values.{most_u16, most_u32};
+ghost use Rattle.stab_stream.specs.Plain.{IsRead, IsWhole};
 ghost use Rattle.stab_stream.specs.Standing.{Stands};
 
 use crate::entry::Entry;
@@ -13,7 +17,9 @@ const MOST_BEFORE_A_DIGIT: u64 = 1_844_674_407_370_955_160;
 /// but for the six largest of these.
 #[tactic(auto, using(crate::proofs::Numbers::digit_is))]
 pub fn whole_of(text: &str) -> Option<u64>
-    ensures { IfSome result (λ n. number_of text.now ≡ Some (unsigned n)) }
+    ensures value { IfSome result (λ n. number_of text.now ≡ Some (unsigned n)) }
+    ensures plain { IsNumeral 10 text.now → digits_value 10 text.now ≤ most_u32
+        → result ≡ Some (digits_value 10 text.now) }
 {
     let bytes = text.as_bytes();
     if bytes.is_empty() {
@@ -34,6 +40,9 @@ pub(crate) fn next_whole(reader: &mut Reader<'_>) -> Option<u64>
     ensures value { IfSome result (λ n. (depth : ℕ)
         → Stands depth reader.old (number (unsigned n)) reader.new) }
     ensures shorter { IfSome result (λ _. length reader.new < length reader.old) }
+    ensures plain { (most : ℕ) (rest : List SpecToken) → most ≤ most_u32
+        → IsWhole most reader.old rest
+        → (n : ℕ) × (n ≤ most) × (result ≡ Some n) × (reader.new ≡ rest) }
 {
     match reader.next()? {
         Token::Number(text) => whole_of(text),
@@ -47,6 +56,8 @@ pub(crate) fn next_u16(reader: &mut Reader<'_>) -> Option<u16>
         → Stands depth reader.old (number (unsigned n)) reader.new) }
     ensures small { IfSome result (λ n. n ≤ 65535) }
     ensures shorter { IfSome result (λ _. length reader.new < length reader.old) }
+    ensures plain { (rest : List SpecToken) → IsWhole most_u16 reader.old rest
+        → IsRead result reader.new rest }
 {
     let number = next_whole(reader)?;
     if number <= 65535 {
@@ -62,6 +73,8 @@ pub(crate) fn next_u32(reader: &mut Reader<'_>) -> Option<u32>
         → Stands depth reader.old (number (unsigned n)) reader.new) }
     ensures small { IfSome result (λ n. n ≤ 4294967295) }
     ensures shorter { IfSome result (λ _. length reader.new < length reader.old) }
+    ensures plain { (rest : List SpecToken) → IsWhole most_u32 reader.old rest
+        → IsRead result reader.new rest }
 {
     let number = next_whole(reader)?;
     if number <= 4_294_967_295 {
@@ -78,6 +91,8 @@ impl Entry for u16 {
     ghost use Rattle.stab_json.specs.Values.{label};
 
     ghost meaning = { label };
+
+    ghost form = { IsWhole most_u16 };
 
     fn next(reader: &mut Reader<'_>) -> Option<u16> {
         let label = next_u16(reader)?;

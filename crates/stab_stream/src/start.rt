@@ -1,8 +1,10 @@
-ghost use Rattle.std.specs.Prelude.{◌<◌, length, IfSome, IfOk, IsTrue};
+ghost use Rattle.std.specs.Prelude.{◌≡◌, ◌<◌, List, length, IfSome, IfOk, IsTrue};
+ghost use Rattle.json.specs.Token.{Token as SpecToken};
 ghost use Rattle.serde_json.specs.Data.{Data, Members, no_members, put};
 ghost use Rattle.stab_script.specs.Starts.{start};
 ghost use Rattle.stab_stream.specs.Standing.{Stands, MeansWithin, MembersMake};
 ghost use Rattle.stab_stream.specs.Members.{in_member, in_start, HasStart};
+ghost use Rattle.stab_stream.specs.Plain.{IsInObject, IsMemberOfStart, IsRead, IsStart};
 
 use crate::entry::Entry;
 use crate::list::read_list;
@@ -34,6 +36,8 @@ fn read_member(
         → HasStart parts.new.frames parts.new.acks parts.new.send parts.new.recv
         (put name.now d ms))) }
     ensures shorter { IfOk result (λ done. IsTrue done → length reader.new < length reader.old) }
+    ensures plain { IfOk result (λ done. (rest : List SpecToken)
+        → IsMemberOfStart name.now reader.old rest → IsTrue done × (reader.new ≡ rest)) }
 {
     match name {
         "frames" => {
@@ -72,6 +76,8 @@ fn read_members(alloc: Global, reader: &mut Reader<'_>) -> Result<Option<StartPa
         × HasStart parts.frames parts.acks parts.send parts.recv ms)) }
     ensures shorter { IfOk result (λ found. IfSome found (λ _.
         length reader.new < length reader.old)) }
+    ensures plain { IfOk result (λ found. (rest : List SpecToken)
+        → IsInObject IsMemberOfStart reader.old rest → IsRead found reader.new rest) }
 {
     let mut parts = StartParts {
         frames: Sequence::new(alloc),
@@ -101,6 +107,8 @@ pub(crate) fn read_start(
         MeansWithin in_member start reader.old its_start reader.new)) }
     ensures shorter { IfOk result (λ found. IfSome found (λ _.
         length reader.new < length reader.old)) }
+    ensures plain { IfOk result (λ found. (rest : List SpecToken)
+        → IsStart reader.old rest → IsRead found reader.new rest) }
 {
     let Some(Token::BeginObject) = reader.next() else {
         return Ok(None);

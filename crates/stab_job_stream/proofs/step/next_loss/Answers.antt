@@ -12,4 +12,4 @@ returns-then-take_end_array-clause-value c =
     let place = c.in_ok-place.place in
     let is : c.args.reader.now ≡ Token.number text ∷ us = c.in_ok-text.ensures.value ∙ ap (λ k. token_of k ∷ us) c.in-Number.is in
     λ child depth some. rw is (a_loss depth child c.args.word.now place (Token.number text ∷ us) us c.take_end_array.new.self c.in_ok-act.act some
-    (a_number (depth - 1) text place us c.in_ok-place.ensures) (omega arith) c.if-take_end_array.ensures c.in_ok-act.ensures)
+    (a_number (depth - 1) text place us c.in_ok-place.ensures.value) (omega arith) c.if-take_end_array.ensures c.in_ok-act.ensures)

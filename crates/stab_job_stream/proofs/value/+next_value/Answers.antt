@@ -88,7 +88,7 @@ next_value-returns-in-Some-whole_of-clause-value t c =
     let first : c.args.reader.now ≡ token_of c.in-Some.token ∷ rest = grind arith in
     let is : c.args.reader.now ≡ Token.number text ∷ rest = grind (arith, first) in
     let seen : view (Number c.from.result) ≡ number (unsigned n) = (let at : view (Number c.from.result) ≡ number (number_view c.from.result) = search (rules, the_lemmas) in at ∙ ap number c.from.ensures) in
-    rw (is, seen) (a_number c.args.depth text n rest c.in-Some-whole_of.ensures)
+    rw (is, seen) (a_number c.args.depth text n rest c.in-Some-whole_of.ensures.value)
 
 pub next_value-returns-in-Bool-clause-value : goal.next_value-returns-in-Bool-clause-value
 next_value-returns-in-Bool-clause-value t c =

@@ -1,7 +1,8 @@
-use Rattle.std.proofs.Common.{◌≡◌, ◌∷◌, refl, sym, ap, ◌∙◌}
+use Rattle.std.proofs.Common.{◌≡◌, ◌∷◌, refl, sym, ap, ◌∙◌, subst}
 use Rattle.json.specs.Token.{Token}
 use Rattle.json.specs.Reads.{token_of}
 use Rattle.serde_json.specs.Data.{null, boolean, unsigned, number, string}
+use Rattle.stab_stream.specs.Plain.{IsEvent}
 use Rattle.stab_stream.proofs.Meaning.{of_what_is_there}
 use Rattle.stab_stream.proofs.Standing.{a_text, a_number, a_truth, a_null}
 use Rattle.stab_stream.proofs.event.next_event.Goals as goal
@@ -25,7 +26,7 @@ returns-in-Some-clause-value c =
     let text = c.in-Number.text.now in
     let n = c.in-Some.field-0 in
     let is : c.args.reader.now ≡ Token.number text ∷ rest = c.in_ok-word.ensures.value ∙ ap (λ k. token_of k ∷ rest) c.in-Number.is in
-    (number (unsigned n), λ depth some. rw is (a_number depth text n rest c.in-Some.ensures), refl)
+    (number (unsigned n), λ depth some. rw is (a_number depth text n rest c.in-Some.ensures.value), refl)
 
 pub returns-in-Bool-clause-value : goal.returns-in-Bool-clause-value
 returns-in-Bool-clause-value c =
@@ -39,3 +40,9 @@ returns-in-Null-clause-value c =
     let rest = c.next.new.self in
     let is : c.args.reader.now ≡ Token.null ∷ rest = c.in_ok-word.ensures.value ∙ ap (λ k. token_of k ∷ rest) c.in-Null.is in
     (null, λ depth some. rw is (a_null depth rest), refl)
+
+pub returns-in-BeginArray-clause-plain : goal.returns-in-BeginArray-clause-plain
+returns-in-BeginArray-clause-plain c =
+    let ts = c.next.new.self in
+    let is : c.args.reader.now ≡ Token.begin_array ∷ ts = c.in_ok-word.ensures.value ∙ ap (λ k. token_of k ∷ ts) c.in-BeginArray.is in
+    λ rest p. c.listed_event.ensures.plain rest (subst (λ us. IsEvent us rest) is p)

@@ -3,6 +3,7 @@ use Rattle.serde_json.specs.Data.{array}
 use Rattle.stab_stream.specs.Members.{in_member}
 use Rattle.stab_stream.proofs.Meaning.{not_capped}
 use Rattle.stab_stream.proofs.Members.{has_capacity, has_labels, has_start, has_events}
+use Rattle.stab_stream.proofs.Plain.{no_some, capacity_form, labels_form, start_form, events_form}
 use Rattle.stab_stream.proofs.job.read_member.Goals as goal
 
 pub returns-in-Some-clause-value : goal.returns-in-Some-clause-value
@@ -30,3 +31,31 @@ returns-in-Some-3-clause-value c =
     let old = c.args.parts.now in
     let list = rw c.in-Some-3.is at c.in_ok-events-in-events.ensures.value in
     λ yes. (array list.0, list.1, λ ms has. rw c.in-events.is (has_events old.capacity old.labels old.start old.events (array list.0) ms has list.0 c.in-Some-3.events refl list.2 list.3))
+
+pub returns-in_default-next_u16-clause-plain : goal.returns-in_default-next_u16-clause-plain
+returns-in_default-next_u16-clause-plain c = λ rest p.
+    let never = (c.in_default-next_u16.ensures.plain rest (capacity_form c.args.name.now c.args.reader.now rest c.in-capacity.is p)).0 in
+    absurd (cc)
+
+pub returns-in-Some-clause-plain : goal.returns-in-Some-clause-plain
+returns-in-Some-clause-plain c = λ rest p. (refl, (c.in-Some.ensures.plain rest (capacity_form c.args.name.now c.args.reader.now rest c.in-capacity.is p)).1)
+
+pub returns-in_default-next_u16-2-clause-plain : goal.returns-in_default-next_u16-2-clause-plain
+returns-in_default-next_u16-2-clause-plain c = λ rest p.
+    let never = (c.in_default-next_u16-2.ensures.plain rest (labels_form c.args.name.now c.args.reader.now rest c.in-labels.is p)).0 in
+    absurd (cc)
+
+pub returns-in-Some-next_u16-clause-plain : goal.returns-in-Some-next_u16-clause-plain
+returns-in-Some-next_u16-clause-plain c = λ rest p. (refl, (c.in-Some-next_u16.ensures.plain rest (labels_form c.args.name.now c.args.reader.now rest c.in-labels.is p)).1)
+
+pub returns-in_default-2-clause-plain : goal.returns-in_default-2-clause-plain
+returns-in_default-2-clause-plain c = λ rest p. absurd (no_some c.in_default-2.is (c.in_ok-start-in-start.ensures.plain rest (start_form c.args.name.now c.args.reader.now rest c.in-start.is p)).0)
+
+pub returns-in-Some-2-clause-plain : goal.returns-in-Some-2-clause-plain
+returns-in-Some-2-clause-plain c = λ rest p. (refl, (c.in_ok-start-in-start.ensures.plain rest (start_form c.args.name.now c.args.reader.now rest c.in-start.is p)).1)
+
+pub returns-in_default-3-clause-plain : goal.returns-in_default-3-clause-plain
+returns-in_default-3-clause-plain c = λ rest p. absurd (no_some c.in_default-3.is (c.in_ok-events-in-events.ensures.plain rest (events_form c.args.name.now c.args.reader.now rest c.in-events.is p)).0)
+
+pub returns-in-Some-3-clause-plain : goal.returns-in-Some-3-clause-plain
+returns-in-Some-3-clause-plain c = λ rest p. (refl, (c.in_ok-events-in-events.ensures.plain rest (events_form c.args.name.now c.args.reader.now rest c.in-events.is p)).1)

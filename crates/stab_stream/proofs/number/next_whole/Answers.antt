@@ -10,4 +10,4 @@ returns-in-Number-clause-value c =
     let rest = c.next.new.self in
     let text = c.in-Number.text.now in
     let is : c.args.reader.now ≡ Token.number text ∷ rest = c.in_ok-text.ensures.value ∙ ap (λ k. token_of k ∷ rest) c.in-Number.is in
-    of_what_is_there c.whole_of.result (λ n read depth. rw is (a_number depth text n rest read)) c.whole_of.ensures
+    of_what_is_there c.whole_of.result (λ n read depth. rw is (a_number depth text n rest read)) c.whole_of.ensures.value

@@ -9,7 +9,7 @@ use Rattle.stab_stream.proofs.Standing.{no_members}
 use Rattle.stab_stream.proofs.replay.read_head.Goals as goal
 
 pub members-init : goal.members-init
-members-init c = (length c.args.reader.now, omega arith, omega arith, values.no_members, λ ms rest later. later, (tt, tt, tt, tt, λ name other. refl))
+members-init c = (length c.args.reader.now, omega arith, omega arith, values.no_members, λ ms rest later. later, (refl, refl, refl, refl, λ name other. refl))
 
 pub returns-in-events : goal.returns-in-events
 returns-in-events c =

@@ -1,6 +1,7 @@
-use Rattle.std.proofs.Common.{arith}
+use Rattle.std.proofs.Common.{refl, arith}
 use Rattle.stab_stream.specs.Members.{in_start}
 use Rattle.stab_stream.proofs.Members.{has_frames, has_acks, has_send, has_recv}
+use Rattle.stab_stream.proofs.Plain.{no_some, frames_form, acks_form, send_form, recv_form}
 use Rattle.stab_stream.proofs.start.read_member.Goals as goal
 
 pub returns-in-Some-clause-value : goal.returns-in-Some-clause-value
@@ -26,3 +27,31 @@ returns-in-Some-next-2-clause-value c =
     let old = c.args.parts.now in
     let first = c.in-Some-next-2.ensures.value in_start (omega arith) in
     λ yes. (first.0, first.1, λ ms has. rw c.in-recv.is (has_recv old.frames old.acks old.send old.recv first.0 ms has c.in-Some-next-2.recv first.2))
+
+pub returns-in_default-2-clause-plain : goal.returns-in_default-2-clause-plain
+returns-in_default-2-clause-plain c = λ rest p. absurd (no_some c.in_default-2.is (c.in_ok-frames-in-frames.ensures.plain rest (frames_form c.args.name.now c.args.reader.now rest c.in-frames.is p)).0)
+
+pub returns-in-Some-clause-plain : goal.returns-in-Some-clause-plain
+returns-in-Some-clause-plain c = λ rest p. (refl, (c.in_ok-frames-in-frames.ensures.plain rest (frames_form c.args.name.now c.args.reader.now rest c.in-frames.is p)).1)
+
+pub returns-in_default-3-clause-plain : goal.returns-in_default-3-clause-plain
+returns-in_default-3-clause-plain c = λ rest p. absurd (no_some c.in_default-3.is (c.in_ok-acks-in-acks.ensures.plain rest (acks_form c.args.name.now c.args.reader.now rest c.in-acks.is p)).0)
+
+pub returns-in-Some-2-clause-plain : goal.returns-in-Some-2-clause-plain
+returns-in-Some-2-clause-plain c = λ rest p. (refl, (c.in_ok-acks-in-acks.ensures.plain rest (acks_form c.args.name.now c.args.reader.now rest c.in-acks.is p)).1)
+
+pub returns-in_default-next-clause-plain : goal.returns-in_default-next-clause-plain
+returns-in_default-next-clause-plain c = λ rest p.
+    let never = (c.in_default-next.ensures.plain rest (send_form c.args.name.now c.args.reader.now rest c.in-send.is p)).0 in
+    absurd (cc)
+
+pub returns-in-Some-next-clause-plain : goal.returns-in-Some-next-clause-plain
+returns-in-Some-next-clause-plain c = λ rest p. (refl, (c.in-Some-next.ensures.plain rest (send_form c.args.name.now c.args.reader.now rest c.in-send.is p)).1)
+
+pub returns-in_default-next-2-clause-plain : goal.returns-in_default-next-2-clause-plain
+returns-in_default-next-2-clause-plain c = λ rest p.
+    let never = (c.in_default-next-2.ensures.plain rest (recv_form c.args.name.now c.args.reader.now rest c.in-recv.is p)).0 in
+    absurd (cc)
+
+pub returns-in-Some-next-2-clause-plain : goal.returns-in-Some-next-2-clause-plain
+returns-in-Some-next-2-clause-plain c = λ rest p. (refl, (c.in-Some-next-2.ensures.plain rest (recv_form c.args.name.now c.args.reader.now rest c.in-recv.is p)).1)

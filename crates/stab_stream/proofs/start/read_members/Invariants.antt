@@ -1,6 +1,8 @@
-use Rattle.std.proofs.Common.{ℕ, ◌≤◌, length}
+use Rattle.std.proofs.Common.{ℕ, ◌≤◌, List, length}
+use Rattle.json.specs.Token.{Token}
 use Rattle.serde_json.specs.Data.{Members}
 use Rattle.stab_stream.specs.Members.{in_start, HasStart}
+use Rattle.stab_stream.specs.Plain.{IsInObject, IsMemberOfStart}
 use Rattle.stab_stream.proofs.Entries.{PutBefore}
 use Rattle.stab_stream.proofs.start.read_members.Given as goal
 
@@ -10,6 +12,7 @@ invariant-members l =
     (n : ℕ) × (length l.reader ≤ n) × (length l.reader ≤ length l.initial.reader) × (ms : Members)
     × (PutBefore in_start (length l.initial.reader) l.initial.reader ms n l.reader)
     × HasStart l.parts.frames l.parts.acks l.parts.send l.parts.recv ms
+    × ((rest : List Token) → IsInObject IsMemberOfStart l.initial.reader rest → IsInObject IsMemberOfStart l.reader rest)
 
 abbrev pub decreases-members : goal.decreases-members
 decreases-members l = length l.reader
