@@ -1,11 +1,13 @@
-ghost use Rattle.std.specs.Prelude.{◌≡◌, All, IfOk, IfSome, IsSome, IsTrue, Some};
+ghost use Rattle.std.specs.Prelude.{◌≡◌, All, IfOk, IfSome, IsSome, IsTrue, None, Some};
 ghost use Rattle.stab_json.specs.Values.{value_of};
 ghost use Rattle.rignolda_explain.specs.Findings.{IsNoRefusal, LedBy};
 ghost use Rattle.rignolda_explain.specs.Kinds.{chosen};
 ghost use Rattle.rignolda_explain.specs.Refusals.{refusal_of};
+ghost use Rattle.rignolda_explain.specs.Stops.{IsStopOf, first_stop, stop_in};
 
 use crate::job::look_at_job;
-use crate::reader::{chosen, refusal_of};
+use crate::reader::{Answer, answer_of, chosen};
+use crate::stop::{Stop, first_stop};
 use rignolda_findings::{
     Explanation, Finding, Kind, Matter, Notes, Piece, Place, Refusal, line_of, look_at_bytes,
     look_at_link_job,
@@ -16,15 +18,18 @@ use std::alloc::{AllocError, Global};
 
 /// What is wrong with these bytes, read as a job of the given kind, or of the kind that they look
 /// like: an object with a member `tree` is a job of a tree, and everything else a link job. Where
-/// the reader accepts them, no finding is of a refusal. Only memory can be refused.
+/// the reader accepts them, no finding is of a refusal, and the first one of a stop is there
+/// exactly where the job stops for it. Only memory can be refused.
 pub fn explain(alloc: Global, given: Option<Kind>, bytes: &[u8]) -> Result<Explanation, AllocError>
     ensures kind { IfOk result (λ its. its.kind ≡ chosen given (value_of bytes.now)) }
     ensures refusal { IfOk result (λ its. its.refusal ≡ refusal_of its.kind bytes.now) }
     ensures first { IfOk result (λ its. LedBy its.refusal its.findings.items) }
+    ensures stop { IfOk result (λ its. its.refusal ≡ None
+        → IsStopOf its.kind bytes.now (first_stop its.findings.items)) }
 {
-    let (kind, notes, refusal) = walked(alloc, given, bytes)?;
+    let (kind, notes, refusal, stop) = walked(alloc, given, bytes)?;
     let (findings, omitted) = notes.into_parts();
-    let findings = led_by(alloc, &refusal, findings)?;
+    let findings = led_by(alloc, &refusal, stop, findings)?;
     Ok(Explanation {
         kind,
         refusal,
@@ -33,20 +38,21 @@ pub fn explain(alloc: Global, given: Option<Kind>, bytes: &[u8]) -> Result<Expla
     })
 }
 
-/// The kind of the bytes, what is found in them, and why the reader of that kind refuses them.
+/// The kind of the bytes, what is found in them, and what the reader of that kind answers.
 fn walked(
     alloc: Global,
     given: Option<Kind>,
     bytes: &[u8],
-) -> Result<(Kind, Notes, Option<Refusal>), AllocError>
+) -> Result<(Kind, Notes, Option<Refusal>, Option<Stop>), AllocError>
     ensures kind { IfOk result (λ all. all.0 ≡ chosen given (value_of bytes.now)) }
     ensures refusal { IfOk result (λ all. all.2 ≡ refusal_of all.0 bytes.now) }
+    ensures stop { IfOk result (λ all. IsStopOf all.0 bytes.now all.3) }
 {
     let value = read_value(alloc, bytes)?;
     let kind = chosen(given, value.as_ref());
     let notes = look(alloc, kind, value.as_ref(), bytes)?;
-    let refusal = refusal_of(alloc, kind, value)?;
-    Ok((kind, notes, refusal))
+    let Answer { refusal, stop } = answer_of(alloc, kind, value)?;
+    Ok((kind, notes, refusal, stop))
 }
 
 /// What is found in the value of these bytes, or that they have none.
@@ -66,18 +72,75 @@ fn look(
 }
 
 /// The findings, of which the first is of the refusal, where there is one, and else none is of a
-/// refusal. The walk makes the reader's checks in their order, so that its first finding is of that
-/// refusal; otherwise one without a place is put before it.
+/// refusal, and the first one of a stop is of this stop. The walk makes the reader's checks in
+/// their order, so that its first finding is of that refusal; otherwise one without a place is put
+/// before it.
 fn led_by(
     alloc: Global,
     refusal: &Option<Refusal>,
+    stop: Option<Stop>,
     findings: Vec<Finding>,
 ) -> Result<Vec<Finding>, AllocError>
-    ensures { IfOk result (λ led. LedBy refusal.now led.items) }
+    ensures refusal { IfOk result (λ led. LedBy refusal.now led.items) }
+    ensures stop { IfOk result (λ led. refusal.now ≡ None → first_stop led.items ≡ stop) }
 {
     match refusal {
         Some(refusal) => led_by_one(alloc, refusal, findings),
-        None => Ok(unrefused(findings)),
+        None => stopped_by(alloc, stop, unrefused(findings)),
+    }
+}
+
+/// The findings, of which the first one of a stop is of this. The walk looks for what stops a job
+/// in the order of its replay, so that they are as they were; any others would be wrong.
+fn stopped_by(
+    alloc: Global,
+    stop: Option<Stop>,
+    findings: Vec<Finding>,
+) -> Result<Vec<Finding>, AllocError>
+    ensures unrefused { IfOk result (λ led. All IsNoRefusal findings.items
+        → All IsNoRefusal led.items) }
+    ensures stop { IfOk result (λ led. first_stop led.items ≡ stop) }
+{
+    if first_stop(findings.as_slice()) == stop {
+        return Ok(findings);
+    }
+    stopped_by_one(alloc, stop, unstopped(findings))
+}
+
+/// The findings, before which one of this stop is put, where there is one.
+fn stopped_by_one(
+    alloc: Global,
+    stop: Option<Stop>,
+    mut findings: Vec<Finding>,
+) -> Result<Vec<Finding>, AllocError>
+    ensures unrefused { IfOk result (λ led. All IsNoRefusal findings.items
+        → All IsNoRefusal led.items) }
+    ensures stop { IfOk result (λ led. first_stop findings.items ≡ None
+        → first_stop led.items ≡ stop) }
+{
+    if let Some(stop) = stop {
+        findings.insert(0, bare(alloc, stop.matter())?)?;
+    }
+    Ok(findings)
+}
+
+/// The findings that are of no stop, nor of a refusal.
+fn unstopped(mut findings: Vec<Finding>) -> Vec<Finding>
+    ensures unrefused { All IsNoRefusal result.items }
+    ensures unstopped { first_stop result.items ≡ None }
+{
+    findings.retain(|finding| is_no_stop(finding));
+    findings
+}
+
+/// Whether a finding is of no stop, nor of a refusal.
+fn is_no_stop(finding: &Finding) -> bool
+    ensures refusal { IsTrue result → IsNoRefusal finding.now }
+    ensures stop { IsTrue result → stop_in finding.now.matter ≡ None }
+{
+    match finding.matter {
+        Matter::Refused(_) | Matter::Start(_) | Matter::Step => false,
+        Matter::Command | Matter::Ignored => true,
     }
 }
 
@@ -109,20 +172,17 @@ fn led_by_one(
     ensures { IfOk result (λ led. LedBy (Some refusal.now) led.items) }
 {
     if !is_of(findings.first(), refusal) {
-        findings.insert(0, bare(alloc, refusal)?)?;
+        findings.insert(0, bare(alloc, Matter::Refused(*refusal))?)?;
     }
     Ok(findings)
 }
 
-/// A finding of this refusal, without a place.
-fn bare(alloc: Global, refusal: &Refusal) -> Result<Finding, AllocError>
-    ensures { IfOk result (λ finding. finding.matter ≡ Matter.Refused refusal.now) }
+/// A finding of this matter, without a place.
+fn bare(alloc: Global, matter: Matter) -> Result<Finding, AllocError>
+    ensures { IfOk result (λ finding. finding.matter ≡ matter) }
 {
     let line = line_of(alloc, &Place::whole(), &[Piece::Words("refused")])?;
-    Ok(Finding {
-        matter: Matter::Refused(*refusal),
-        line,
-    })
+    Ok(Finding { matter, line })
 }
 
 /// Whether there is a first finding, and it is of this refusal.

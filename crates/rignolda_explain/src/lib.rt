@@ -5,10 +5,11 @@
 //! finds every place where a link job or a job of a tree is refused, and every member that no
 //! reader looks at, with the nearest name that it knows.
 //!
-//! Two facts are proved. The [`Explanation`]'s refusal is exactly the answer of the reader of such
-//! bytes, `read_link_job` or `read_job`: none where it accepts them, and else its fault. And the
-//! first finding is of that fault, or no finding is of any. The places, and all findings after the
-//! first of a refused job, are tested.
+//! Three facts are proved. The [`Explanation`]'s refusal is exactly the answer of the reader of
+//! such bytes, `read_link_job` or `read_job`: none where it accepts them, and else its fault. The
+//! first finding is of that fault, or no finding is of any. And of a job that is accepted the first
+//! finding of a [`Stop`] is exactly why it stops: none where its links begin and its steps are on
+//! links. The places, and all other findings, are tested.
 #![tactic(auto)]
 
 mod explained;
@@ -18,8 +19,10 @@ mod openings;
 mod reader;
 mod schedule;
 mod scripts;
+mod stop;
 mod text;
 
 pub use explained::explain;
 pub use rignolda_findings::{Explanation, Finding, Kind, MAX_FINDINGS, Matter, Refusal};
+pub use stop::Stop;
 pub use text::explanation_text;
