@@ -46,6 +46,8 @@ pub fn act_random<W: Write>(
     ensures refused { (fault : OptionsFault)
         → result ≡ Err (RandomWriteFault.Draw (RandomFault.Options fault))
         → options_fault options.now ≡ Some fault }
+    ensures first { (fault : OptionsFault) → options_fault options.now ≡ Some fault
+        → result ≡ Err (RandomWriteFault.Draw (RandomFault.Options fault)) }
     ensures nothing { IfErr result (λ fault. fault ≢ RandomWriteFault.Write
         → Keeps (W.contents writer.old) (W.contents writer.new)) }
 {

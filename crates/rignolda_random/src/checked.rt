@@ -50,6 +50,8 @@ pub fn random_text(alloc: Global, options: &DrawOptions) -> Result<String, Rando
     ensures taken { OnOk result (options_fault options.now ≡ None) }
     ensures refused { (fault : OptionsFault) → result ≡ Err (RandomFault.Options fault)
         → options_fault options.now ≡ Some fault }
+    ensures first { (fault : OptionsFault) → options_fault options.now ≡ Some fault
+        → result ≡ Err (RandomFault.Options fault) }
 {
     let params = match options.params() {
         Ok(params) => params,
