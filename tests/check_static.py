@@ -29,6 +29,7 @@ PLANTED = [
     ("rest += units * UNIT;", "rest += units * NUMBER;"),
     ("rest = piece + UNIT;", "rest = piece + NUMBER;"),
     ("end = piece + PIECE;", "end = piece + 2 * PIECE;"),
+    ("if (!piece)", "if (piece == end)"),
     ("static _Thread_local void **kept", "static void **kept"),
     ("? block : large(block, size)", "? block : block"),
     ("units ? block : large(block, size)", "units ? block : large(NULL, size)"),

@@ -9,6 +9,7 @@
 #include <stdint.h>
 #include <stdio.h>
 #include <string.h>
+#include <sys/resource.h>
 #include <unistd.h>
 
 struct tried {
@@ -129,6 +130,28 @@ static void many_blocks(void) {
     holds("a thread changes them on", in_a_thread(changes_blocks, NULL));
     changes_blocks(NULL);
 }
+
+// (qemu lets a program have what it wants)
+#ifdef __x86_64__
+static void refusals(void) {
+    struct rlimit before, less = {64 << 20, RLIM_INFINITY};
+    holds("memory has a limit", getrlimit(RLIMIT_AS, &before) == 0);
+    less.rlim_max = before.rlim_max;
+    holds("which can be set", setrlimit(RLIMIT_AS, &less) == 0);
+    struct tried block;
+    int count = 0;
+    do {
+        block = rattle_alloc(1000, 8);
+    } while (block.ok && ++count < 100000);
+    holds("small blocks end, and then are refused", !block.ok && block.at && count > 10000);
+    holds("so are others", !rattle_alloc(64 << 20, 8).ok);
+    holds("without the limit there are more",
+          setrlimit(RLIMIT_AS, &before) == 0 && rattle_alloc(1000, 8).ok);
+}
+#else
+static void refusals(void) {
+}
+#endif
 
 static void words(void) {
     char buffer[8];
@@ -276,6 +299,7 @@ int main(int argc, char **argv) {
     }
     memory();
     many_blocks();
+    refusals();
     words();
     errors();
     output();
