@@ -95,8 +95,8 @@ pub struct Status {
     pub other_root: String,
     /// Its program's.
     pub version: String,
-    /// The parent that it is connected to, and its place in the list of parents, from 0; and why none
-    /// could be connected to last.
+    /// The parent that it is connected to, and its place in the list of parents, from 0; and why
+    /// none could be connected to last.
     pub parent: Option<String>,
     pub place: u32,
     pub no_parent: String,

@@ -145,12 +145,12 @@ impl Check<'_> {
                 self.say(at, false, "name", text);
             }
         }
-        for at in roots.iter().filter(|at| !may_be_promoted(&all[**at])) {
-            if let Some(other) = roots.iter().find(|other| *other != at) {
-                let other = paths[*other].display();
-                let text = format!("{other} is a root too, and not both have `standby`");
-                self.say(*at, false, "root", text);
-            }
+        // (of these each may be the only one)
+        let are_standbys = roots.iter().all(|at| may_be_promoted(&all[*at]));
+        for at in roots.iter().skip(1).filter(|_| !are_standbys) {
+            let first = paths[roots[0]].display();
+            let text = format!("{first} is the root too, and not both have `standby`");
+            self.say(*at, false, "root", text);
         }
         let mut above = vec![Vec::new(); all.len()];
         for (at, it) in all.iter().enumerate() {
@@ -189,14 +189,17 @@ impl Check<'_> {
                     self.say(*root, false, "parents", text);
                 }
             }
-            self.below(all, &above, *root, roots.len() > 1);
+        }
+        let together = if are_standbys { 1 } else { roots.len() };
+        for some in roots.chunks(together) {
+            self.below(all, &above, some, roots.len() > together);
         }
     }
 
-    /// What does not fit where this one is the root.
-    fn below(&mut self, all: &[Config], above: &[Vec<usize>], root: usize, is_named: bool) {
-        let mut depths = vec![None; all.len()];
-        depths[root] = Some(0);
+    /// What does not fit where these are the root.
+    fn below(&mut self, all: &[Config], above: &[Vec<usize>], roots: &[usize], is_named: bool) {
+        let (root, mut depths) = (roots[0], vec![None; all.len()]);
+        roots.iter().for_each(|at| depths[*at] = Some(0));
         // (first by the first parents alone, then by any)
         for most in [1, usize::MAX] {
             while let Some((at, depth)) = (0..all.len()).find_map(|at| {

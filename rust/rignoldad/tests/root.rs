@@ -109,7 +109,7 @@ fn root(settings: &Path, settled: bool) -> (Tried, Instant) {
 
 fn config(settings: &Path) -> config::Root {
     let (round, settings) = (ROUND, settings.into());
-    config::Root { settings, round, harmless: 3, hold: false, unsets: None }
+    config::Root { settings, round, harmless: 3, hold: false, unsets: None, standby: false }
 }
 
 /// One with settings that an earlier life applied.
