@@ -1,6 +1,7 @@
 #!/usr/bin/env -S python3 -B
 """The release for arm64, under Debian's emulator, or on such a machine itself: every example, some
-rows of the tables, the library from C, and a tree of daemons, some of which are for arm64.
+rows of the tables, the library from C, and a tree of daemons, some of which are for arm64. The
+daemon is built anew first, and compared.
 
 What is not here and cannot be had (the emulator, a C library, programs of these sources) is said,
 and not counted. The last line is 'N passed, M failed'.
@@ -76,6 +77,15 @@ def tries_library(cases, room, before):
     cases.works("arm64: the drawn runs", TOP / "tests/library/compare.py", "runs", made["link"])
 
 
+def compares_daemon(cases):
+    """Builds the daemon anew, and compares it with the one of the release."""
+    status, said = ran("tools/build_daemon", "--arm64", "--check")
+    if status in (3, 4):
+        print(f"the daemon for arm64 is NOT COMPARED: {said.strip()}")
+    else:
+        cases.holds("arm64: the kept daemon is that of the sources", status == 0, said)
+
+
 def tries_tree(cases, room, before):
     """Settings come down a tree of seven daemons, with TLS, and again after one is killed."""
     import daemons  # (it looks for the programs when it is asked for a tree)
@@ -134,6 +144,7 @@ def tried(cases, room):
 def main():
     os.chdir(TOP)
     cases = Cases()
+    compares_daemon(cases)
     with tempfile.TemporaryDirectory() as room:
         tried(cases, Path(room))
     return cases.sum_up()
