@@ -299,9 +299,11 @@ def versions_and_certificates_are_in_the_tree():
         # (one that is good for long is not in the reports)
         sure(seen()["root"][1] == seen()["left"][1] == 0, seen())
         sure(0 < seen()["leaf"][1] - time.time() <= 6 * 86_400, seen())
-        lines = tree.root.run("tree").stdout.splitlines()
-        sure(lines[3].endswith(f"{version}  up, certificate for 5 d"), lines)
-        sure(lines[2].endswith(f"{version}  up"), lines)
+        # (what it says first may be from before it had a table)
+        lines = lambda: tree.root.run("tree").stdout.splitlines()
+        is_up = lambda: lines()[3].endswith(f"{version}  up, certificate for 5 d")
+        sure(until(is_up, pause=0.1), lines())
+        sure(until(lambda: lines()[2].endswith(f"{version}  up"), pause=0.1), lines())
         sure(f"version        {version}" in tree.root.run("status").stdout)
 
 
