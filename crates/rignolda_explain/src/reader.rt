@@ -17,7 +17,7 @@ use serde_json::Value;
 use stab_core::StartFault;
 use stab_job::{Job, JobFault, job_of_value};
 use stab_script::{LinkJob, LinkJobFault, link_job_of_value};
-use stab_treecore::TreeStartFault;
+use stab_treecore::{TreeStartFault, check_starts};
 use std::alloc::{AllocError, Global};
 
 /// The kind that is given, or the one that the value looks like: an object with a member `tree` is
@@ -134,37 +134,35 @@ fn job_answer(alloc: Global, value: &Value) -> Result<Answer, AllocError>
         StopsAnswer StopsJob (job_of_data (view value.now)) answer.stop) }
 {
     match job_of_value(alloc, value) {
-        Ok(job) => Ok(accepted(stop_of_job(alloc, &job)?)),
+        Ok(job) => Ok(accepted(stop_of_job(&job))),
         Err(JobFault::Memory) => Err(AllocError),
         Err(fault) => Ok(refused(Refusal::Job(fault))),
     }
 }
 
 /// Why this job of a tree stops, if it does.
-fn stop_of_job(alloc: Global, job: &Job) -> Result<Option<Stop>, AllocError>
-    ensures { IfOk result (StopsJob job.now) }
+fn stop_of_job(job: &Job) -> Option<Stop>
+    ensures { StopsJob job.now result }
 {
-    if let Some(fault) = fault_of_starts(alloc, job)? {
-        return Ok(Some(Stop::Start(fault)));
-    }
-    if are_on_links(job) {
-        Ok(None)
+    if let Some(fault) = fault_of_starts(job) {
+        Some(Stop::Start(fault))
+    } else if are_on_links(job) {
+        None
     } else {
-        Ok(Some(Stop::Step))
+        Some(Stop::Step)
     }
 }
 
 /// The fault of the first link of a job that cannot begin, if there is one.
-fn fault_of_starts(alloc: Global, job: &Job) -> Result<Option<StartFault>, AllocError>
-    ensures { IfOk result (λ found. MatchOption found
+fn fault_of_starts(job: &Job) -> Option<StartFault>
+    ensures { MatchOption result
         (All CanBegin (network job.now).links)
-        (λ fault. IsFirstFault (network job.now).links fault × (fault ≢ StartFault.Memory))) }
+        (λ fault. IsFirstFault (network job.now).links fault × (fault ≢ StartFault.Memory)) }
 {
-    match job.initial_tree(alloc) {
-        Ok(_) => Ok(None),
-        Err(TreeStartFault::Start(StartFault::Memory)) => Err(AllocError),
-        Err(TreeStartFault::Start(fault)) => Ok(Some(fault)),
-        Err(_) => Err(AllocError),
+    match check_starts(job.params(), job.tree(), job.starts()) {
+        Ok(()) => None,
+        Err(TreeStartFault::Start(fault)) => Some(fault),
+        Err(TreeStartFault::StartCount | TreeStartFault::Step(_)) => unreachable!(),
     }
 }
 
