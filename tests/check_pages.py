@@ -1,6 +1,6 @@
 #!/usr/bin/env -S python3 -B
-"""Tests the scripts tools/pages.py and tests/edits.py in a small house of its own, and touches
-nothing else. The last line is 'N passed, M failed'.
+"""Tests the scripts tools/pages.py, tests/edits.py and tests/duplicates.py in a small house of its
+own, and touches nothing else. The last line is 'N passed, M failed'.
 """
 import sys
 
@@ -151,7 +151,8 @@ FILES = {
 def make_house(more=()):
     """Makes the house anew, with more files."""
     remove(top)
-    house.bring("tools/pages.py", "tools/crates.py", "tools/programs.py", "tests/edits.py")
+    house.bring("tools/pages.py", "tools/crates.py", "tools/programs.py", "tests/edits.py",
+                "tests/duplicates.py")
     for path, text in {**FILES, **dict(more)}.items():
         write(path, text)
 
@@ -325,4 +326,49 @@ stale("and a file that nobody tries", 7, {
     "cup_without_level is no edit: nobody tries it")
 stale("and a folder of no crate", 9, {"tests/more_edits/high/it.edit": ""}, "tests/more_edits/high",
       "crates.txt lists no such crate")
+
+# Lines that are there twice: a run of eight, each of which has another form than the one before.
+RUN = "fn pour(by: u16) {\n  let left = by;\n  if left > 7 {\n    spill(left);\n  }\n" \
+    '  let said = "gone";\n  print(said, left);\n  while left > by {\n    fill(by)\n  }\n}\n'
+OTHER = RUN.replace("pour", "wash").replace("left", "rest").replace('"gone"', '"a b"')
+COPIES, ROOM = "tests/duplicates.txt", "src 8\nspecs 0\nproofs 0\n"
+
+
+def twice(name, src, more=(), table=ROOM, note=(), fault=None, proofs=(0, 0)):
+    """Whether so many copies in src, of so many lines, are found in a house with these files."""
+    make_house({COPIES: table, "crates/low/src/pour.rt": RUN, **dict(more)})
+    says(name, "tests/duplicates.py", bool(fault), *note,
+         *(f"{'OTHER' if it == fault else 'same'}{'  ' if it == fault else '   '}"
+           f"{number} copies in {it}, of {lines} lines" + (
+               f"\n       {COPIES} says {known}: `tests/duplicates.py N` lists the N longest "
+               "copies of each kind" if it == fault else "")
+           for it, (number, lines), known in (("src", src, 8), ("specs", (0, 0), 0),
+                                              ("proofs", proofs, 0))),
+         f"{3 - bool(fault)} passed, {int(bool(fault))} failed")
+
+
+twice("lines that are there once are no copies", (0, 0),
+      note=[f"{COPIES}: write 0 in place of 8 for src"])
+twice("as many as before are well", (1, 8), {"crates/low/src/wash.rt": OTHER})
+for name, more in (
+        ("a copy more is found", {"crates/low/src/more.rt": OTHER, "crates/low/src/z.rt": RUN}),
+        ("also in one file", {"crates/low/src/more.rt": f"{OTHER}{RUN}"})):
+    twice(name, (2, 16), more, fault="src")
+twice("and in proofs, with other words", (0, 0), fault="proofs", proofs=(1, 8),
+      table=ROOM.replace("src 8", "src 0"), more={
+          "crates/low/proofs/A.antt": RUN, "crates/low/proofs/B.antt": OTHER})
+for name, text, lines in (
+        ("with comments and imports between its lines", OTHER.replace(
+            "{\n", "{ // it\n  // pours\n\n  use it;\n"), 8),
+        ("and lines of the same form as the one before", OTHER.replace(
+            "  let rest = by;\n", "  let rest = by;\n  let more = it;\n"), 8),
+        ("but no shorter run", RUN.replace("    fill(by)\n", ""), 0),
+        ("nor one where a word would become two", RUN.replace("spill(left)", "spill(by)"), 0)):
+    twice(name, (int(lines > 0), lines), {"crates/low/src/wash.rt": text},
+          table=ROOM.replace("8", str(lines)))
+make_house({COPIES: ROOM, "crates/low/src/pour.rt": RUN, "crates/low/src/wash.rt": OTHER})
+holds("and the longest are listed", house.run(top / "tests/duplicates.py", "1").out.startswith(
+    "8 lines: crates/low/src/wash.rt:1-9 as crates/low/src/pour.rt:1-9\n"))
+remove(top / COPIES)
+holds("without the table it fails", house.run(top / "tests/duplicates.py").status == 1)
 sys.exit(house.sum_up())
