@@ -100,14 +100,15 @@ def the_root_comes(tree):
 
 
 class Child:
-    """A child that takes and acknowledges all, and sends what it is told to."""
+    """A child that takes all, acknowledges it as long as it may, and sends what it is told to."""
 
     def __init__(self, parent, name, context=None):
         self.lock = threading.Lock()
         sock = parent.connect()
         self.sock = context.wrap_socket(sock) if context else sock
         self.sock.sendall(hello(name, parent.name))
-        self.closed = threading.Event()
+        self.closed, self.may = threading.Event(), threading.Event()
+        self.may.set()
         self.taker = threading.Thread(target=self.take, daemon=True)
         self.taker.start()
 
@@ -117,6 +118,7 @@ class Child:
             while True:
                 label, _, length = struct.unpack(">HII", exactly(self.sock, 11)[1:])
                 exactly(self.sock, length)
+                self.may.wait()
                 self.send(b"A" + struct.pack(">H", label))
         except (OSError, EOFError, ValueError, AssertionError):
             self.closed.set()
@@ -129,6 +131,7 @@ class Child:
         # (what waits in OpenSSL for a descriptor would read from whoever is given that one next)
         with contextlib.suppress(OSError):
             self.sock.shutdown(socket.SHUT_RDWR)
+        self.may.set()
         self.taker.join()
         self.sock.close()
 

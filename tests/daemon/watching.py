@@ -279,6 +279,25 @@ def invented_agents_drive_nobody_out():
 
 
 @test
+def a_last_acknowledgement_is_news():
+    def before(tree):
+        very_patient(tree)
+        tree.root.tables["root"]["round"] = "1h"
+
+    with running({"left": "root", "slow": "left"}, before, without=["slow"]) as tree:
+        slow = Child(tree["left"], "slow")
+        backlog = lambda: [it["backlog"] for it in tree.root.ask("tree") if it["name"] == "left"]
+        sure(until(lambda: backlog() == [0]), backlog())
+        slow.may.clear()
+        tree.root.ask("publish", "two", "2")
+        sure(until(lambda: backlog() == [1]), backlog())
+        slow.may.set()
+        # (what is no news is said again after 30 seconds)
+        sure(until(lambda: backlog() == [0], 20 / PATIENCE), "the root hears late of", backlog())
+        slow.close()
+
+
+@test
 def a_chain_of_invented_agents_is_short():
     with running({"liar": "root"}, very_patient, without=["liar"]) as tree:
         liar = Child(tree.root, "liar")

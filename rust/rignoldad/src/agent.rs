@@ -86,6 +86,8 @@ pub struct Agent {
     state: State,
     servers: Vec<Server>,
     reported: Instant,
+    /// What the children had not acknowledged when it last reported that.
+    reported_backlog: u64,
     checked: Instant,
     /// What was not taken at the last reload, and why.
     reload_failed: String,
@@ -408,6 +410,7 @@ impl Agent {
             wake,
             servers: control.chain(counts).collect::<Result<_, _>>()?,
             reported: now,
+            reported_backlog: 0,
             checked: now,
             reload_failed: String::new(),
             config,
@@ -561,6 +564,8 @@ impl Agent {
         self.checked = now;
         self.full_until = self.full_until.min(now + FULL);
         self.reported = self.reported.min(now);
+        // (where a child acknowledges the last item, nothing else may be new)
+        self.state.changed |= self.reported_backlog != self.backlog();
         let table = &mut self.state.table;
         table.changed = older(table.changed, table.taker.number);
         self.state.knows_groups();
@@ -693,7 +698,14 @@ impl Agent {
         }
         let bytes = self.state.below.report(&self.status(now), now);
         self.state.changed &= !self.peers.report(&bytes);
-        self.reported = now;
+        (self.reported, self.reported_backlog) = (now, self.backlog());
+    }
+
+    /// What the children have not acknowledged.
+    fn backlog(&self) -> u64 {
+        let relay = self.peers.relay();
+        let backlogs = relay.children().map(|(_, link)| relay.backlog(link));
+        backlogs.fold(0, u64::saturating_add)
     }
 
     pub fn status(&self, now: Instant) -> Status {
