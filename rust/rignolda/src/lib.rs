@@ -68,8 +68,8 @@
 //! | [`Session::ack`] gives none in turn | [`Session::open`] * |
 //! | [`Node::length`] is [`u64::MAX`] | makes the node anew, and its children * |
 //!
-//! Let each node [forget](Node::forget) before it takes a frame or publishes. What was closed by you
-//! stays closed.
+//! Let each node [forget](Node::forget) before it takes a frame or publishes. What was closed by
+//! you stays closed.
 //!
 //! # What is proved
 //!

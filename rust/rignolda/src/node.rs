@@ -173,9 +173,9 @@ impl Node {
         unsafe { calls::rignolda_node_forget(&mut self.raw, place) }
     }
 
-    /// Whether the item that this child would be offered next is forgotten, or its count is past the
-    /// end of the list. It is offered nothing more then, until it is made anew by [`Node::child`]. So
-    /// it is with a child of another node.
+    /// Whether the item that this child would be offered next is forgotten, or its count is past
+    /// the end of the list. It is offered nothing more then, until it is made anew by
+    /// [`Node::child`]. So it is with a child of another node.
     pub fn left_behind(&self, child: &Child) -> bool {
         // SAFETY: the call only reads.
         !self.has(child)
@@ -199,8 +199,8 @@ impl Node {
         unsafe { calls::rignolda_receiver_close(&mut self.raw.above) }
     }
 
-    /// Opens the link from above anew, with the label that the receiver remembers. The list stays as
-    /// it is, and [a new count](crate#a-count) of the link begins.
+    /// Opens the link from above anew, with the label that the receiver remembers. The list stays
+    /// as it is, and [a new count](crate#a-count) of the link begins.
     ///
     /// ```
     /// use rignolda::{Frame, Node};

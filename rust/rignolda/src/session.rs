@@ -63,8 +63,8 @@ impl<End> Session<End> {
     }
 
     /// Begins a connection that this end is about to make: its number, unless none is left. The one
-    /// that the end had is left, and is to be closed. Where none is left, close all that the end has
-    /// open, and make this session anew, with its end.
+    /// that the end had is left, and is to be closed. Where none is left, close all that the end
+    /// has open, and make this session anew, with its end.
     pub fn made(&mut self) -> Option<Connection> {
         // SAFETY: the call has this session for itself.
         NonZeroU64::new(unsafe { calls::rignolda_session_made(&mut self.raw) }).map(Connection)

@@ -9,7 +9,8 @@
 //! and a whole one. A round needs [enough harmless items](Publisher::begin_round), and gets to all
 //! before the next one begins. Before [each table](Publisher::is_table_next) the root takes [its
 //! settings](Publisher::replace) anew from where they are kept, since what it remembers may be
-//! spoiled too; and each agent looks at all of its files when [that of a round](Heard::looks) comes.
+//! spoiled too; and each agent looks at all of its files when [that of a round](Heard::looks)
+//! comes.
 //!
 //! ```
 //! use rignolda::settings::{Meaning, Publisher, Table};
@@ -244,8 +245,8 @@ pub struct Table {
 }
 
 impl Table {
-    /// Whether to take a body that came now. Whether to apply it, `heard` says. What there is no room
-    /// for is as if it did not come.
+    /// Whether to take a body that came now. Whether to apply it, `heard` says. What there is no
+    /// room for is as if it did not come.
     pub fn takes(&mut self, sequence: u64, meaning: &Meaning<'_>) -> bool {
         let before = self.taker.number;
         if let Meaning::Changes(entries) = meaning {

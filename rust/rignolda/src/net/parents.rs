@@ -1,16 +1,17 @@
 //! The choice of a parent: whom an agent looks at, whom it takes, and what it says of its way.
 //!
-//! An agent says its [`Way`]: a cost, and the names from its head to itself. A root costs 0. Who has
-//! no parent is a head, and costs [`NONE`]. Over a parent that says `d` the way costs `d` and what
-//! that parent costs: 1 and a price, 8 for each place in the list or what the configuration says.
+//! An agent says its [`Way`]: a cost, and the names from its head to itself. A root costs 0. Who
+//! has no parent is a head, and costs [`NONE`]. Over a parent that says `d` the way costs `d` and
+//! what that parent costs: 1 and a price, 8 for each place in the list or what the configuration
+//! says.
 //!
 //! - Who would cost [`CIRCLE`], or whose parent's way has the agent's own name, leaves that parent.
 //! - A candidate is looked at before it is taken. It is taken where the way over it is better twice
 //!   in turn, and costs less than [`NONE`]; where the agent has no root, once will do.
-//! - Who has a parent that has lost the root stays with it until a candidate has one: while the root
-//!   is away nobody moves. Without a parent a candidate that has no root is taken only by an agent
-//!   that has one candidate alone, or no children; and after a circle only where the head's name is
-//!   smaller than its own, so that not all who left the circle come back to it.
+//! - Who has a parent that has lost the root stays with it until a candidate has one: while the
+//!   root is away nobody moves. Without a parent a candidate that has no root is taken only by an
+//!   agent that has one candidate alone, or no children; and after a circle only where the head's
+//!   name is smaller than its own, so that not all who left the circle come back to it.
 //! - While no candidate could be better, whatever it says, nobody is looked at.
 //!
 //! A parent that speaks version 1 says no way. It counts as a root where it is the first of the

@@ -37,8 +37,8 @@ pub struct Worker<J, D> {
     thread: thread::JoinHandle<()>,
     /// Whether it does one now.
     works: Arc<AtomicBool>,
-    /// How many jobs have no answer yet, and whether none was waited for since the last look; and at
-    /// how many looks in turn it did none of them.
+    /// How many jobs have no answer yet, and whether none was waited for since the last look; and
+    /// at how many looks in turn it did none of them.
     waits: Cell<u32>,
     rested: Cell<bool>,
     lost: Cell<u32>,

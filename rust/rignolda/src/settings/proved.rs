@@ -221,9 +221,9 @@ pub(crate) fn body(kind: u8, number: u64, entries: &[Entry<'_>], size: usize) ->
     bytes
 }
 
-/// What an agent remembers of the numbers of bodies. It takes each body that is newer than the last,
-/// and applies it unless its files are from a later one: an agent that begins anew waits until it
-/// has caught up with its files. So nothing older ever follows what is newer.
+/// What an agent remembers of the numbers of bodies. It takes each body that is newer than the
+/// last, and applies it unless its files are from a later one: an agent that begins anew waits
+/// until it has caught up with its files. So nothing older ever follows what is newer.
 #[repr(C)]
 #[derive(Clone, Copy, Debug, Default, PartialEq, Eq)]
 pub struct Taker {

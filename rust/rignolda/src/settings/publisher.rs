@@ -166,8 +166,8 @@ impl Publisher {
         self.numbers.begin_round(harmless);
     }
 
-    /// Goes on above this number, where it is ahead: an agent has it, so it would take nothing else.
-    /// The whole table comes next. Whether it was ahead.
+    /// Goes on above this number, where it is ahead: an agent has it, so it would take nothing
+    /// else. The whole table comes next. Whether it was ahead.
     pub fn go_above(&mut self, number: u64) -> bool {
         self.numbers.go_above(number)
     }
@@ -226,7 +226,8 @@ impl Publisher {
             let mut bytes = own.iter().map(entry_bytes).sum::<usize>();
             let lacks =
                 |own: &[Entry<'_>], bytes| bytes > room || entries.len() + own.len() > SETTINGS;
-            // (all that is set has room in a table, and which of the others are unset, that says too)
+            // (all that is set has room in a table, and which of the others are unset, that says
+            // too)
             while count == 0 && lacks(&own, bytes) {
                 bytes -= own.pop().map_or(bytes, |last| entry_bytes(&last));
             }

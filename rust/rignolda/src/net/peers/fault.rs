@@ -18,8 +18,8 @@ const LOOK_UP: Duration = Duration::from_secs(300);
 /// After how long at most somebody other than a candidate is called again, unless it is to connect.
 const PAUSE: Duration = Duration::from_secs(3);
 /// How many times its patience a child may lack an item and take none, and how many seconds more;
-/// the same where no item is on its way to it; and where its link lies in a store, which may be slow
-/// to answer.
+/// the same where no item is on its way to it; and where its link lies in a store, which may be
+/// slow to answer.
 const TAKES: (u32, u64) = (2, 1);
 const SENT_NOTHING: (u32, u64) = (0, 2);
 const TAKES_IN_STORE: (u32, u64) = (10, 10);

@@ -73,8 +73,8 @@ pub(super) struct Words {
 }
 
 impl Words {
-    /// Whether it may begin anew now, or set again what others spoiled, where so many bytes are kept
-    /// for it; then it begins.
+    /// Whether it may begin anew now, or set again what others spoiled, where so many bytes are
+    /// kept for it; then it begins.
     pub(super) fn may_begin(&mut self, kept: usize, now: Instant) -> bool {
         let may = self.calm.map_or(true, |calm| now >= calm);
         if may {

@@ -1,0 +1,162 @@
+//! What is read from connections, and written to them.
+use super::connection::{Chunk, Conn, Line};
+use super::{Context, Handler, Peers};
+use crate::net::wire::Expect;
+use crate::net::Result;
+use std::collections::BTreeSet;
+use std::io::{ErrorKind, IoSlice};
+use std::time::Instant;
+use std::{fmt, mem};
+
+/// How many messages wait at most on a connection that brings more.
+const UNREAD: usize = 16;
+/// How much is read from one connection before the others have their turn.
+const TURN_BYTES: usize = 1 << 20;
+/// The same in reads, each of which may bring little and take long.
+const TURN_READS: usize = 128;
+/// How many connections whose hello has not come are read in one turn: each may take as long as a
+/// handshake of TLS, and those that are established come first.
+const TURN_GREETINGS: usize = 8;
+
+impl<L: Line, A: Clone + PartialEq + fmt::Display> Peers<L, A> {
+    pub(super) fn send(&mut self, id: u64, bytes: Vec<u8>) {
+        self.push(id, Chunk::Bytes(bytes));
+    }
+
+    /// This is to be written behind all that is to be written already.
+    pub(super) fn push(&mut self, id: u64, chunk: Chunk) {
+        self.conn_with(id, |conn| conn.output.push_back(chunk));
+        self.unsent.insert(id);
+        self.touched.insert(id);
+    }
+
+    /// The other end has closed this line: it is read to its end.
+    pub fn ends(&mut self, id: u64) {
+        self.conn_with(id, |conn| conn.ends = true);
+    }
+
+    /// Reads lines that can be read, and those of which there is more: each whole message is
+    /// handled, and what follows from it is written.
+    pub fn read(&mut self, ids: impl IntoIterator<Item = u64>, now: Instant, to: &mut dyn Handler) {
+        let cx = &mut Context { now, to };
+        // (those that were put off come first: else a few that are always ready would come alone)
+        let mut seen = BTreeSet::new();
+        let all = mem::take(&mut self.again).into_iter().chain(ids);
+        let all = all.filter(|id| seen.insert(*id));
+        let waits = |id: &u64| self.conns.get(id).map_or(false, Conn::is_greeting);
+        let (waiting, mut ready): (Vec<u64>, Vec<u64>) = all.partition(waits);
+        let (first, later) = waiting.split_at(waiting.len().min(TURN_GREETINGS));
+        ready.extend_from_slice(first);
+        self.again.extend_from_slice(later);
+        for id in ready {
+            match self.read_one(id, cx) {
+                Ok(()) => self.write_one(id, cx),
+                Err(why) => {
+                    self.conn_with(id, |it| it.is_mute = !it.has_said && it.output.is_empty());
+                    self.leave_line(id, &why, cx);
+                }
+            }
+            self.comes_until(self.conns.get(&id).and_then(|conn| conn.until));
+        }
+        self.tell(now);
+    }
+
+    /// There may be something to do by then.
+    pub(super) fn comes_until(&self, at: Option<Instant>) {
+        let due = self.due.get();
+        self.due
+            .set(due.map(|due| at.map_or(due, |at| due.min(at))));
+    }
+
+    fn read_one(&mut self, id: u64, cx: &mut Context<'_>) -> Result<(), String> {
+        let (mut total, mut reads) = (0, 0);
+        while let Some(conn) = self.conns.get_mut(&id) {
+            reads += 1;
+            let room = match &mut conn.part {
+                Some(part) => &mut part.body.bytes[part.come..],
+                None => &mut self.space[..],
+            };
+            let most = room.len().min(TURN_BYTES);
+            match conn.line.read(&mut room[..most]) {
+                Ok(0) => return Err("the other end closed it".into()),
+                Ok(count) => {
+                    total += count;
+                    let is_all = count < most && !conn.ends && conn.line.is_socket();
+                    match &mut conn.part {
+                        Some(part) => part.come += count,
+                        None => conn.input.extend_from_slice(&self.space[..count]),
+                    }
+                    self.messages(id, cx)?;
+                    if is_all {
+                        break;
+                    }
+                }
+                Err(e) if e.kind() == ErrorKind::WouldBlock => break,
+                Err(e) if e.kind() == ErrorKind::Interrupted => (),
+                Err(e) => return Err(e.to_string()),
+            }
+            if total >= TURN_BYTES || reads >= TURN_READS {
+                // (by TLS, there may be more of which the system knows nothing)
+                self.again.push(id);
+                break;
+            }
+        }
+        Ok(())
+    }
+
+    /// Writes what can be written now.
+    pub fn write(&mut self, now: Instant, to: &mut dyn Handler) {
+        let cx = &mut Context { now, to };
+        for id in mem::take(&mut self.unsent) {
+            self.write_one(id, cx);
+        }
+    }
+
+    pub(super) fn write_one(&mut self, id: u64, cx: &mut Context<'_>) {
+        let conn = match self.conns.get_mut(&id) {
+            Some(conn) => conn,
+            None => return,
+        };
+        self.touched.insert(id);
+        while let Some(chunk) = conn.output.front() {
+            let done = match chunk.from(conn.written) {
+                [&[], &[]] => {
+                    conn.output.pop_front();
+                    conn.written = 0;
+                    continue;
+                }
+                [&[], left] | [left, &[]] => conn.line.write(left),
+                both => conn.line.write_vectored(&both.map(IoSlice::new)),
+            };
+            match done {
+                Ok(0) => return self.leave_line(id, "it takes nothing", cx),
+                Ok(count) => conn.written += count,
+                Err(e) if e.kind() == ErrorKind::WouldBlock => return,
+                Err(e) if e.kind() == ErrorKind::Interrupted => (),
+                Err(e) => return self.leave_line(id, &e.to_string(), cx),
+            }
+        }
+    }
+
+    /// Handles each whole message that a connection brought.
+    pub(super) fn messages(&mut self, id: u64, cx: &mut Context<'_>) -> Result<(), String> {
+        while let Some(conn) = self.conns.get_mut(&id) {
+            if conn.output.len() > UNREAD {
+                return Err("it reads nothing".into());
+            }
+            conn.has_said = true;
+            let expect = conn.expects();
+            let message = conn.next(expect)?;
+            match (expect, &message) {
+                (Expect::Frames, Some(_)) => conn.is_alive(cx.now),
+                (Expect::Frames, None) => conn.waits_for_rest(cx.now),
+                _ => (),
+            }
+            match message {
+                Some(message) => self.message(id, message, cx)?,
+                None => break,
+            }
+        }
+        Ok(())
+    }
+}

@@ -1,0 +1,219 @@
+//! One connection: what it is for, what comes and what is to be written.
+use super::{Whom, READ_BYTES};
+use crate::net::parents::SILENCE;
+use crate::net::wire::{self, Expect, Hello, Message, FIRST, FRAME_HEAD, OLD};
+use crate::net::{Body, Result};
+use crate::Connection;
+use std::collections::VecDeque;
+use std::io::{Read, Write};
+use std::sync::Arc;
+use std::time::{Duration, Instant};
+
+/// The slowest line on which a body counts as under way, in bytes a second.
+const SLOWEST: u64 = 64 << 10;
+/// A body that is longer than this is read to its place.
+const LONG: usize = READ_BYTES;
+
+/// A connection of bytes that never makes its caller wait.
+pub trait Line: Read + Write {
+    /// Whether the other end may be called so, by its certificate say.
+    fn may_be(&self, name: &str) -> bool;
+
+    /// Where the other end is, and who, as far as that is known: for the journal.
+    fn place(&self) -> String {
+        "somewhere".into()
+    }
+
+    /// Whether it is a socket, or like one: a read that does not fill its room has taken all that
+    /// there was, so no other one follows it, unless [the other end closed](super::Peers::ends) the
+    /// line; and what is written by one call goes together.
+    fn is_socket(&self) -> bool {
+        false
+    }
+}
+
+/// What a connection is for.
+#[derive(Clone)]
+pub(super) enum State {
+    /// It was accepted, and nobody knows whose it is.
+    Accepted,
+    /// It was accepted, and a look was answered. The other end goes on with a hello, or closes it.
+    Answered,
+    /// The parent at this place has made it, and its way is to come.
+    Comes(usize, Hello),
+    /// By it the parent at this place is looked at for this call; and the rank that its hello told,
+    /// once it has come.
+    Looks(Whom, usize, Option<u64>),
+    /// It is one of the link with this end, whose hello came then or is to come.
+    Link(Whom, Connection, Option<Instant>),
+}
+
+pub(super) struct Conn<L> {
+    pub(super) line: L,
+    pub(super) since: Instant,
+    pub(super) state: State,
+    pub(super) input: Vec<u8>,
+    /// The body that comes.
+    pub(super) part: Option<Part>,
+    pub(super) output: VecDeque<Chunk>,
+    /// How much of the first chunk is written.
+    pub(super) written: usize,
+    /// When it is closed, unless what it waits for comes; and whether that is for the length of a
+    /// frame that is under way.
+    pub(super) until: Option<Instant>,
+    pub(super) is_timed: bool,
+    /// Which version is spoken, as far as is known; whether the frame to a child that is under way
+    /// only refers to its body; whether the other end has said anything; and whether it left
+    /// without a word.
+    pub(super) version: u8,
+    pub(super) refers: bool,
+    pub(super) has_said: bool,
+    pub(super) is_mute: bool,
+    /// Whether its end comes behind what can be read.
+    pub(super) ends: bool,
+    /// The name that its hello had, right or not, in words.
+    pub(super) says: String,
+}
+
+impl<L> Conn<L> {
+    /// One on which nothing has travelled.
+    pub(super) fn new(line: L, state: State, now: Instant, until: Instant) -> Conn<L> {
+        Conn {
+            line,
+            since: now,
+            state,
+            input: Vec::new(),
+            part: None,
+            output: VecDeque::new(),
+            written: 0,
+            until: Some(until),
+            is_timed: false,
+            version: FIRST,
+            refers: false,
+            has_said: false,
+            is_mute: false,
+            ends: false,
+            says: String::new(),
+        }
+    }
+
+    /// Whether the other end knows no ways.
+    pub(super) fn is_old(&self) -> bool {
+        self.version == OLD
+    }
+
+    /// Whether it was accepted, and nobody knows whose it is.
+    pub(super) fn is_greeting(&self) -> bool {
+        !matches!(self.state, State::Looks(..) | State::Link(..))
+    }
+
+    /// The other end, where it is one of a link.
+    pub(super) fn link(&self) -> Option<(Whom, Connection)> {
+        match &self.state {
+            State::Link(whom, number, _) => Some((whom.clone(), *number)),
+            _ => None,
+        }
+    }
+
+    /// Since when it is one of a link whose hello has come.
+    pub(super) fn greeted(&self) -> Option<Instant> {
+        match self.state {
+            State::Link(_, _, since) => since,
+            _ => None,
+        }
+    }
+
+    pub(super) fn expects(&self) -> Expect {
+        match &self.state {
+            State::Link(Whom::Child(_), _, Some(_)) => Expect::Acks,
+            State::Link(_, _, Some(_)) => Expect::Frames,
+            State::Looks(_, _, Some(_)) | State::Comes(..) => Expect::Way,
+            _ => Expect::Hello,
+        }
+    }
+
+    /// Of a parent, something whole came.
+    pub(super) fn is_alive(&mut self, now: Instant) {
+        self.until = (!self.is_old()).then(|| now + SILENCE);
+        self.is_timed = false;
+    }
+
+    /// What is under way from a parent has its time by its length, however its bytes come.
+    pub(super) fn waits_for_rest(&mut self, now: Instant) {
+        let part = self.part.as_ref().map(|part| part.body.bytes.len());
+        let length = part.or_else(|| wire::head(&self.input).map(|head| head.2));
+        let length = length.filter(|_| !self.is_timed);
+        self.is_timed |= length.is_some();
+        if length.is_some() || (self.until.is_none() && !self.input.is_empty()) {
+            let length = length.unwrap_or(0);
+            self.until = Some(now + SILENCE + travels(length));
+        }
+    }
+}
+
+/// A long body of which the first bytes have come.
+pub(super) struct Part {
+    pub(super) label: u16,
+    pub(super) body: Body,
+    pub(super) come: usize,
+}
+
+impl<L> Conn<L> {
+    /// The next whole message of what came.
+    pub(super) fn next(&mut self, expect: Expect) -> Result<Option<Message>> {
+        if self.part.is_none() {
+            let message = wire::take(&mut self.input, expect)?;
+            if message.is_some() || expect != Expect::Frames {
+                return Ok(message);
+            }
+            self.begin_part();
+        }
+        match self.part.take() {
+            Some(part) if part.come == part.body.bytes.len() => {
+                Ok(Some(Message::Frame(part.label, Arc::new(part.body))))
+            }
+            part => {
+                self.part = part;
+                Ok(None)
+            }
+        }
+    }
+
+    /// What has come of a long body goes to its place, and the rest is read there.
+    fn begin_part(&mut self) {
+        let head = wire::head(&self.input).filter(|(.., length)| *length > LONG);
+        if let Some((label, item, length)) = head {
+            let first = &self.input[FRAME_HEAD..];
+            let (mut bytes, come) = (vec![0; length], first.len());
+            bytes[..come].copy_from_slice(first);
+            self.input.clear();
+            let body = Body { item, bytes };
+            self.part = Some(Part { label, body, come });
+        }
+    }
+}
+
+/// How long a body of this length may be under way.
+pub(super) fn travels(length: usize) -> Duration {
+    Duration::from_secs(length as u64 / SLOWEST)
+}
+
+pub(super) enum Chunk {
+    Bytes(Vec<u8>),
+    Way(Vec<u8>),
+    /// A frame: what is before its body, and that.
+    Frame([u8; FRAME_HEAD], Arc<Body>),
+}
+
+impl Chunk {
+    /// Its bytes from this place on, in two parts.
+    pub(super) fn from(&self, place: usize) -> [&[u8]; 2] {
+        match self {
+            Chunk::Bytes(bytes) | Chunk::Way(bytes) => [&[], &bytes[place..]],
+            Chunk::Frame(head, body) => match place.checked_sub(FRAME_HEAD) {
+                Some(place) => [&[], &body.bytes[place..]],
+                None => [&head[place..], &body.bytes],
+            },
+        }
+    }
+}

@@ -1,0 +1,341 @@
+//! What each end says first, and of its way: who it is, and whether it is taken.
+use super::connection::{Chunk, Conn, Line, State};
+use super::dials::LOOKED;
+use super::{fact, Children, Context, Parent, Peers, Whom, BEAT, NONE};
+use crate::net::wire::{self, Expect, Hello, FIRST, OLD, VERSION};
+use crate::net::{Relay, Result, Way};
+use crate::Connection;
+use std::fmt;
+use std::time::Instant;
+
+/// How many children there are at most where any may connect.
+const ANY: usize = 10_000;
+
+impl<L: Line, A: Clone + PartialEq + fmt::Display> Peers<L, A> {
+    /// Says a hello where it is one of a link; else it looks at a candidate, or answers that: by
+    /// that no life is told, but the rank of a root, and no label.
+    pub(super) fn say(&mut self, id: u64, to: String) {
+        if let Some(conn) = self.conns.get(&id) {
+            let whom = conn.link().map(|(whom, _)| whom);
+            let version = whom.as_ref().map_or(FIRST, |_| conn.version);
+            let hello = self.hello(version, whom.as_ref(), to);
+            let bytes = match whom {
+                None => hello.look(),
+                Some(_) => hello.bytes(),
+            };
+            self.send(id, bytes);
+        }
+    }
+
+    pub(super) fn hello(&mut self, version: u8, whom: Option<&Whom>, to: String) -> Hello {
+        let (life, label) = match whom {
+            Some(Whom::Parent) => (self.told(), self.relay.label()),
+            Some(_) if version == OLD => (self.life, self.relay.label()),
+            Some(_) => (self.life, Hello::range(OLD..=VERSION)),
+            None => (self.setup.rank.unwrap_or(0), Hello::range(OLD..=VERSION)),
+        };
+        Hello {
+            version,
+            life,
+            label,
+            from: self.setup.name.clone(),
+            to,
+        }
+    }
+
+    /// Says the own way, if the other end knows what that is.
+    pub(super) fn say_way(&mut self, id: u64) {
+        if let Some(conn) = self.conns.get_mut(&id).filter(|conn| !conn.is_old()) {
+            let is_unsent = conn.output.len() > 1 || conn.written == 0;
+            if is_unsent && matches!(conn.output.back(), Some(Chunk::Way(_))) {
+                conn.output.pop_back();
+            }
+            let way = wire::way(self.parents.says());
+            self.push(id, Chunk::Way(way));
+        }
+    }
+
+    /// Tells all children the way where it is another one, or they were told long ago. (Who has
+    /// something else to read knows that this agent is there.)
+    pub(super) fn tell(&mut self, now: Instant) {
+        let (has_news, is_beat) = (self.parents.has_news(), now >= self.beat);
+        if is_beat {
+            self.beat = now + BEAT;
+        }
+        if has_news || is_beat {
+            let waits = |it: &Conn<L>| !has_news && !it.output.is_empty();
+            for id in self.all_that(|it| it.expects() == Expect::Acks && !waits(it)) {
+                self.say_way(id);
+            }
+        }
+        if has_news && self.parents.says().cost >= NONE {
+            for (whom, dial) in &mut self.dials {
+                if let Whom::Candidate(at) = whom {
+                    let soon = now + self.parents.pause(*at);
+                    dial.next = dial.next.map(|next| next.min(soon));
+                }
+            }
+        }
+    }
+
+    /// The life that a parent is told. It is another one than what another parent was told before,
+    /// so that the parent begins a new count: what the receiver remembers may be that parent's, and
+    /// even look as if it had come from this one.
+    pub(super) fn told(&mut self) -> u64 {
+        let parent = self.candidate(self.parents.at()).map(Parent::to_string);
+        let is_other = self.told.0.is_some() && self.told.0 != parent;
+        self.told = (parent, self.told.1 + u64::from(is_other));
+        self.life.wrapping_add(self.told.1)
+    }
+
+    /// Who says this hello or look, and of a parent, which one.
+    pub(super) fn who(&mut self, id: u64, hello: &Hello) -> Result<(Whom, usize)> {
+        let Hello { from, to, .. } = hello;
+        let says = format!(", which calls itself {from}");
+        self.conn_with(id, |conn| conn.says = says);
+        let conn = self.conns.get(&id).ok_or("it is gone")?;
+        let is_meant = *to == self.setup.name;
+        let (whom, at) = match &conn.state {
+            State::Looks(whom, at, _) => (whom.clone(), *at),
+            State::Link(whom, ..) => (whom.clone(), self.parents.at()),
+            // (a child that was told no name of its parent says none)
+            _ if !is_meant && !to.is_empty() => return Err("it means another agent"),
+            _ => self.caller(from).ok_or("its name is none of a child")?,
+        };
+        let name = self.name_of(&whom, at);
+        let is_other = name.map_or(false, |name| name != from);
+        if is_other || !(is_meant || conn.is_greeting()) {
+            return Err("its hello has other names");
+        } else if !conn.line.may_be(from) {
+            return Err("its certificate has another name");
+        }
+        Ok((whom, at))
+    }
+
+    /// An end says a hello, or looks at this one, or is a candidate that answers.
+    pub(super) fn greets(
+        &mut self,
+        id: u64,
+        hello: Hello,
+        is_look: bool,
+        cx: &mut Context<'_>,
+    ) -> Result<(), String> {
+        let (whom, at) = self.who(id, &hello)?;
+        let version = self.common(id, &hello, is_look || whom == Whom::Parent, cx)?;
+        let is_old = version == OLD;
+        let conn = self.conns.get_mut(&id).ok_or("it is gone")?;
+        conn.version = version;
+        match (&mut conn.state, whom) {
+            (State::Looks(_, _, rank), _) if is_look => *rank = Some(hello.life),
+            (State::Link(Whom::Child(_), ..), _) if is_look => {
+                return Err("it has another parent".into());
+            }
+            (State::Accepted, Whom::Child(name)) if is_look => {
+                self.say(id, name);
+                self.say_way(id);
+                self.answered(id, cx.now);
+            }
+            (State::Accepted, _) if is_look => return Err("its name is none of a child".into()),
+            (state, _) if is_look || matches!(state, State::Looks(..)) => {
+                return Err("it is no hello".into());
+            }
+            (_, Whom::Child(_)) => self.child_greets(id, &hello, cx)?,
+            (State::Link(..), _) => {
+                if is_old {
+                    self.parents.took(at, self.parents.old(at));
+                }
+                self.parent_greets(id, &hello, cx)?;
+            }
+            (state, _) => {
+                // (nothing has changed yet: first its way is to come, or it is of version 1)
+                *state = State::Comes(at, hello);
+                if is_old {
+                    self.way_came(id, self.parents.old(at), cx)?;
+                }
+            }
+        }
+        Ok(())
+    }
+
+    /// The highest version that both ends speak. A range is said where a connection `may_begin`;
+    /// what answers that has the version that is spoken.
+    fn common(
+        &mut self,
+        id: u64,
+        hello: &Hello,
+        may_begin: bool,
+        cx: &mut Context<'_>,
+    ) -> Result<u8, String> {
+        let conn = self.conns.get(&id).ok_or("it is gone")?;
+        let is_answer = matches!(conn.state, State::Link(..)) || !may_begin;
+        let theirs = if is_answer {
+            hello.version..=hello.version
+        } else {
+            hello.versions()
+        };
+        let newest = VERSION.min(*theirs.end());
+        if newest >= OLD.max(*theirs.start()) {
+            return Ok(newest);
+        }
+        if conn.link().is_none() {
+            // (so that the other end can name both ranges too)
+            self.say(id, hello.from.clone());
+            self.write_one(id, cx);
+        }
+        let (oldest, newest) = theirs.into_inner();
+        Err(format!(
+            "it speaks versions {oldest} to {newest} of the protocol, and this agent {OLD} to \
+             {VERSION}"
+        ))
+    }
+
+    pub(super) fn answered(&mut self, id: u64, now: Instant) {
+        let until = Some(self.greets_until(now));
+        self.conn_with(id, |it| (it.state, it.until) = (State::Answered, until));
+    }
+
+    /// A candidate says its way. It becomes the parent, or not.
+    pub(super) fn way_came(&mut self, id: u64, way: Way, cx: &mut Context<'_>) -> Result {
+        let conn = self.conns.get(&id).ok_or("it is gone")?;
+        let since = conn.since;
+        match conn.state.clone() {
+            State::Looks(_, at, Some(rank)) if self.setup.is_root() => {
+                cx.to.on_looked(at, Some((&way, rank)));
+                return Err(LOOKED);
+            }
+            State::Looks(whom, at, Some(_)) => {
+                self.parents.looked(at, &way)?;
+                self.leave(at, cx);
+                if whom != Whom::Parent {
+                    self.look_ended(&whom, false, "", cx);
+                }
+                self.parents.took(at, way);
+                let number = self.relay.made().ok_or("no number is left")?;
+                // (the hello takes as long as the look did)
+                let mut took = cx.now - since;
+                self.dial_with(&Whom::Parent, |dial| {
+                    dial.under_way = true;
+                    took = took.max(dial.took);
+                });
+                let until = Some(cx.now + self.later(took, 0));
+                let state = State::Link(Whom::Parent, number, None);
+                self.conn_with(id, |conn| (conn.state, conn.until) = (state, until));
+                self.above = Some(id);
+                let name = self.name_of(&Whom::Parent, at).cloned();
+                self.say(id, name.unwrap_or_default());
+            }
+            State::Comes(at, hello) => match self.parents.looked(at, &way) {
+                Ok(()) => {
+                    self.leave(at, cx);
+                    self.parents.took(at, way);
+                    self.parent_greets(id, &hello, cx)?;
+                }
+                Err(why) if hello.version == OLD => return Err(why),
+                Err(_) => {
+                    // (it is to connect again later, and no other life is told)
+                    self.say(id, hello.from);
+                    self.answered(id, cx.now);
+                }
+            },
+            _ => return Err("it is no message"),
+        }
+        Ok(())
+    }
+
+    /// Who an agent of this name is, where it connects itself; of a parent, which one.
+    pub(super) fn caller(&self, from: &str) -> Option<(Whom, usize)> {
+        let is = |it: &Parent<A>| it.address.is_none() && it.name.as_deref() == Some(from);
+        if let Some(at) = self.setup.parents.iter().position(is) {
+            return Some((Whom::Parent, at));
+        }
+        let is_child = match &self.setup.children {
+            Children::Named(children) => children.get(from) == Some(&None),
+            Children::Any => {
+                let is_known = self.relay.child(from).is_some();
+                from != self.setup.name && (is_known || self.relay.children().count() < ANY)
+            }
+        };
+        is_child.then(|| (Whom::Child(from.into()), 0))
+    }
+
+    /// The number under which this end has made a connection of a link.
+    pub(super) fn number(&self, id: u64) -> Option<Connection> {
+        Some(self.conns.get(&id)?.link()?.1)
+    }
+
+    fn parent_greets(&mut self, id: u64, hello: &Hello, cx: &mut Context<'_>) -> Result {
+        let made = self.number(id);
+        let number = made.or_else(|| self.relay.accepted());
+        let number = number.ok_or("no number is left")?;
+        self.above = Some(id);
+        self.begins(id, Whom::Parent, number, cx.now);
+        self.parent_is_there(hello, cx);
+        if made.is_none() {
+            // (the end that accepted has the first turn)
+            self.say(id, hello.from.clone());
+            self.acknowledge(id);
+        }
+        Ok(())
+    }
+
+    pub(super) fn parent_is_there(
+        &mut self,
+        Hello { life, from, .. }: &Hello,
+        cx: &mut Context<'_>,
+    ) {
+        let anew = self.above_life.replace(*life) != Some(*life);
+        self.reconnects += 1;
+        fact!(cx, "connected", "the parent {from}{}", count(anew));
+    }
+
+    fn child_greets(&mut self, id: u64, hello: &Hello, cx: &mut Context<'_>) -> Result {
+        let (made, name) = (self.number(id), &*hello.from);
+        if let Some(old) = self.children.remove(name) {
+            self.leave_line(old, "it connected anew", cx);
+        }
+        self.relay.add(name, cx.now);
+        let clashes = |relay: &Relay| relay.child(name).map_or(0, |link| link.clashes);
+        let before = clashes(&self.relay);
+        let Hello { life, label, .. } = *hello;
+        let greeted = self.relay.greeted(name, life, label, made, cx.now);
+        let (number, anew) = greeted.ok_or("no number is left")?;
+        fact!(cx, "connected", "{name}{}", count(anew));
+        if before == 0 && clashes(&self.relay) > 0 {
+            fact!(cx, "clash", "{name}: two processes have this name");
+        }
+        self.children.insert(name.into(), id);
+        self.begins(id, Whom::Child(name.into()), number, cx.now);
+        match made {
+            // (a child that accepted has the first turn)
+            Some(_) => {
+                let until = cx.now + self.patience(name);
+                self.conn_with(id, |conn| conn.until = Some(until));
+            }
+            None => self.say(id, name.into()),
+        }
+        self.say_way(id);
+        self.poll(name, cx);
+        Ok(())
+    }
+
+    pub(super) fn begins(&mut self, id: u64, whom: Whom, number: Connection, now: Instant) {
+        if let Some(conn) = self.conns.get_mut(&id) {
+            if let (false, Some(dial)) = (conn.is_greeting(), self.dials.get_mut(&whom)) {
+                dial.took = now - conn.since;
+            }
+            conn.until = None;
+            if whom == Whom::Parent {
+                conn.is_alive(now);
+            }
+            conn.state = State::Link(whom, number, Some(now));
+        }
+    }
+}
+
+/// What is said of a link that begins anew, or goes on.
+pub(super) fn count(anew: bool) -> &'static str {
+    match anew {
+        true => ", a new count",
+        false => "",
+    }
+}

@@ -1,0 +1,232 @@
+//! What travels over links: frames, acknowledgements, reports and ways.
+use super::connection::{travels, Chunk, Line};
+use super::{fact, Context, Handler, Peers, Whom, LATER};
+use crate::net::relay::Came;
+use crate::net::wire::{self, Message, Reference, FIRST, HEAD_BYTES, REFERS};
+use crate::net::{Body, Result};
+use crate::Connection;
+use std::sync::Arc;
+use std::time::{Duration, Instant};
+use std::{fmt, mem};
+
+/// How many times faster than it travels a body is made anew by whoever has all that is in it.
+const MAKES: u32 = 16;
+/// A table that has not more bytes goes whole.
+const SHORT_TABLE: usize = 64;
+/// Up to this length a body is copied behind its head, where else it would go alone.
+const JOINED: usize = 16 << 10;
+
+impl<L: Line, A: Clone + PartialEq + fmt::Display> Peers<L, A> {
+    pub(super) fn message(
+        &mut self,
+        id: u64,
+        message: Message,
+        cx: &mut Context<'_>,
+    ) -> Result<(), String> {
+        let conn = self.conns.get_mut(&id).ok_or("it is gone")?;
+        if !matches!(
+            message,
+            Message::Frame(..) | Message::Ack(_) | Message::Report(_)
+        ) {
+            self.due.set(None);
+        }
+        let waits = conn.output.iter().any(|it| !matches!(it, Chunk::Way(_)));
+        let refers = conn.version >= REFERS;
+        match (conn.link(), message) {
+            (_, Message::Hello(hello)) => return self.greets(id, hello, false, cx),
+            (link, Message::Look(hello)) => {
+                let answer = self.greets(id, hello, true, cx);
+                if answer.is_err() && link.is_none() {
+                    // (so much says that it is no end of version 1, and else nothing)
+                    self.send(id, [wire::LOOK, &[FIRST]].concat());
+                    self.write_one(id, cx);
+                }
+                return answer;
+            }
+            (None, Message::Way(way)) => self.way_came(id, way, cx)?,
+            (Some((Whom::Parent, _)), Message::Way(way)) => self.parents.hears(way)?,
+            (Some((Whom::Parent, number)), Message::Frame(label, body)) => {
+                self.frame_came(id, number, label, &body, cx);
+            }
+            (Some((Whom::Parent, number)), Message::Reference(label, it)) if refers => {
+                match self.made(&it, cx) {
+                    Some(body) => self.frame_came(id, number, label, &body, cx),
+                    None => self.send(id, wire::lacks(label)),
+                }
+            }
+            // (else whoever acknowledges or asks without end would be sent to without end)
+            (Some((Whom::Child(name), number)), Message::Ack(label)) => {
+                conn.refers = false;
+                if conn.until.take().is_none() || waits {
+                    return Err("it acknowledges what was not sent".into());
+                }
+                self.relay.on_ack(&name, Some(number), label, cx.now);
+                self.poll(&name, cx);
+            }
+            (Some((Whom::Child(name), _)), Message::Lacks(label)) => {
+                let asks = mem::take(&mut conn.refers) && !waits;
+                let held = self.relay.under_way(&name).filter(|it| it.0 == label);
+                let (_, body, _) = held
+                    .filter(|_| asks)
+                    .ok_or("it asks for what was not sent")?;
+                self.send_whole(id, &name, label, body.clone(), cx.now);
+            }
+            (Some((Whom::Child(name), _)), Message::Report(bytes)) => {
+                if !cx.to.on_report(&name, &bytes, cx.now) {
+                    return Err("it sent no report".into());
+                }
+            }
+            (Some((Whom::Child(name), _)), Message::Goodbye) => {
+                self.relay.leave_behind(&name);
+                self.forget_any(&name, cx);
+                return Err("it takes another parent".into());
+            }
+            _ => return Err("it is no message".into()),
+        }
+        Ok(())
+    }
+
+    fn frame_came(
+        &mut self,
+        id: u64,
+        number: Connection,
+        label: u16,
+        body: &Arc<Body>,
+        cx: &mut Context<'_>,
+    ) {
+        let came = self.relay.on_frame(Some(number), label, body);
+        self.came(came, body, cx);
+        self.acknowledge(id);
+    }
+
+    /// The body that a parent refers to, if it can be made here.
+    pub(super) fn made(&mut self, it: &Reference, cx: &mut Context<'_>) -> Option<Arc<Body>> {
+        let since: Vec<&Body> = self.relay.since_last_table().map(Arc::as_ref).collect();
+        let body = cx.to.make(&it.head, &since)?;
+        let digest = cx.to.digest(&body)?;
+        let is_it = digest == it.digest && body.item == it.item;
+        // (its children are referred to it too)
+        self.digest = is_it.then(|| (body.clone(), digest));
+        is_it.then_some(body)
+    }
+
+    pub(super) fn acknowledge(&mut self, id: u64) {
+        if let Some(label) = self.relay.ack() {
+            self.send(id, wire::ack(label));
+        }
+    }
+
+    /// At the root: puts a body at the end of the list.
+    pub fn publish(&mut self, body: &Arc<Body>, now: Instant, to: &mut dyn Handler) {
+        let left = self.relay.publish(body);
+        self.came((true, left), body, &mut Context { now, to });
+    }
+
+    /// A frame came from above, and brought an item or not; and who was left behind for it.
+    pub(super) fn came(&mut self, (fresh, left): Came, body: &Arc<Body>, cx: &mut Context<'_>) {
+        for name in left {
+            fact!(cx, "left-behind", "{name}");
+            if let Some(id) = self.children.get(&name) {
+                self.leave_line(*id, "it is too far behind", cx);
+            }
+        }
+        if fresh && cx.to.on_item(body, cx.now) {
+            self.relay.last_is_a_table();
+            self.says_again = true;
+        }
+        let names: Vec<String> = self.children.keys().cloned().collect();
+        names.iter().for_each(|name| self.poll(name, cx));
+    }
+
+    /// Says this to the parent, for watching alone: whether there is one that takes it now.
+    pub fn report(&mut self, report: &[u8]) -> bool {
+        let words = self.words.get_mut(&Whom::Parent);
+        if let Some(words) = words.filter(|words| words.since.is_some()) {
+            words.reports = words.reports.wrapping_add(1);
+            words.report = Some(report.into());
+            return true;
+        }
+        let conn = self.above.and_then(|id| self.conns.get_mut(&id));
+        // (what waits there already is not added to)
+        let conn = conn.filter(|conn| conn.greeted().is_some() && conn.output.is_empty());
+        let id = conn.and(self.above);
+        id.map(|id| self.send(id, wire::report(report))).is_some()
+    }
+
+    /// How long a child's next answer may take.
+    pub(super) fn patience(&self, name: &str) -> Duration {
+        let link = self.relay.child(name);
+        link.map_or(self.setup.ack_timeout, |it| self.later(it.took, it.late))
+    }
+
+    /// How long it may take where it took so long before, and then was late so often in turn.
+    pub(super) fn later(&self, took: Duration, late: u32) -> Duration {
+        let usual = self.setup.ack_timeout.max(took.saturating_mul(2));
+        let most = self.setup.ack_timeout * (1 << LATER);
+        usual.saturating_mul(1 << late.min(LATER)).min(most)
+    }
+
+    /// Sends a child what is to be sent to it now.
+    pub(super) fn poll(&mut self, name: &str, cx: &mut Context<'_>) {
+        let id = self.children.get(name).copied();
+        let frame = id.and_then(|_| self.relay.poll(name, cx.now));
+        if let Some((id, (label, body))) = id.zip(frame) {
+            match self.reference(id, name, &body, cx) {
+                Some(it) => {
+                    self.answers(id, name, travels(body.bytes.len()) / MAKES, cx.now);
+                    self.conn_with(id, |conn| conn.refers = true);
+                    self.send(id, wire::reference(label, &it));
+                }
+                None => self.send_whole(id, name, label, body, cx.now),
+            }
+        }
+    }
+
+    /// What stands for this body where a child may have all that is in it: the last whole table. It
+    /// does so once for each frame, which goes whole from then on: so it need not be right.
+    fn reference(
+        &mut self,
+        id: u64,
+        name: &str,
+        body: &Arc<Body>,
+        cx: &mut Context<'_>,
+    ) -> Option<Reference> {
+        let may = self.conns.get(&id)?.version >= REFERS && self.relay.under_way(name)?.2 == 1;
+        let is_table = |table: &Arc<Body>| Arc::ptr_eq(table, body);
+        if !may || !self.relay.since_last_table().next().map_or(false, is_table) {
+            return None;
+        }
+        let head = body
+            .bytes
+            .get(..HEAD_BYTES)
+            .filter(|_| body.bytes.len() > SHORT_TABLE)?;
+        let head = head.try_into().ok()?;
+        let known = self.digest.take().filter(|(table, _)| is_table(table));
+        let digest = known.map_or_else(|| cx.to.digest(body), |(_, digest)| Some(digest))?;
+        self.digest = Some((body.clone(), digest));
+        Some(Reference {
+            item: body.item,
+            length: body.bytes.len() as u32,
+            head,
+            digest,
+        })
+    }
+
+    /// Sends a child a frame with its body.
+    fn send_whole(&mut self, id: u64, name: &str, label: u16, body: Arc<Body>, now: Instant) {
+        self.answers(id, name, travels(body.bytes.len()), now);
+        let is_socket = self.line(id).map_or(false, |(line, _)| line.is_socket());
+        let frame = match is_socket || body.bytes.len() > JOINED {
+            true => Chunk::Frame(wire::frame_head(label, &body), body),
+            false => Chunk::Bytes([&wire::frame_head(label, &body), &*body.bytes].concat()),
+        };
+        self.push(id, frame);
+    }
+
+    /// A child is to answer what is sent now, which takes so much longer than others.
+    pub(super) fn answers(&mut self, id: u64, name: &str, takes: Duration, now: Instant) {
+        let until = Some(now + self.patience(name) + takes);
+        self.conn_with(id, |conn| (conn.until, conn.refers) = (until, false));
+        self.comes_until(until);
+    }
+}
