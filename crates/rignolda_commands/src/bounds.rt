@@ -10,7 +10,7 @@ ghost use Rattle.stab_job_stream.specs.Unscheduled.{IsUnscheduled};
 ghost use Rattle.stab_json.specs.Values.{value_of};
 
 use crate::job::{begin_job, link_job_of, unscheduled_job_of};
-use crate::kind::seems_a_link_job;
+use rignolda_findings::seems_a_link_job;
 use rignolda_verdict::bounds_text;
 use serde_json::Value;
 use stab_job::{Job, JobFault};

@@ -19,9 +19,9 @@ ghost use Rattle.rignolda_commands.specs.Checked.{given_backlogs};
 
 use crate::fault::CheckFault;
 use crate::job::{begin_job, begin_link_job, link_job_of, unscheduled_job_of};
-use crate::kind::{kind_of, seems_a_link_job};
 use crate::report::{check_job, check_link_text};
-use rignolda_findings::Kind;
+use rignolda_explain::kind_of;
+use rignolda_findings::{Kind, seems_a_link_job};
 use serde_json::Value;
 use stab_job::{Job, JobFault};
 use stab_job_stream::read_plain_job;

@@ -19,10 +19,11 @@ ghost use Rattle.stab_task.specs.Answers.{IsFault};
 ghost use Rattle.stab_task.specs.declared.command.Task.TheVariants.{Link, Tree};
 
 use crate::job::{job_of, link_job_of, scenario_beside, scenario_of};
-use crate::kind::{has_steps, kind_of, seems_a_link_job, seems_to_have_steps};
+use crate::kind::has_steps;
 use crate::run::{link_run, scenario_run, tree_run};
 use crate::scenario::StepsFault;
-use rignolda_findings::Kind;
+use rignolda_explain::kind_of;
+use rignolda_findings::{Kind, seems_a_link_job, seems_to_have_steps};
 use rignolda_scenario::Scenario;
 use serde_json::Value;
 use stab_job::Job;

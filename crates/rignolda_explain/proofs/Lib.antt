@@ -1,1 +1,2 @@
+pub mod KnownKinds
 pub mod Stops

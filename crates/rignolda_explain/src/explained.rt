@@ -6,6 +6,7 @@ ghost use Rattle.rignolda_explain.specs.Refusals.{refusal_of};
 ghost use Rattle.rignolda_explain.specs.Stops.{IsStopOf, first_stop, stop_in};
 
 use crate::job::look_at_job;
+use crate::plain::walked_off_the_text;
 use crate::reader::{Answer, answer_of, chosen};
 use crate::stop::{Stop, first_stop};
 use rignolda_findings::{
@@ -38,8 +39,25 @@ pub fn explain(alloc: Global, given: Option<Kind>, bytes: &[u8]) -> Result<Expla
     })
 }
 
-/// The kind of the bytes, what is found in them, and what the reader of that kind answers.
+/// The kind of the bytes, what is found in them, and what the reader of that kind answers. A job
+/// that comes to its end is read off its text, where it can be.
 fn walked(
+    alloc: Global,
+    given: Option<Kind>,
+    bytes: &[u8],
+) -> Result<(Kind, Notes, Option<Refusal>, Option<Stop>), AllocError>
+    ensures kind { IfOk result (λ all. all.0 ≡ chosen given (value_of bytes.now)) }
+    ensures refusal { IfOk result (λ all. all.2 ≡ refusal_of all.0 bytes.now) }
+    ensures stop { IfOk result (λ all. IsStopOf all.0 bytes.now all.3) }
+{
+    match walked_off_the_text(alloc, given, bytes)? {
+        Some((kind, notes)) => Ok((kind, notes, None, None)),
+        None => walked_by_value(alloc, given, bytes),
+    }
+}
+
+/// The same, by the value of the bytes.
+fn walked_by_value(
     alloc: Global,
     given: Option<Kind>,
     bytes: &[u8],

@@ -16,6 +16,7 @@ mod explained;
 mod job;
 mod links;
 mod openings;
+mod plain;
 mod reader;
 mod schedule;
 mod scripts;
@@ -23,6 +24,7 @@ mod stop;
 mod text;
 
 pub use explained::explain;
+pub use reader::kind_of;
 pub use rignolda_findings::{Explanation, Finding, Kind, MAX_FINDINGS, Matter, Refusal};
 pub use stop::Stop;
 pub use text::explanation_text;

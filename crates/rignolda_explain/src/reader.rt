@@ -1,4 +1,4 @@
-ghost use Rattle.std.specs.Prelude.{◌≡◌, ◌≢◌, ◌↔◌, ℕ, All, List, Some, None, codes, is_some};
+ghost use Rattle.std.specs.Prelude.{◌≡◌, ◌≢◌, ◌↔◌, ℕ, All, List, Some, None, is_some};
 ghost use Rattle.std.specs.Prelude.{option_map, IfOk, IsTrue, MatchOption};
 ghost use Rattle.serde_json.specs.View.{view};
 ghost use Rattle.stab_core.specs.LinkSetup.{CanBegin};
@@ -31,8 +31,8 @@ pub(crate) fn chosen(given: Option<Kind>, value: Option<&Value>) -> Kind
     }
 }
 
-/// The kind that the value looks like.
-fn kind_of(value: Option<&Value>) -> Kind
+/// The kind that a value looks like, or that bytes without a value have.
+pub fn kind_of(value: Option<&Value>) -> Kind
     ensures { result ≡ kind_of (option_map (λ lent. view lent.now) value.entry) }
 {
     match value {
@@ -117,7 +117,7 @@ fn link_job_answer(alloc: Global, value: Value) -> Result<Answer, AllocError>
 }
 
 /// Why this link job stops, if it does.
-fn stop_of_link_job(job: &LinkJob) -> Option<Stop>
+pub(crate) fn stop_of_link_job(job: &LinkJob) -> Option<Stop>
     ensures { StopsLinkJob job.now result }
 {
     match job.start.check(job.params) {
@@ -141,7 +141,7 @@ fn job_answer(alloc: Global, value: &Value) -> Result<Answer, AllocError>
 }
 
 /// Why this job of a tree stops, if it does.
-fn stop_of_job(job: &Job) -> Option<Stop>
+pub(crate) fn stop_of_job(job: &Job) -> Option<Stop>
     ensures { StopsJob job.now result }
 {
     if let Some(fault) = fault_of_starts(job) {
