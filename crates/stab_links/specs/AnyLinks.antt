@@ -5,13 +5,12 @@ use Rattle.std.specs.Prelude.{◌≡◌}
 use Rattle.stab_acts.specs.Scripts.{Acts}
 use Rattle.stab_core.specs.LinkSetup.{LinkSetup}
 use Rattle.stab_ends.specs.Accounts.{SenderAccount, ReceiverAccount}
-use Rattle.stab_lock.specs.Settling.{DifferFromReplay}
 use Rattle.stab_lock.specs.declared.settle.SettleFault.{SettleFault}
 use Rattle.stab_links.specs.AnyEnds.{AnyLinkId, locked, of_words}
 use Rattle.stab_links.specs.Scripted.{FollowPlans, ScriptedRecvEnd, ScriptedRecvFinished}
 use Rattle.stab_links.specs.Scripted.{ScriptedSendEnd, ScriptedSendFinished}
 use Rattle.stab_links.specs.LinkKinds.{IsLocked, LinkKind, behind_lock, kind_for, two_words}
-use Rattle.stab_links.specs.Settled.{IsSettledByScript}
+use Rattle.stab_links.specs.Settled.{DifferFromBook, IsSettledByScript}
 use Rattle.stab_links.specs.declared.any_link.AnyLink.{AnyLink}
 use Rattle.stab_links.specs.declared.any_link.AnyLink.TheVariants.{Lock, Word}
 use Rattle.stab_links.specs.declared.any_link.AnyOpening.{AnyOpening}
@@ -78,7 +77,7 @@ IsFollowed (Lock link) send recv =
 IsFollowed (Word link) send recv = FollowPlans link.given send recv
 
 -- what is known where a link of this setup is called different in a run over these links: it has
--- a lock, and its history differs from these accounts in this way
+-- a lock, and the accounts differ in this way from a book of the link
 abbrev pub MayDiffer : Links → LinkSetup → SenderAccount → ReceiverAccount → SettleFault → Type 0
 MayDiffer links link send recv why =
-    IsLocked links link × DifferFromReplay link.params link.start send recv why
+    IsLocked links link × DifferFromBook link send recv why

@@ -10,7 +10,10 @@ use Rattle.stab_core.specs.LinkSetup.{LinkSetup}
 use Rattle.stab_core.specs.Replay.{initial, replay}
 use Rattle.stab_ends.specs.Accounts.{SenderAccount, ReceiverAccount}
 use Rattle.stab_ends.specs.Agreement.{Agree}
-use Rattle.stab_lock.specs.Scripted.{IsNotedUnder}
+use Rattle.stab_lock.specs.Book.{Book, state_of}
+use Rattle.stab_lock.specs.Scripted.{IsBookOf, IsNotedUnder}
+use Rattle.stab_lock.specs.Settling.{FirstDiffer}
+use Rattle.stab_lock.specs.declared.settle.SettleFault.{SettleFault}
 
 -- one list of events explains the accounts of both ends of a link
 pub record IsSettled (link : LinkSetup) (send : SenderAccount) (recv : ReceiverAccount)
@@ -25,3 +28,11 @@ pub record IsSettledByScript (link : LinkSetup) (script : Acts) (send : SenderAc
   pub events : List Event
   pub agree : Agree (replay link.params (initial link.start) events) send recv
   pub noted : IsNotedUnder link.params link.start script events
+
+-- the accounts differ in this from a book of a locked link, whose history is by some script
+pub record DifferFromBook (link : LinkSetup) (send : SenderAccount) (recv : ReceiverAccount)
+    (why : SettleFault) : Type 0 where
+  pub script : Acts
+  pub book : Book
+  pub of_link : IsBookOf link.params link.start script book
+  pub differ : FirstDiffer (state_of book) send recv why

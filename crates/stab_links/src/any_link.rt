@@ -133,6 +133,7 @@ impl AnyLink {
 
     /// Settles a link with its two finished ends: one list of events explains both accounts, and
     /// the ends followed the script. Which links the run has is for contracts alone.
+    #[tactic(auto, using(crate::proofs::Different::from_own_book))]
     pub fn settle(
         self,
         _links: Links,
@@ -152,7 +153,7 @@ impl AnyLink {
     {
         match (self, send.into_done(), recv.into_done()) {
             (AnyLink::Lock(link), AnySendDone::Lock(send), AnyRecvDone::Lock(recv)) => {
-                link.settle(send, recv)
+                Ok(link.settle(send, recv)?)
             }
             (AnyLink::Word(link), AnySendDone::Word(send), AnyRecvDone::Word(recv)) => {
                 Ok(link.settle(send, recv))

@@ -5,7 +5,7 @@ use Rattle.stab_core.specs.declared.start.Start.{Start}
 use Rattle.stab_acts.specs.Scripts.{Acts, ActsRemaining, receiver_half, sender_half}
 use Rattle.stab_lock.specs.Book.{Book, book_of}
 use Rattle.stab_lock.specs.Calls.{Call, offering, sending, polling_ack, closing, polling_frame, sending_ack}
-use Rattle.stab_lock.specs.Scripted.{IsNotedUnder, IsReached, Shared, after_call, after_calls, before_calls}
+use Rattle.stab_lock.specs.Scripted.{IsBookOf, IsNotedUnder, IsReached, Shared, after_call, after_calls, before_calls}
 use Rattle.stab_lock.specs.Taken.{SameScriptTaken}
 use Rattle.stab_lock.proofs.SameCalls.{SameUpTo, same_after_calls}
 
@@ -56,6 +56,11 @@ by_script s script same reached =
       calls = reached.calls;
       noted = ap (λ (x : Shared). x.book.history) reached.reached ∙ ap (λ (b : Book). b.history) books;
     }
+
+-- and a book before any call is by any script
+pub by_no_call : (b : Book) (script : Acts) → b.history ≡ [] → IsBookOf b.params b.start script b
+unfolding after_calls
+by_no_call b script none = record { its_params = refl; its_start = refl; noted = record { calls = []; noted = none } }
 
 -- a call that takes no act leads on, or changes nothing
 pub reached_by_book : {T E : Type 0} (r : Result T E) (call : Call) (s : Shared) (book after : Book) → after_call call s ≡ record s { book = after }

@@ -16,6 +16,7 @@ use Rattle.stab_acts.specs.Scripts.{Acts, ActsRemaining, receiver_half, sender_h
 use Rattle.stab_lock.specs.Book.{Book, book_of}
 use Rattle.stab_lock.specs.Calls.{Call, offering, sending, polling_ack, closing, polling_frame}
 use Rattle.stab_lock.specs.Calls.{sending_ack, acts_after, book_noting, no_acts}
+use Rattle.stab_lock.specs.Taken.{SameScriptTaken}
 
 -- what a locked link is given: its parameters and its start, and its script
 pub record LockSetup : Type 0 where
@@ -80,3 +81,16 @@ pub record IsNotedUnder (p : Parameters) (start : Start) (script : Acts) (events
     : Type 0 where
   pub calls : List Call
   pub noted : events ≡ (after_calls calls (before_calls p start script)).book.history
+
+-- this is a book of a link with these parameters and this start, and its history is by this script
+pub record IsBookOf (p : Parameters) (start : Start) (script : Acts) (b : Book) : Type 0 where
+  pub its_params : b.params ≡ p
+  pub its_start : b.start ≡ start
+  pub noted : IsNotedUnder p start script b.history
+
+-- what a lock kept is of a link with these parameters and this start, and its acts that were taken
+-- are those of this script
+pub record IsOf (s : Shared) (p : Parameters) (start : Start) (script : Acts) : Type 0 where
+  pub its_params : s.book.params ≡ p
+  pub its_start : s.book.start ≡ start
+  pub its_acts : SameScriptTaken s.sender s.receiver s.script script

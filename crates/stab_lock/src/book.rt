@@ -147,12 +147,12 @@ impl LinkBook {
         &self.start
     }
 
-    /// Whether this is the book of a link with these parameters and this start.
-    pub(crate) fn is_of(&self, params: Params, start: &Start) -> bool
-        ensures { IsTrue result
-            ↔ ((self.now.params ≡ params) × (self.now.start ≡ start.now)) }
+    /// Whether this and another book are of links with the same parameters and the same start.
+    pub(crate) fn begins_like(&self, other: &LinkBook) -> bool
+        ensures { IsTrue result ↔ ((self.now.params ≡ other.now.params)
+            × (self.now.start ≡ other.now.start)) }
     {
-        self.params == params && same_start(&self.start, start)
+        self.params == other.params && same_start(&self.start, &other.start)
     }
 
     /// The link: the replay of the history from the start. So it obeys the link law.

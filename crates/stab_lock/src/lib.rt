@@ -23,5 +23,5 @@ pub use book::LinkBook;
 pub use link::LockLink;
 pub use recv::LockRecv;
 pub use send::LockSend;
-pub use settle::SettleFault;
+pub use settle::{SettleFault, Unsettled};
 pub use stab_ends::{FrameSeen, RecvAccount, RecvSide, SendAccount, SendSide, Settled};

@@ -7,14 +7,14 @@ ghost use Rattle.stab_core.specs.declared.event.Event.{Event};
 ghost use Rattle.stab_ends.specs.Accounts.{new_sender, new_receiver};
 ghost use Rattle.stab_lock.specs.Ends.{send_end, recv_end};
 ghost use Rattle.stab_ends.specs.Agreement.{Agree};
-ghost use Rattle.stab_lock.specs.Book.{book_of};
-ghost use Rattle.stab_lock.specs.Scripted.{IsNotedUnder};
-ghost use Rattle.stab_lock.specs.Settling.{DifferFromReplay};
+ghost use Rattle.stab_lock.specs.Book.{book_of, state_of};
+ghost use Rattle.stab_lock.specs.Scripted.{IsBookOf, IsNotedUnder};
+ghost use Rattle.stab_lock.specs.Settling.{FirstDiffer};
 
 use crate::book::LinkBook;
 use crate::recv::LockRecv;
 use crate::send::LockSend;
-use crate::settle::SettleFault;
+use crate::settle::Unsettled;
 use crate::shared::SharedBook;
 use stab_acts::Script;
 use stab_core::{Start, StartFault};
@@ -27,11 +27,10 @@ use std::sync::Mutex;
 /// A link behind a lock, for two ends that work on opposite sides of it. Contracts see its
 /// parameters, its start and its script.
 ///
-/// It keeps a copy of these beside the lock, since of a value behind a lock only what its type says
-/// is known.
+/// Beside the lock it keeps the book before any call, and the script, since of a value behind a
+/// lock only what its type says is known.
 pub struct LockLink {
-    params: Params,
-    start: Start,
+    begun: LinkBook,
     script: Script,
     alloc: Global,
     book: Mutex<SharedBook>,
@@ -40,8 +39,7 @@ pub struct LockLink {
 impl Drop for LockLink {
     fn drop(self) {
         let LockLink {
-            params: _,
-            start: _,
+            begun: _,
             script: _,
             alloc: _,
             book: _,
@@ -50,15 +48,18 @@ impl Drop for LockLink {
 }
 
 impl Model for LockLink {
+    ghost use Rattle.std.specs.Prelude.{◌≡◌, []};
     ghost use Rattle.stab_core.specs.LinkSetup.{setup};
-    ghost use Rattle.stab_core.specs.Replay.{IsLawful};
     ghost use Rattle.stab_lock.specs.Scripted.{LockSetup};
 
     ghost Value = { LockSetup };
 
-    ghost view = { λ l. record { given = setup l.params l.start; script = l.script } };
+    ghost view = { λ l. record {
+      given = setup l.begun.params l.begun.start;
+      script = l.script;
+    } };
 
-    ghost invariant = { λ l. IsLawful l.params l.start };
+    ghost invariant = { λ l. l.begun.history ≡ [] };
 }
 
 impl LockLink {
@@ -74,11 +75,10 @@ impl LockLink {
         ensures lawful { IfOk result (λ link. IsLawful params start) }
         ensures refused { IfErr result (IsReason params start) }
     {
-        let (book, start) = begun(alloc, params, start)?;
+        let (begun, book) = begun(alloc, params, start)?;
         let book = SharedBook::new(alloc, book, &script)?;
         Ok(LockLink {
-            params,
-            start,
+            begun,
             script,
             alloc,
             book: Mutex::new(book),
@@ -110,23 +110,28 @@ impl LockLink {
         &self.book
     }
 
-    /// The book that the lock kept. It takes no memory.
-    pub fn into_book(self) -> LinkBook {
+    /// The book that the lock kept: some calls of the ends noted it, each under the next act of its
+    /// half of the script. It takes no memory.
+    ///
+    /// Of a value behind a lock only what its type says is known. So where the lock kept the book of
+    /// another link, which no call puts there, this is the one before any call.
+    pub fn into_book(self) -> LinkBook
+        ensures { IsBookOf self.given.params self.given.start self.script result }
+    {
         let LockLink {
-            params: _,
-            start: _,
-            script: _,
+            begun,
+            script,
             alloc: _,
             book,
         } = self;
-        book.into_inner().into_book()
+        book.into_inner().into_book(begun, &script)
     }
 
     /// Compares the accounts of both ends with the book, and hands both back where they agree. Then
     /// one list of events explains both, and is by the script: some calls of the ends noted it,
-    /// each under the next act of its half. Where they do not agree, it answers the first thing in
-    /// which they differ from the book.
-    pub fn settle(self, send: SendAccount, recv: RecvAccount) -> Result<Settled, SettleFault>
+    /// each under the next act of its half. Where they do not agree, it hands back the book, and
+    /// the first thing in which they differ from it.
+    pub fn settle(self, send: SendAccount, recv: RecvAccount) -> Result<Settled, Unsettled>
         ensures send { IfOk result (λ settled. settled.send ≡ send) }
         ensures recv { IfOk result (λ settled. settled.recv ≡ recv) }
         ensures replay { let link = self.given in
@@ -136,45 +141,23 @@ impl LockLink {
         ensures law { let link = self.given in
             OnOk result (LinkLaw link.params.capacity (start_items link.start)
             send.offered send.acked recv.delivered) }
-        ensures differ { let link = self.given in
-            IfErr result (DifferFromReplay link.params link.start send recv) }
+        ensures book { IfErr result (λ unsettled.
+            IsBookOf self.given.params self.given.start self.script unsettled.book) }
+        ensures differ { IfErr result (λ unsettled.
+            FirstDiffer (state_of unsettled.book) send recv unsettled.why) }
     {
-        self.compare(&send, &recv)?;
-        Ok(Settled { send, recv })
-    }
-
-    /// Compares two accounts with the book that the lock kept.
-    fn compare(self, send: &SendAccount, recv: &RecvAccount) -> Result<(), SettleFault>
-        ensures replay { let link = self.given in
-            OnOk result ((events : List Event)
-            × Agree (replay link.params (initial link.start) events) send.now recv.now
-            × IsNotedUnder link.params link.start self.script events) }
-        ensures law { let link = self.given in
-            OnOk result (LinkLaw link.params.capacity (start_items link.start)
-            send.now.offered send.now.acked recv.now.delivered) }
-        ensures differ { let link = self.given in
-            IfErr result (DifferFromReplay link.params link.start send.now recv.now) }
-    {
-        let LockLink {
-            params,
-            start,
-            script,
-            alloc: _,
-            book,
-        } = self;
-        book.into_inner()
-            .settle(params, &start, &script, send, recv)
+        self.into_book().settle(send, recv)
     }
 }
 
-/// The book of a link at its start, and a copy of the start.
-fn begun(alloc: Global, params: Params, start: Start) -> Result<(LinkBook, Start), StartFault>
-    ensures book { IfOk result (λ begun. begun.0 ≡ book_of params start []) }
-    ensures start { IfOk result (λ begun. begun.1 ≡ start) }
-    ensures lawful { IfOk result (λ begun. IsLawful params start) }
+/// Two books of a link at its start.
+fn begun(alloc: Global, params: Params, start: Start) -> Result<(LinkBook, LinkBook), StartFault>
+    ensures one { IfOk result (λ books. books.0 ≡ book_of params start []) }
+    ensures other { IfOk result (λ books. books.1 ≡ book_of params start []) }
+    ensures lawful { IfOk result (λ books. IsLawful params start) }
     ensures refused { IfErr result (IsReason params start) }
 {
-    let book = LinkBook::new(alloc, params, start)?;
-    let start = book.start().copy(alloc)?;
-    Ok((book, start))
+    let one = LinkBook::new(alloc, params, start)?;
+    let other = LinkBook::new(alloc, params, one.start().copy(alloc)?)?;
+    Ok((one, other))
 }

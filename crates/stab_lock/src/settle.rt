@@ -1,10 +1,12 @@
-ghost use Rattle.std.specs.Prelude.{MatchResult};
+ghost use Rattle.std.specs.Prelude.{◌≡◌, IfErr, IfOk, MatchResult, OnOk};
+ghost use Rattle.stab_core.specs.LinkLaw.{LinkLaw};
+ghost use Rattle.stab_core.specs.Replay.{start_items};
 ghost use Rattle.stab_lock.specs.Book.{state_of};
 ghost use Rattle.stab_ends.specs.Agreement.{Agree};
 ghost use Rattle.stab_lock.specs.Settling.{FirstDiffer};
 
 use crate::book::LinkBook;
-use stab_ends::{RecvAccount, SendAccount};
+use stab_ends::{RecvAccount, SendAccount, Settled};
 use thiserror::Error;
 
 /// In what two accounts differ from the book of their link, in the order of the comparisons.
@@ -23,6 +25,26 @@ pub enum SettleFault {
     /// open.
     #[error("run: closes differ")]
     ClosedDiffer,
+}
+
+/// A book of a link, and the first thing in which two accounts differ from it.
+#[derive(Debug, Drop)]
+pub struct Unsettled {
+    /// What differs.
+    pub why: SettleFault,
+    /// The book, with the history that does not explain the accounts.
+    pub book: LinkBook,
+}
+
+impl From<Unsettled> for SettleFault {
+    ghost use Rattle.std.specs.Prelude.{◌≡◌};
+
+    ghost from_gives = { λ unsettled why. why ≡ unsettled.why };
+
+    fn from(unsettled: Unsettled) -> SettleFault {
+        let Unsettled { why, book: _ } = unsettled;
+        why
+    }
 }
 
 impl LinkBook {
@@ -46,5 +68,23 @@ impl LinkBook {
             return Err(SettleFault::ClosedDiffer);
         }
         Ok(())
+    }
+
+    /// Hands two accounts back where they agree with this book, and else the book.
+    pub fn settle(self, send: SendAccount, recv: RecvAccount) -> Result<Settled, Unsettled>
+        ensures send { IfOk result (λ settled. settled.send ≡ send) }
+        ensures recv { IfOk result (λ settled. settled.recv ≡ recv) }
+        ensures agree { OnOk result (Agree (state_of self) send recv) }
+        ensures law { OnOk result (LinkLaw self.params.capacity (start_items self.start)
+            send.offered send.acked recv.delivered) }
+        ensures book { IfErr result (λ unsettled. unsettled.book ≡ self) }
+        ensures differ { IfErr result (λ unsettled.
+            FirstDiffer (state_of self) send recv unsettled.why) }
+    {
+        let _law = self.link();
+        match self.check(&send, &recv) {
+            Ok(()) => Ok(Settled { send, recv }),
+            Err(why) => Err(Unsettled { why, book: self }),
+        }
     }
 }

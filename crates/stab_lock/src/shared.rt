@@ -1,25 +1,17 @@
 //! What the lock of a link keeps, and the six calls of the ends on it.
 
-ghost use Rattle.std.specs.Prelude.{◌≡◌, ◌↔◌, List, [], IfErr, IfOk, IsTrue, MatchResult, OnErr};
-ghost use Rattle.std.specs.Prelude.{OnOk};
+ghost use Rattle.std.specs.Prelude.{◌≡◌, ◌↔◌, [], IfOk, IsTrue, OnErr, OnOk};
 ghost use Rattle.stab_acts.specs.Scripts.{Acts, receiver_half, sender_half};
-ghost use Rattle.stab_core.specs.LinkLaw.{LinkLaw};
-ghost use Rattle.stab_core.specs.Replay.{initial, replay, start_items};
-ghost use Rattle.stab_core.specs.declared.event.Event.{Event};
-ghost use Rattle.stab_ends.specs.Agreement.{Agree};
-ghost use Rattle.stab_lock.specs.Book.{state_of};
 ghost use Rattle.stab_lock.specs.Calls.{offering, sending, polling_ack, closing, polling_frame};
 ghost use Rattle.stab_lock.specs.Calls.{sending_ack, answer_of, is_held, no_acts, seen_by};
-ghost use Rattle.stab_lock.specs.Scripted.{IsNotedUnder, IsReached, after_call, before_calls};
-ghost use Rattle.stab_lock.specs.Settling.{DifferFromReplay, FirstUnlike, IsOf};
+ghost use Rattle.stab_lock.specs.Scripted.{IsBookOf, IsOf, after_call, before_calls};
 
 use crate::book::LinkBook;
-use crate::settle::SettleFault;
 use crate::taken::same_taken;
 use stab_acts::{HalfScript, Script};
-use stab_core::{Effect, Start};
-use stab_ends::{FrameSeen, RecvAccount, SendAccount};
-use stab_frames::{Item, Params};
+use stab_core::Effect;
+use stab_ends::FrameSeen;
+use stab_frames::Item;
 use std::alloc::{AllocError, Global};
 use std::marker::Model;
 
@@ -139,75 +131,30 @@ impl SharedBook {
         self.book.send_ack(&mut self.receiver)
     }
 
-    /// The book, without its script.
-    pub(crate) fn into_book(self) -> LinkBook
-        ensures { result ≡ self.book }
+    /// The book, where it is of the same link as `begun`, the one before any call, and the acts that
+    /// were taken are those of this script; else `begun`. Its history is by this script as well,
+    /// since what calls note depends only on the acts that they take.
+    #[tactic(auto, using(crate::proofs::Reached::by_script, crate::proofs::Reached::by_no_call))]
+    pub(crate) fn into_book(self, begun: LinkBook, script: &Script) -> LinkBook
+        requires { begun.history ≡ [] }
+        ensures of_link { IsBookOf begun.params begun.start script.now result }
+        ensures kept { IsOf self begun.params begun.start script.now → result ≡ self.book }
     {
-        let SharedBook { book, .. } = self;
-        book
-    }
-
-    /// Whether this is of a link with these parameters and this start, and of a script with the
-    /// same acts as far as they were taken.
-    fn is_of(&self, params: Params, start: &Start, script: &Script) -> bool
-        ensures { IsTrue result ↔ IsOf self.now params start.now script.now }
-    {
-        self.book.is_of(params, start)
-            && same_taken(&self.script, script, &self.sender, &self.receiver)
-    }
-
-    /// Whether two accounts agree with the book of a link with these parameters and this start, or
-    /// the first thing in which they differ from it. Its history is by this script as well, since
-    /// what calls note depends only on the acts that they take. Where the book is another link's,
-    /// or one whose taken acts are not those of this script, the answer is OfferedDiffer.
-    #[tactic(auto, using(crate::proofs::Reached::by_script))]
-    fn check_of(
-        &self,
-        params: Params,
-        start: &Start,
-        script: &Script,
-        send: &SendAccount,
-        recv: &RecvAccount,
-    ) -> Result<(), SettleFault>
-        ensures replay { OnOk result ((events : List Event)
-            × Agree (replay params (initial start.now) events) send.now recv.now
-            × IsNotedUnder params start.now script.now events) }
-        ensures law { OnOk result (LinkLaw params.capacity (start_items start.now)
-            send.now.offered send.now.acked recv.now.delivered) }
-        ensures differ { IfErr result (DifferFromReplay params start.now send.now recv.now) }
-        ensures exactly { MatchResult result
-            (λ _. IsOf self.now params start.now script.now
-            × Agree (state_of self.now.book) send.now recv.now)
-            (FirstUnlike self.now params start.now script.now send.now recv.now) }
-    {
-        if !self.is_of(params, start, script) {
-            return Err(SettleFault::OfferedDiffer);
+        if self.is_of(&begun, script) {
+            let SharedBook { book, .. } = self;
+            book
+        } else {
+            begun
         }
-        let _law = self.book.link();
-        self.book.check(send, recv)
     }
 
-    /// The same, of a book that nobody needs afterwards.
-    pub(crate) fn settle(
-        self,
-        params: Params,
-        start: &Start,
-        script: &Script,
-        send: &SendAccount,
-        recv: &RecvAccount,
-    ) -> Result<(), SettleFault>
-        ensures replay { OnOk result ((events : List Event)
-            × Agree (replay params (initial start.now) events) send.now recv.now
-            × IsNotedUnder params start.now script.now events) }
-        ensures law { OnOk result (LinkLaw params.capacity (start_items start.now)
-            send.now.offered send.now.acked recv.now.delivered) }
-        ensures differ { IfErr result (DifferFromReplay params start.now send.now recv.now) }
-        ensures exactly { MatchResult result
-            (λ _. IsOf self params start.now script.now
-            × Agree (state_of self.book) send.now recv.now)
-            (FirstUnlike self params start.now script.now send.now recv.now) }
+    /// Whether this is of a link that begins like this book, and of a script with the same acts as
+    /// far as they were taken.
+    fn is_of(&self, begun: &LinkBook, script: &Script) -> bool
+        ensures { IsTrue result ↔ IsOf self.now begun.now.params begun.now.start script.now }
     {
-        self.check_of(params, start, script, send, recv)
+        self.book.begins_like(begun)
+            && same_taken(&self.script, script, &self.sender, &self.receiver)
     }
 }
 

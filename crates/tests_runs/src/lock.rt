@@ -280,7 +280,7 @@ fn accounts_of<R: Abort>(rt: &R, alloc: Global, of: Accounts) -> (SendAccount, R
 }
 
 /// Fails the test where a book or a locked link after the round and the close says something else
-/// of these accounts.
+/// of these accounts, or the link hands back another book.
 fn assert_compared<R: Wait + Abort>(
     rt: &R,
     alloc: Global,
@@ -291,7 +291,13 @@ fn assert_compared<R: Wait + Abort>(
     let book = book_after(rt, alloc, &ROUND_AND_CLOSE, ROUND_AND_CLOSE.asks);
     assert!(rt; book.check(&send, &recv).err() == answer, "{answer:?}");
     let (link, _, _) = link_after(rt, alloc, &ROUND_AND_CLOSE);
-    assert!(rt; link.settle(send, recv).err() == answer, "{answer:?}");
+    match link.settle(send, recv) {
+        Ok(_) => assert!(rt; answer.is_none(), "settled"),
+        Err(unsettled) => {
+            assert!(rt; Some(unsettled.why) == answer, "{answer:?}");
+            assert_history(rt, &unsettled.book, &ROUND_AND_CLOSE_HISTORY);
+        }
+    }
 }
 
 #[test]
