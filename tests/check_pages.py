@@ -362,7 +362,8 @@ for name, text, lines in (
             "{\n", "{ // it\n  // pours\n\n  use it;\n"), 8),
         ("and lines of the same form as the one before", OTHER.replace(
             "  let rest = by;\n", "  let rest = by;\n  let more = it;\n"), 8),
-        ("but no shorter run", RUN.replace("    fill(by)\n", ""), 0),
+        ("but no table", "x = y;\nx = [1, 2];\n" * 8, 0),
+        ("no shorter run", RUN.replace("    fill(by)\n", ""), 0),
         ("nor one where a word would become two", RUN.replace("spill(left)", "spill(by)"), 0)):
     twice(name, (int(lines > 0), lines), {"crates/low/src/wash.rt": text},
           table=ROOM.replace("8", str(lines)))

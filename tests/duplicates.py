@@ -8,8 +8,9 @@
 A copy is a run of at least eight lines that equals an earlier one once its words, each a name, a
 number or a text, are replaced by others one for one. A line counts where it has a word, and is no
 comment, attribute or import; and of lines in a row that have the same form, whatever their words
-are, the first one alone. Files are read in the order of their paths, and a copy is as long as it
-can be. So no line is in two copies, and of a run that is there three times there are two.
+are, the first one alone. The lines of a run have at least four forms: else it is a table. Files are
+read in the order of their paths, and a copy is as long as it can be. So no line is in two copies,
+and of a run that is there three times there are two.
 
 The numbers of lines in copies, in all folders src, specs and proofs, may only fall: each is a case,
 and fails where it is larger than in the table. One that is smaller is to be written there. The last
@@ -27,7 +28,7 @@ sys.path.insert(0, f"{TOP}/tools")
 from crates import first_number, read  # noqa: E402
 from programs import counted  # noqa: E402
 
-TABLE, LEAST = "tests/duplicates.txt", 8
+TABLE, LEAST, FORMS = "tests/duplicates.txt", 8, 4
 NO_CODE = re.compile(r"\s*(//|--|#|(pub )?(ghost )?use\b|open\b|import\b)")
 WORD = re.compile(r'"(?:\\.|[^"\\])*"|\w+|[^\w\s]')
 
@@ -61,12 +62,12 @@ def renamed(run):
 
 def runs_of(files):
     """The runs of the least length in each file, by the place where they begin: renamed where there
-    are others of the same form, and else None."""
+    are others of the same forms, which are enough, and else None."""
     runs = {path: [lines[at:at + LEAST] for at in range(len(lines) - LEAST + 1)]
             for path, lines in files.items()}
     forms = {path: [tuple(it.form for it in run) for run in found] for path, found in runs.items()}
     count = collections.Counter(form for found in forms.values() for form in found)
-    return {path: [renamed(run) if count[form] > 1 else None
+    return {path: [renamed(run) if count[form] > 1 and len({*form}) >= FORMS else None
                    for run, form in zip(found, forms[path])] for path, found in runs.items()}
 
 
