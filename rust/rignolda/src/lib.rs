@@ -98,7 +98,7 @@
 //! keys and values that travel so. These two need the standard library. What bodies say, which are
 //! published, taken and applied is asked of calls that are proved; what is around these is tested.
 #![cfg_attr(not(feature = "net"), no_std)]
-#![warn(missing_docs)]
+#![warn(missing_debug_implementations, missing_docs)]
 
 extern crate alloc;
 
@@ -162,6 +162,7 @@ impl Params {
 
 /// Why parameters are refused, in the order of the checks.
 #[derive(Clone, Copy, Debug, PartialEq, Eq)]
+#[non_exhaustive]
 pub enum ParamsError {
     /// The capacity is not 1 to 64.
     CapacityOutOfRange,
@@ -180,6 +181,9 @@ impl fmt::Display for ParamsError {
         })
     }
 }
+
+#[cfg(feature = "net")]
+impl std::error::Error for ParamsError {}
 
 /// A message of a sender: its item under its label.
 #[derive(Clone, Copy, Debug, PartialEq, Eq)]
@@ -234,6 +238,7 @@ impl Sender {
 
     /// Offers an item: whether the sender took it. It refuses one, and stays as it was, while it
     /// is holding another, and when it is closed.
+    #[must_use = "an item that is refused is to be offered again"]
     pub fn offer(&mut self, item: u32) -> bool {
         // SAFETY: the call has this sender for itself.
         unsafe { calls::rignolda_sender_offer(&mut self.raw, item) }
@@ -306,6 +311,7 @@ impl Receiver {
 
     /// Handles a frame: its item, if its label is not the remembered one. Then that label is
     /// remembered. An old frame, and any frame after the close, changes nothing.
+    #[must_use = "an item that came does not come again"]
     pub fn on_frame(&mut self, frame: Frame) -> Option<u32> {
         let mut item = 0;
         // SAFETY: the call has this receiver and the item for itself, and only reads the frame.

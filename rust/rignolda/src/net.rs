@@ -16,6 +16,7 @@
 //! Each step of a link is a call that is proved. That a body lies beside its item, and all that is
 //! done about connections and stores, is tested alone.
 mod address;
+mod error;
 pub mod parents;
 mod peers;
 mod relay;
@@ -24,9 +25,9 @@ pub mod serve;
 mod store;
 pub mod wire;
 
-pub use address::Address;
-pub use parents::{Parents, Way};
-pub use peers::{Call, Children, Handler, Line, Parent, Peers, Setup, Whom};
+pub use address::{Address, AddressError};
+pub use parents::{ParentError, Parents, Way};
+pub use peers::{Call, ChildError, Children, Fault, Handler, Line, Parent, Peers, Setup, Whom};
 pub use relay::{Came, Link, Relay};
 pub use store::{Store, Turn, Worker, LOST};
 
@@ -34,9 +35,6 @@ pub use store::{Store, Turn, Worker, LOST};
 pub const BODY_BYTES: usize = 16 << 20;
 /// The longest name of an agent, in bytes.
 pub const NAME_BYTES: usize = 64;
-
-/// What these calls give: where nothing is said, that it was done, or why it is refused.
-pub type Result<T = (), E = &'static str> = std::result::Result<T, E>;
 
 /// A body and its item, which need not fit it: whoever takes one looks.
 #[derive(Debug, PartialEq, Eq)]

@@ -99,6 +99,7 @@ impl Node {
 
     /// At the root: puts an item at the back of the list. Whether there was room. No law speaks of
     /// an item that another node puts into its list.
+    #[must_use = "an item for which there is no room is not in the list"]
     pub fn publish(&mut self, item: u32) -> bool {
         let (list, size) = (self.list.as_mut_ptr(), self.list.len());
         // SAFETY: the call has this node and its list for itself, which has `size` items.
@@ -143,6 +144,7 @@ impl Node {
 
     /// Offers a child the next item, if its sender has none; the frame to send to it now, if any.
     /// There is none for a child of another node, which stays as it was.
+    #[must_use = "the frame is to be sent"]
     pub fn poll(&self, child: &mut Child) -> Option<Frame> {
         if !self.has(child) {
             return None;

@@ -65,12 +65,14 @@ impl<End> Session<End> {
     /// Begins a connection that this end is about to make: its number, unless none is left. The one
     /// that the end had is left, and is to be closed. Where none is left, close all that the end
     /// has open, and make this session anew, with its end.
+    #[must_use = "the number belongs to the connection"]
     pub fn made(&mut self) -> Option<Connection> {
         // SAFETY: the call has this session for itself.
         NonZeroU64::new(unsafe { calls::rignolda_session_made(&mut self.raw) }).map(Connection)
     }
 
     /// The same for a connection that this end has accepted. It has the first turn.
+    #[must_use = "the number belongs to the connection"]
     pub fn accepted(&mut self) -> Option<Connection> {
         // SAFETY: the call has this session for itself.
         NonZeroU64::new(unsafe { calls::rignolda_session_accepted(&mut self.raw) }).map(Connection)
@@ -124,12 +126,14 @@ impl<End> Session<End> {
 
 impl Session<Sender> {
     /// Offers an item, as [`Sender::offer`].
+    #[must_use = "an item that is refused is to be offered again"]
     pub fn offer(&mut self, item: u32) -> bool {
         self.end.offer(item)
     }
 
     /// The frame to write now on the connection that the end has, if it has one, its turn and an
     /// item. It is to be written whole and once; the turn is given away.
+    #[must_use = "the turn is given away by it"]
     pub fn send(&mut self) -> Option<Frame> {
         let mut frame = calls::Frame::default();
         // SAFETY: the call has the session and the frame for itself, and only reads the sender.
@@ -155,6 +159,7 @@ impl Session<Sender> {
 impl Session<Receiver> {
     /// Handles a frame that came by this connection, as [`Receiver::on_frame`]. By one that the end
     /// has left, nothing changes; else the turn is the end's own.
+    #[must_use = "an item that came does not come again"]
     pub fn on_frame(&mut self, connection: Connection, frame: Frame) -> Option<u32> {
         let mut item = 0;
         let number = connection.0.get();
@@ -174,6 +179,7 @@ impl Session<Receiver> {
 
     /// The label to write now on the connection that the end has, if it has one and its turn, and
     /// is open. It is to be written whole and once; the turn is given away.
+    #[must_use = "the turn is given away by it"]
     pub fn ack(&mut self) -> Option<u16> {
         ack(&self.end.raw, &mut self.raw)
     }
@@ -188,6 +194,7 @@ impl Session<Child> {
     /// Offers the child the node's next item, if its sender has none, and gives the frame to write
     /// now, as [`Session::send`]. Where the end may not send, nothing is offered; nor where the
     /// child is another node's.
+    #[must_use = "the turn is given away by it"]
     pub fn poll(&mut self, node: &Node) -> Option<Frame> {
         if !node.has(&self.end) {
             return None;
@@ -221,6 +228,7 @@ impl Session<Child> {
     /// For a link in [words](crate::word) of a store: offers the child the node's next item, if its
     /// sender has none, and gives the frame to set, as [`Node::poll`]. Nothing while the end has a
     /// connection: where a link changes its way, a new count of it begins.
+    #[must_use = "the frame is to be set"]
     pub fn poll_word(&mut self, node: &Node) -> Option<Frame> {
         match self.is_free() {
             true => node.poll(&mut self.end),
@@ -277,6 +285,7 @@ impl Session<Node> {
     }
 
     /// The label to write now to the parent, as [`Session::ack`].
+    #[must_use = "the turn is given away by it"]
     pub fn ack(&mut self) -> Option<u16> {
         ack(&self.end.raw.above, &mut self.raw)
     }

@@ -30,7 +30,6 @@ use std::collections::BTreeMap;
 use std::sync::Arc;
 
 mod batch;
-mod depth;
 #[cfg(unix)]
 mod floor;
 #[cfg(unix)]
@@ -43,7 +42,6 @@ mod source;
 mod waiting;
 
 pub use batch::Batch;
-pub use depth::{too_deep, TOO_DEEP};
 #[cfg(unix)]
 pub use floor::{read_floor, write_floor};
 #[cfg(unix)]

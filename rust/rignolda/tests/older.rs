@@ -15,7 +15,8 @@ struct Agent {
 
 impl Agent {
     fn new(children: bool) -> Agent {
-        let relay = Relay::new(false, 64, children);
+        let relay = Relay::below(64);
+        let relay = if children { relay.keeping() } else { relay };
         Agent {
             relay,
             table: Table::default(),
@@ -37,8 +38,8 @@ impl Agent {
 
     fn takes(&mut self, label: u16, body: &Arc<Body>) {
         let connection = self.relay.made().unwrap();
-        let (is_fresh, _) = self.relay.on_frame(Some(connection), label, body);
-        self.relay.ack();
+        let is_fresh = self.relay.on_frame(Some(connection), label, body).is_fresh;
+        let _ = self.relay.ack();
         let (number, meaning) = body.meaning().unwrap();
         if !is_fresh || !self.table.takes(number, &meaning) {
             return;

@@ -1,5 +1,5 @@
 //! The choice of parents: the rule on plain states, and drawn nets that begin in any state.
-use rignolda::net::parents::{Parents, Way, CIRCLE, NAMES, NONE};
+use rignolda::net::parents::{ParentError, Parents, Way, CIRCLE, NAMES, NONE};
 use std::collections::VecDeque;
 
 mod common;
@@ -51,11 +51,11 @@ fn a_parent_is_left_for_a_circle_alone() {
     for (heard, expected) in [
         (way(NONE, &["a"]), Ok(())),
         (way(CIRCLE - 2, &["a"]), Ok(())),
-        (way(CIRCLE - 1, &["a"]), Err("its way is too long")),
-        (way(u16::MAX, &["a"]), Err("its way is too long")),
-        (way(1, &["x", "a"]), Err("its way leads over this agent")),
+        (way(CIRCLE - 1, &["a"]), Err(ParentError::LongWay)),
+        (way(u16::MAX, &["a"]), Err(ParentError::LongWay)),
+        (way(1, &["x", "a"]), Err(ParentError::Circle)),
         (long(NAMES - 1), Ok(())),
-        (long(NAMES), Err("its way is too long")),
+        (long(NAMES), Err(ParentError::LongWay)),
     ] {
         let mut x = agent(2);
         x.took(0, way(0, &["a"]));
@@ -68,22 +68,13 @@ fn a_candidate_is_taken_that_is_better_twice_in_turn() {
     let mut x = agent(3);
     x.took(1, way(0, &["b"]));
     assert_eq!(x.says().cost, 9);
-    let twice = Err("it has to be better twice");
+    let twice = Err(ParentError::Once);
     assert_eq!(x.looked(0, &way(7, &["a"])), twice);
     // (as good as the parent is not better, and then it begins anew)
-    assert_eq!(
-        x.looked(0, &way(8, &["a"])),
-        Err("another parent is connected")
-    );
+    assert_eq!(x.looked(0, &way(8, &["a"])), Err(ParentError::NoBetter));
     assert_eq!(x.looked(0, &way(7, &["a"])), twice);
-    assert_eq!(
-        x.looked(2, &way(0, &["c"])),
-        Err("another parent is connected")
-    );
-    assert_eq!(
-        x.looked(0, &way(3, &["x", "a"])),
-        Err("its way leads over this agent")
-    );
+    assert_eq!(x.looked(2, &way(0, &["c"])), Err(ParentError::NoBetter));
+    assert_eq!(x.looked(0, &way(3, &["x", "a"])), Err(ParentError::Circle));
     assert_eq!(x.looked(0, &way(7, &["a"])), twice);
     assert_eq!(
         x.looked(0, &way(6, &["a"])),
@@ -100,10 +91,10 @@ fn nobody_moves_while_the_root_is_away() {
     x.took(0, way(1, &["r", "a"]));
     assert_eq!(x.hears(way(NONE, &["a"])), Ok(()));
     for _ in 0..3 {
-        assert_eq!(x.looked(1, &way(NONE, &["b"])), Err("it has no root"));
+        assert_eq!(x.looked(1, &way(NONE, &["b"])), Err(ParentError::NoRoot));
         assert_eq!(
             x.looked(1, &way(NONE - 9, &["b"])),
-            Err("it has no root"),
+            Err(ParentError::NoRoot),
             "128 is none"
         );
     }
@@ -116,24 +107,24 @@ fn who_has_no_parent_takes_one_without_a_root_only_where_no_circle_comes_of_it()
     let lost = way(NONE, &["a"]);
     assert_eq!(
         agent(2).looked(0, &lost),
-        Err("it has no root"),
+        Err(ParentError::NoRoot),
         "several, and children"
     );
     assert_eq!(agent(1).looked(0, &lost), Ok(()), "one alone");
     assert_eq!(
         agent(1).looked(0, &way(1, &["x", "a"])),
-        Err("its way leads over this agent")
+        Err(ParentError::Circle)
     );
     let mut leaf = Parents::new("x", [None, None], false);
     assert_eq!(
         leaf.looked(0, &lost),
-        Err("it has no root"),
+        Err(ParentError::NoRoot),
         "first the others are looked at"
     );
     assert_eq!(leaf.looked(1, &way(3, &["r", "b"])), Ok(()));
     assert_eq!(leaf.looked(0, &lost), Ok(()));
     leaf.took(0, lost.clone());
-    assert_eq!(leaf.looked(1, &lost), Err("it has no root"), "it stays");
+    assert_eq!(leaf.looked(1, &lost), Err(ParentError::NoRoot), "it stays");
 }
 
 #[test]

@@ -1,6 +1,6 @@
 //! Agents over lines in memory: who connects to whom, what is said first, and who is taken.
 use rignolda::net::wire::{self, Expect, Hello, Message, FIRST, OLD, VERSION};
-use rignolda::net::{Body, Children, Line, Parent, Peers, Setup, Way};
+use rignolda::net::{Body, ChildError, Children, Line, Parent, Peers, Setup, Way};
 use std::cell::RefCell;
 use std::collections::{BTreeMap, VecDeque};
 use std::io::{self, Error, ErrorKind, Read, Write};
@@ -187,7 +187,7 @@ impl Net {
                 }
                 let made = is_there
                     .then_some(here)
-                    .ok_or_else(|| "nobody is there".into());
+                    .ok_or_else(|| Error::new(ErrorKind::Other, "nobody is there"));
                 let agent = self.agent(&name);
                 agent.peers.called(call, made, now, &mut agent.said);
                 agent.peers.write(now, &mut agent.said);
@@ -469,17 +469,11 @@ fn a_changed_setup_turns_a_link() {
     assert!(net.agent("a").peers.parent().is_none());
     let agent = net.agent("root");
     assert_eq!(agent.peers.add("a", None, now), Ok(()));
-    assert_eq!(
-        agent.peers.add("a", None, now),
-        Err("it is a child already")
-    );
-    assert_eq!(
-        agent.peers.add("root", None, now),
-        Err("it is no name of a child")
-    );
+    assert_eq!(agent.peers.add("a", None, now), Err(ChildError::Known));
+    assert_eq!(agent.peers.add("root", None, now), Err(ChildError::NoName));
     assert_eq!(
         agent.peers.remove("x", now, &mut agent.said),
-        Err("it is no child")
+        Err(ChildError::Unknown)
     );
 }
 

@@ -63,7 +63,10 @@ impl Tree {
 
     fn begun(&mut self, at: usize, count: usize) -> Agent {
         self.lives += 1;
-        let mut relay = Relay::new(at == 0, self.room, 2 * at + 1 < count);
+        let mut relay = match at {
+            0 => Relay::root(self.room),
+            _ => Relay::below(self.room),
+        };
         (2 * at + 1..2 * at + 3)
             .filter(|it| *it < count)
             .for_each(|it| {
@@ -162,7 +165,8 @@ impl Tree {
             None => return,
         };
         let below = wire.below;
-        let (fresh, left) = agent.relay.on_frame(Some(below), label, &body);
+        let came = agent.relay.on_frame(Some(below), label, &body);
+        let (fresh, left) = (came.is_fresh, came.left_behind);
         if fresh && agent.deliver(&body) {
             agent.relay.last_is_a_table();
         }
@@ -437,7 +441,7 @@ fn one_that_is_away_too_long_is_evicted() {
 #[test]
 fn what_no_child_lacks_is_forgotten_at_the_next_acknowledgement() {
     let now = Instant::now();
-    let mut root = Relay::new(true, 8, true);
+    let mut root = Relay::root(8);
     ["line", "store"]
         .iter()
         .for_each(|name| root.add(name, now));
@@ -472,7 +476,8 @@ fn what_comes_by_a_connection_that_was_left_changes_nothing() {
     tree.agents[0].relay.child_ended("1", old.above, tree.now);
     tree.connect(1, false);
     let (label, body) = old.down[0].clone();
-    let (fresh, _) = tree.agents[1].relay.on_frame(Some(old.below), label, &body);
+    let came = tree.agents[1].relay.on_frame(Some(old.below), label, &body);
+    let fresh = came.is_fresh;
     assert!(!fresh);
     let now = tree.now;
     tree.agents[0]

@@ -3,7 +3,7 @@
 use rignolda::net::wire::{self, Hello, OLD};
 use rignolda::net::{Body, Call, Children, Line, Parent, Peers, Setup, Turn, Way, Worker, LOST};
 use std::collections::BTreeMap;
-use std::io::{self, Read, Write};
+use std::io::{self, ErrorKind, Read, Write};
 use std::sync::Arc;
 use std::time::{Duration, Instant};
 
@@ -42,7 +42,7 @@ impl Line for NoLine {
 type Keys = BTreeMap<String, Vec<u8>>;
 
 /// What the store answered, and after how many steps the agent is told.
-type Answer = (usize, Result<Vec<Vec<u8>>, String>);
+type Answer = (usize, io::Result<Vec<Vec<u8>>>);
 
 struct Agent {
     peers: Peers<NoLine, String>,
@@ -169,7 +169,7 @@ impl Net {
                 1 => agent.given_up.push(turn.sets),
                 _ => (),
             }
-            return (late, Err("it was cut".into()));
+            return (late, Err(io::Error::new(ErrorKind::Other, "it was cut")));
         }
         self.keys.extend(turn.sets);
         let got = turn.gets.iter().map(|(key, most)| {
@@ -212,7 +212,7 @@ impl Net {
                 match address.as_str() {
                     "store" => agent.peers.in_store(call, now),
                     _ => {
-                        let nobody = Err("nobody is there".into());
+                        let nobody = Err(io::Error::new(ErrorKind::Other, "nobody is there"));
                         agent.peers.called(call, nobody, now, &mut agent.said);
                     }
                 }

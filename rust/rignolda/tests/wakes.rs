@@ -335,10 +335,11 @@ impl Net {
     }
 
     /// A connection to an agent, if it is there.
-    fn connect(&mut self, to: &str) -> Result<End, String> {
+    fn connect(&mut self, to: &str) -> io::Result<End> {
         let (least, most) = self.delays;
         let delays = [(); 2].map(|()| least + self.random.below(most - least + 1));
-        let other = self.agents.get_mut(to).ok_or("nobody is there")?;
+        let nobody = || io::Error::new(ErrorKind::Other, "nobody is there");
+        let other = self.agents.get_mut(to).ok_or_else(nobody)?;
         let (mut here, mut there) = line(&self.clock, delays);
         here.called = to.into();
         let calls = self.calls.entry(to.into()).or_default();

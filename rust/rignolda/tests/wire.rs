@@ -2,7 +2,7 @@
 use rignolda::net::wire::{
     ack, frame, lacks, reference, report, take, way, Expect, Hello, Message, Reference,
 };
-use rignolda::net::wire::{FIRST, GOODBYE, OLD, REPORT_BYTES, WAY_BYTES};
+use rignolda::net::wire::{WireError, FIRST, GOODBYE, OLD, REPORT_BYTES, WAY_BYTES};
 use rignolda::net::{Body, Way, BODY_BYTES};
 use rignolda::settings::{entry_bytes, is_key, Meaning, VALUE_BYTES};
 
@@ -19,8 +19,13 @@ fn hello() -> Hello {
     }
 }
 
+/// Why it was refused, in words.
+fn words(got: Result<Vec<u8>, WireError>) -> String {
+    got.expect_err("it is no message").to_string()
+}
+
 /// All messages that come before the first error, and the bytes that are left.
-fn all(mut input: Vec<u8>, expect: Expect) -> (Vec<Message>, Result<Vec<u8>, &'static str>) {
+fn all(mut input: Vec<u8>, expect: Expect) -> (Vec<Message>, Result<Vec<u8>, WireError>) {
     let mut messages = Vec::new();
     loop {
         match take(&mut input, expect) {
@@ -69,7 +74,7 @@ fn the_bytes_are_these() {
     assert_eq!(all(lacks(9), Expect::Acks).0, [Message::Lacks(9)]);
     let mut long = bytes;
     long[7..11].copy_from_slice(&(BODY_BYTES as u32 + 1).to_be_bytes());
-    assert_eq!(all(long, Expect::Frames).1, Err("a body is too long"));
+    assert_eq!(all(long, Expect::Frames).1, Err(WireError::LongBody));
     assert_eq!(Hello::range(1..=3), 0x0103);
 }
 
@@ -124,7 +129,7 @@ fn a_way_is_bounded_and_has_names() {
             "a name of a way is none",
         ),
     ] {
-        assert_eq!(all(bytes, Expect::Way).1, Err(why));
+        assert_eq!(words(all(bytes, Expect::Way).1), why);
     }
     let look = Hello {
         version: FIRST,
@@ -179,14 +184,14 @@ fn messages_come_in_any_pieces() {
 fn what_is_too_long_is_refused_before_it_comes() {
     let long = |kind: &[u8], length: u32| [kind, &length.to_be_bytes()].concat();
     let frame = long(b"F\0\0\0\0\0\0", BODY_BYTES as u32 + 1);
-    assert_eq!(all(frame, Expect::Frames).1, Err("a body is too long"));
+    assert_eq!(all(frame, Expect::Frames).1, Err(WireError::LongBody));
     assert!(
         all(long(b"F\0\0\0\0\0\0", BODY_BYTES as u32), Expect::Frames)
             .1
             .is_ok()
     );
     let report = long(b"R", REPORT_BYTES as u32 + 1);
-    assert_eq!(all(report, Expect::Acks).1, Err("a report is too long"));
+    assert_eq!(all(report, Expect::Acks).1, Err(WireError::LongReport));
 }
 
 #[test]
@@ -194,12 +199,12 @@ fn a_hello_of_another_kind_is_refused() {
     let good = hello().bytes();
     assert_eq!(
         all(b"GET / HTTP/1.1\r\n".to_vec(), Expect::Hello).1,
-        Err("it is no hello")
+        Err(WireError::NoHello)
     );
     let mut other = good.clone();
     other[4] = 0;
     let why = "its version of the protocol is none";
-    assert_eq!(all(other.clone(), Expect::Hello).1, Err(why));
+    assert_eq!(words(all(other.clone(), Expect::Hello).1), why);
     // (a later one has this form too, so that its versions can be named)
     other[4] = 255;
     assert_eq!(all(other, Expect::Hello).0.len(), 1);
@@ -211,7 +216,7 @@ fn a_hello_of_another_kind_is_refused() {
         .bytes();
         assert_eq!(
             all(bytes, Expect::Hello).1,
-            Err("a name of its hello is none"),
+            Err(WireError::NoName),
             "{name}"
         );
     }

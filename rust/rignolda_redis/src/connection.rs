@@ -23,6 +23,7 @@ pub enum Reply {
 
 /// A connection. What is asked in one turn has to be answered in a time, with more for the bytes
 /// that have gone over it: so a server that drips does not hold its caller up.
+#[derive(Debug)]
 pub struct Connection {
     socket: TcpStream,
     output: Vec<u8>,

@@ -7,6 +7,7 @@
 //! of an earlier process of it, or of two at once. It is one server, neither a cluster nor a
 //! replica; and nothing is encrypted.
 #![forbid(unsafe_code)]
+#![warn(missing_debug_implementations)]
 mod connection;
 
 use connection::{Connection, Reply};
@@ -14,6 +15,7 @@ use rignolda::net::{Address, Handler, Line, Peers, Store, Turn, Worker};
 use std::path::PathBuf;
 use std::sync::Arc;
 use std::time::{Duration, Instant};
+use std::{fmt, io};
 
 /// How an agent logs in to a store.
 #[derive(Clone, Debug, Default, PartialEq, Eq)]
@@ -26,7 +28,7 @@ pub struct Login {
     pub database: u32,
 }
 
-type StoreWorker = Worker<Turn, Result<Vec<Vec<u8>>, String>>;
+type StoreWorker = Worker<Turn, io::Result<Vec<Vec<u8>>>>;
 
 /// The stores of an agent, each with a thread that waits for it.
 pub struct Stores {
@@ -34,6 +36,13 @@ pub struct Stores {
     timeout: Duration,
     wake: Arc<dyn Fn() + Send + Sync>,
     workers: Vec<(Address, StoreWorker)>,
+}
+
+impl fmt::Debug for Stores {
+    fn fmt(&self, to: &mut fmt::Formatter<'_>) -> fmt::Result {
+        let addresses = self.workers.iter().map(|(address, _)| address);
+        to.debug_list().entries(addresses).finish()
+    }
 }
 
 impl Stores {
@@ -73,7 +82,7 @@ impl Stores {
         (!is_so).then_some("a store was asked for something else")
     }
 
-    fn worker(&mut self, address: &Address, name: &str) -> Result<&StoreWorker, String> {
+    fn worker(&mut self, address: &Address, name: &str) -> io::Result<&StoreWorker> {
         let at = self.workers.iter().position(|(it, _)| it == address);
         let at = match (at, address) {
             (Some(at), _) => at,
@@ -81,16 +90,17 @@ impl Stores {
                 let mut store = Redis::new(server, prefix, name, self.login.clone(), self.timeout);
                 let (wake, work) = (self.wake.clone(), move |turn| store.turn(&turn));
                 let worker = Worker::start("store", work, move || wake());
-                self.workers.push((address.clone(), worker.map_err(|e| e.to_string())?));
+                self.workers.push((address.clone(), worker?));
                 self.workers.len() - 1
             }
-            _ => return Err("it is no store".into()),
+            _ => return Err(io::Error::other("it is no store")),
         };
         Ok(&self.workers[at].1)
     }
 }
 
 /// A store of Redis, as one agent has it.
+#[derive(Debug)]
 pub struct Redis {
     server: String,
     prefix: String,
@@ -175,7 +185,14 @@ impl Redis {
 }
 
 impl Store for Redis {
-    fn turn(&mut self, turn: &Turn) -> Result<Vec<Vec<u8>>, String> {
+    fn turn(&mut self, turn: &Turn) -> io::Result<Vec<Vec<u8>>> {
+        self.got(turn).map_err(io::Error::other)
+    }
+}
+
+impl Redis {
+    /// What a turn got, on the connection that there is or on a new one.
+    fn got(&mut self, turn: &Turn) -> Result<Vec<Vec<u8>>, String> {
         let mut connection = match self.connection.take() {
             Some(connection) => connection,
             None => self.connect()?,

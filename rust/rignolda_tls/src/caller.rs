@@ -2,6 +2,7 @@
 use crate::{Line, Maker};
 use rignolda::net::{Address, Call};
 use socket2::SockAddr;
+use std::fmt;
 use std::io::{self, ErrorKind};
 use std::net::{SocketAddr, ToSocketAddrs};
 use std::sync::{mpsc, Arc};
@@ -10,7 +11,7 @@ use std::thread;
 /// What a look-up of a host's name brought, and what there is one of for each of them.
 type Found = (Call<Address>, io::Result<Vec<SocketAddr>>, Arc<()>);
 /// A call, and the line that it led to, or why it led to none.
-pub type Called = (Call<Address>, Result<Line, String>);
+pub type Called = (Call<Address>, io::Result<Line>);
 
 /// Makes the connections that [`rignolda::net::Peers`] asks for. A look-up waits, so another thread
 /// does it.
@@ -19,6 +20,12 @@ pub struct Caller {
     found: mpsc::Receiver<Found>,
     wake: Arc<dyn Fn() + Send + Sync>,
     under_way: Arc<()>,
+}
+
+impl fmt::Debug for Caller {
+    fn fmt(&self, to: &mut fmt::Formatter<'_>) -> fmt::Result {
+        to.debug_struct("Caller").field("looks_up", &self.looks_up()).finish_non_exhaustive()
+    }
 }
 
 impl Caller {
@@ -37,7 +44,6 @@ impl Caller {
     pub fn call(&self, call: Call<Address>, maker: &Maker) -> Option<Called> {
         let line = match &call.address {
             Address::Unix(path) => SockAddr::unix(path).and_then(|it| maker.connect(&it)),
-            Address::Redis { .. } => Err(ErrorKind::Unsupported.into()),
             Address::Tcp(text) => match text.parse::<SocketAddr>() {
                 Ok(address) => maker.connect(&address.into()),
                 Err(_) => match self.look_up(call.clone()) {
@@ -45,8 +51,9 @@ impl Caller {
                     Err(error) => Err(error),
                 },
             },
+            _ => Err(ErrorKind::Unsupported.into()),
         };
-        Some((call, line.map_err(|e| e.to_string())))
+        Some((call, line))
     }
 
     fn look_up(&self, call: Call<Address>) -> io::Result<()> {
@@ -67,6 +74,6 @@ impl Caller {
             let place = places.get(call.failed % places.len().max(1)).ok_or_else(nothing)?;
             maker.connect(&SockAddr::from(*place))
         });
-        Some((call, line.map_err(|e| e.to_string())))
+        Some((call, line))
     }
 }

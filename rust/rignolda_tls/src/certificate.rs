@@ -15,6 +15,7 @@ const PEM_BYTES: usize = 1 << 20;
 const DAYS: u32 = 30;
 
 /// What is wrong with one of the files of a [`Tls`].
+#[derive(Clone, Debug, PartialEq, Eq)]
 pub struct Fault {
     pub file: &'static str,
     pub text: String,
@@ -68,7 +69,7 @@ impl Tls {
         if may == [true; 3] && faults.iter().all(|it| it.is_warning) {
             let why = Maker::new(Some(self), Duration::from_secs(1)).err();
             let file = "certificate";
-            faults.extend(why.map(|text| Fault { file, text, is_warning: false }));
+            faults.extend(why.map(|it| Fault { file, text: it.to_string(), is_warning: false }));
         }
         faults
     }

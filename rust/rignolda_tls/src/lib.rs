@@ -4,6 +4,7 @@
 //! [`Listener`] is where they connect to. A [`Line`] is read and written as
 //! [`rignolda::net::Peers`] asks for it.
 #![forbid(unsafe_code)]
+#![warn(missing_debug_implementations)]
 use std::fs::OpenOptions;
 use std::io::{self, Read};
 use std::os::unix::fs::OpenOptionsExt;
@@ -16,7 +17,7 @@ mod listener;
 
 pub use caller::{Called, Caller};
 pub use certificate::{unix_time, Fault};
-pub use line::{Line, Maker, Secure};
+pub use line::{Line, Maker, Secure, TlsError};
 pub use listener::Listener;
 
 /// O_NONBLOCK of Linux.

@@ -9,17 +9,21 @@ use openssl::ssl::{
 use openssl::x509::X509Ref;
 use rignolda::net::{is_name, serve};
 use socket2::{Domain, SockAddr, Socket, TcpKeepalive, Type};
+use std::fmt;
 use std::io::{self, ErrorKind, IoSlice, Read, Write};
 use std::os::unix::io::{AsRawFd, RawFd};
 use std::path::Path;
 use std::time::Duration;
 
+/// A connection: plain, or by TLS.
+#[derive(Debug)]
 pub enum Line {
     Plain(Socket),
     Tls(Box<Secure>),
 }
 
 /// TLS, and what its last act waited for.
+#[derive(Debug)]
 pub struct Secure {
     stream: SslStream<Bounded>,
     greeted: bool,
@@ -42,6 +46,7 @@ const RECORD_BYTES: usize = 64;
 const NAMES: usize = 3;
 
 /// A socket of which no more is read than this, until data came.
+#[derive(Debug)]
 struct Bounded {
     socket: Socket,
     left: usize,
@@ -72,7 +77,20 @@ impl Write for Bounded {
 const READ: usize = 0;
 const WRITE: usize = 1;
 
+/// Why no lines can be made by the files of a [`Tls`].
+#[derive(Clone, Debug, PartialEq, Eq)]
+pub struct TlsError(String);
+
+impl fmt::Display for TlsError {
+    fn fmt(&self, to: &mut fmt::Formatter<'_>) -> fmt::Result {
+        to.write_str(&self.0)
+    }
+}
+
+impl std::error::Error for TlsError {}
+
 /// How lines are made: with which certificates, and when a silent machine counts as gone.
+#[derive(Debug)]
 pub struct Maker {
     tls: Option<SslContext>,
     timeout: Duration,
@@ -81,8 +99,8 @@ pub struct Maker {
 impl Maker {
     /// Reads the certificates. `timeout` is how long sent bytes may stay without an answer of the
     /// other machine.
-    pub fn new(tls: Option<&Tls>, timeout: Duration) -> Result<Maker, String> {
-        let tls = tls.map(context).transpose()?;
+    pub fn new(tls: Option<&Tls>, timeout: Duration) -> Result<Maker, TlsError> {
+        let tls = tls.map(context).transpose().map_err(TlsError)?;
         Ok(Maker { tls, timeout })
     }
 

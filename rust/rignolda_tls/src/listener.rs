@@ -10,6 +10,7 @@ use std::os::unix::net::UnixStream;
 use std::path::PathBuf;
 
 /// Where lines are accepted. A Unix socket's file goes with it.
+#[derive(Debug)]
 pub struct Listener {
     pub socket: Socket,
     path: Option<PathBuf>,
@@ -21,7 +22,6 @@ impl Listener {
     pub fn new(address: &Address, mode: Option<u32>) -> io::Result<Listener> {
         let (socket, path) = match address {
             Address::Tcp(address) => (TcpListener::bind(address)?.into(), None),
-            Address::Redis { .. } => return Err(ErrorKind::Unsupported.into()),
             Address::Unix(path) => {
                 if UnixStream::connect(path).is_ok() {
                     let why = "another process listens there";
@@ -38,6 +38,7 @@ impl Listener {
                 socket.listen(1_024)?;
                 (socket, Some(path.clone()))
             }
+            _ => return Err(ErrorKind::Unsupported.into()),
         };
         let listener = Listener { socket, path };
         listener.socket.set_nonblocking(true)?;

@@ -409,7 +409,7 @@ fn a_key_that_does_not_belong_to_the_certificate_is_named() {
     fs::write(path("key"), two.1.private_key_to_pem_pkcs8().unwrap()).unwrap();
     fs::write(path("ca"), authority.0.to_pem().unwrap()).unwrap();
     let mut tls = Tls { certificate: path("crt"), key: path("key"), authority: path("ca") };
-    let said = |tls: &Tls| Maker::new(Some(tls), TIMEOUT).err().unwrap();
+    let said = |tls: &Tls| Maker::new(Some(tls), TIMEOUT).err().unwrap().to_string();
     let begins = |file: &str| path(file).display().to_string();
     assert_eq!(said(&tls), format!("{}: key values mismatch", begins("key")));
     fs::write(path("key"), "no key").unwrap();

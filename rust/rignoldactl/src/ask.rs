@@ -19,6 +19,7 @@ const LINE: usize = 79;
 const ANSWER: Duration = Duration::from_secs(10);
 
 /// A connection to an agent. It may ask one thing after the other.
+#[derive(Debug)]
 pub struct Agent {
     reader: BufReader<UnixStream>,
 }

@@ -4,6 +4,7 @@
 //! A request is one line of JSON, and so is its answer; a connection may carry one after the other.
 //! Who may connect is decided by the permissions of the socket's file.
 #![forbid(unsafe_code)]
+#![warn(missing_debug_implementations)]
 use openssl::sha::Sha256;
 use serde::{Deserialize, Serialize};
 use serde_json::Value;

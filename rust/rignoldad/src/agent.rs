@@ -572,7 +572,8 @@ impl Agent {
         // (all are looked at again)
         self.expires = i64::MAX;
         self.lines.retain(|id, _| self.peers.line(*id).is_some());
-        self.peers.check(self.caller.looks_up(), now, &mut self.state)?;
+        let checked = self.peers.check(self.caller.looks_up(), now, &mut self.state);
+        checked.map_err(|it| it.what())?;
         let sockets = self.listeners.iter().chain(self.servers.iter().map(Server::listener));
         let mut listen = sockets.map(|it| it.socket.is_listener().unwrap_or(false));
         let is_same = self.config.peers == *self.peers.setup()
@@ -847,12 +848,13 @@ impl Agent {
                 return Err("nobody can connect: there is no `listen`".into());
             }
             (Request::ChildAdd { name }, _) => {
-                self.peers.add(&name, None, now)?;
+                self.peers.add(&name, None, now).map_err(|why| why.to_string())?;
                 self.config.peers = self.peers.setup().clone();
                 self.state.changed = true;
             }
             (Request::ChildRemove { name }, _) => {
-                self.peers.remove(&name, now, &mut self.state)?;
+                let removed = self.peers.remove(&name, now, &mut self.state);
+                removed.map_err(|why| why.to_string())?;
                 self.config.peers = self.peers.setup().clone();
             }
             (Request::Promote { as_is }, _) => {

@@ -2,9 +2,10 @@
 //!
 //! Every fault is reported with its line and its key. Nothing here opens another file, except that
 //! [`Config::read`] reads the one that it is given.
+use crate::depth::{too_deep, TOO_DEEP};
 use crate::hooks::Hook;
 pub use rignolda::net::{is_name, Address, Children, Parent, Setup, NAME_BYTES};
-pub use rignolda::settings::{is_group, is_key, too_deep, TOO_DEEP};
+pub use rignolda::settings::{is_group, is_key};
 pub use rignolda_redis::Login;
 use rignolda_tls::read_file;
 pub use rignolda_tls::Tls;
@@ -323,7 +324,8 @@ impl<'a> Check<'a> {
 
     fn address(&mut self, key: &str, text: &str) -> Option<Address> {
         let (insecure, tls) = (self.insecure, self.has("tls"));
-        let address = Address::parse(text).and_then(|it| match &it {
+        let address = Address::parse(text).map_err(|why| why.to_string());
+        let address = address.and_then(|it| match &it {
             Address::Redis { .. } if key == "listen" => Err("nobody can listen in a store".into()),
             Address::Redis { .. } if !insecure && !it.is_local() => {
                 Err(format!("`{text}` is on the network without TLS: set `insecure`"))

@@ -1,4 +1,4 @@
-//! How deep a text of TOML goes, for who reads settings out of one.
+//! How deep a text of TOML goes.
 
 /// How deep brackets may nest in a text of TOML, and of how many parts a name may be.
 const DEPTH: usize = 32;
@@ -23,10 +23,7 @@ pub fn too_deep(text: &str) -> Option<usize> {
             return Some(1 + text[..at].matches('\n').count());
         }
         at += match byte {
-            b'#' => bytes[at..]
-                .iter()
-                .take_while(|byte| **byte != b'\n')
-                .count(),
+            b'#' => bytes[at..].iter().take_while(|byte| **byte != b'\n').count(),
             b'"' | b'\'' => length_of_text(&bytes[at..]),
             _ => 1,
         };

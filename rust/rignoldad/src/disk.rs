@@ -1,5 +1,5 @@
 //! The disk that has the root's settings. A thread does what may have to wait for it.
-use crate::config::{too_deep, TOO_DEEP};
+use crate::depth::{too_deep, TOO_DEEP};
 use inotify::{Inotify, WatchMask};
 use rignolda::net::{Worker, BODY_BYTES};
 use rignolda::settings::{
@@ -150,7 +150,10 @@ impl Place {
     fn write(&mut self, changes: Vec<Kept>) -> Done {
         let done: Vec<_> = match self.settings.is_file() {
             true => changes.iter().map(|_| Err("all settings are in one file".into())).collect(),
-            false => write_folder(&self.settings, &changes),
+            false => {
+                let done = write_folder(&self.settings, &changes).into_iter();
+                done.map(|it| it.map_err(|e| e.to_string())).collect()
+            }
         };
         let own = changes.iter().zip(&done).filter(|(_, done)| done.is_ok());
         self.note(own.map(|((key, _), _)| shown(key).into()).collect());

@@ -9,6 +9,7 @@ pub mod apply;
 pub mod check;
 pub mod config;
 pub mod control;
+pub mod depth;
 pub mod digest;
 pub mod disk;
 pub mod hold;

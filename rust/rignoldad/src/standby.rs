@@ -458,7 +458,8 @@ impl Folders {
         let changes: Vec<Kept> =
             changes.map(|(key, value)| (key.into(), value.map(<[u8]>::to_vec))).collect();
         for some in changes.chunks(FILES) {
-            write_folder(&self.root, some).into_iter().collect::<Result<Vec<()>, _>>()?;
+            let done: io::Result<()> = write_folder(&self.root, some).into_iter().collect();
+            done.map_err(|e| e.to_string())?;
         }
         if applied.is_empty() {
             self.put(EMPTY, "")?;

@@ -329,7 +329,7 @@ fn no_pipe_in_the_place_of_a_certificate_is_waited_for() {
         let path = |name: &str| folder.0.join(name);
         let tls = Tls { certificate: path("own"), key: path("key"), authority: path("authority") };
         let why = Maker::new(Some(&tls), Duration::from_secs(1)).err().unwrap();
-        assert_eq!(why, format!("{}: it is no file", path(name).display()));
+        assert_eq!(why.to_string(), format!("{}: it is no file", path(name).display()));
     }
 }
 

@@ -1,5 +1,6 @@
 //! What a configuration means, and what is said of one that is wrong.
-use rignoldad::config::{too_deep, Address, Children, Config, TOO_DEEP};
+use rignoldad::config::{Address, Children, Config};
+use rignoldad::depth::{too_deep, TOO_DEEP};
 use std::time::Duration;
 
 const WHOLE: &str = r#"

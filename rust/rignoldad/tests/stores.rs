@@ -45,7 +45,7 @@ fn got(
     let sets = vec![("a:b:up".to_string(), b"1".to_vec())];
     let begun = Instant::now();
     let got = store.turn(&Turn { sets, gets: vec![("a:b:down".into(), 1_000)] });
-    (got, begun.elapsed())
+    (got.map_err(|why| why.to_string()), begun.elapsed())
 }
 
 #[test]
@@ -72,7 +72,8 @@ fn a_transaction_that_is_not_done_fails() {
     let mut store = Redis::new(&address, "p", "a", Login::default(), TIMEOUT);
     let sets = vec![("a:b:up".to_string(), b"1".to_vec())];
     let got = store.turn(&Turn { sets, gets: vec![] });
-    assert_eq!(got, Err("another process writes there under this agent's name".into()));
+    let why = got.map_err(|why| why.to_string());
+    assert_eq!(why, Err("another process writes there under this agent's name".into()));
 }
 
 #[test]

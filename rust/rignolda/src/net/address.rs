@@ -1,7 +1,9 @@
 //! Where an agent listens, or connects to.
+use std::error::Error;
 use std::fmt;
 use std::net::{IpAddr, Ipv6Addr};
 use std::path::PathBuf;
+use std::str::FromStr;
 
 /// Where an agent listens, or connects to.
 ///
@@ -15,9 +17,10 @@ use std::path::PathBuf;
 /// assert!(Address::parse("::1:7464").is_err());
 /// let store = Address::parse("redis://store.example:6379/prefix")?;
 /// assert_eq!(store.to_string(), "redis://store.example:6379/prefix");
-/// # Ok::<(), String>(())
+/// # Ok::<(), rignolda::net::AddressError>(())
 /// ```
 #[derive(Clone, Debug, PartialEq, Eq, Hash, PartialOrd, Ord)]
+#[non_exhaustive]
 pub enum Address {
     /// `HOST:PORT`, with an address of IPv6 in brackets.
     Tcp(String),
@@ -33,36 +36,79 @@ pub enum Address {
     },
 }
 
+/// What is wrong with the text of an address.
+#[derive(Clone, Debug, PartialEq, Eq)]
+#[non_exhaustive]
+pub enum AddressError {
+    /// It has none of the three forms.
+    Form,
+    /// The path of a socket is not absolute, or too long.
+    Path,
+    /// There is no prefix, or it is [none](super::is_name).
+    Prefix,
+    /// A store is not at a host and a port.
+    Server,
+    /// This is no port.
+    Port(String),
+    /// This is no host.
+    Host(String),
+}
+
+impl fmt::Display for AddressError {
+    fn fmt(&self, to: &mut fmt::Formatter<'_>) -> fmt::Result {
+        to.write_str(match self {
+            AddressError::Form => "HOST:PORT, unix:/PATH or redis://HOST:PORT/PREFIX is expected",
+            AddressError::Path => "after `unix:` comes an absolute path of at most 107 bytes",
+            AddressError::Prefix => "it is redis://HOST:PORT/PREFIX, and the prefix as a name",
+            AddressError::Server => "after `redis://` comes HOST:PORT",
+            AddressError::Port(it) => {
+                return write!(to, "the port is from 1 to 65535, not `{it}`");
+            }
+            AddressError::Host(it) => {
+                return write!(to, "`{it}` is no host (an address of IPv6 needs brackets)");
+            }
+        })
+    }
+}
+
+impl Error for AddressError {}
+
+impl FromStr for Address {
+    type Err = AddressError;
+
+    fn from_str(text: &str) -> Result<Address, AddressError> {
+        Address::parse(text)
+    }
+}
+
 impl Address {
     /// The address that the text says.
     ///
     /// # Errors
     ///
     /// What is wrong with it.
-    pub fn parse(text: &str) -> Result<Address, String> {
+    pub fn parse(text: &str) -> Result<Address, AddressError> {
         if let Some(path) = text.strip_prefix("unix:") {
             // (a socket's path has room for 108 bytes, the last one being 0)
             return match path.starts_with('/') && path.len() <= 107 {
                 true => Ok(Address::Unix(path.into())),
-                false => Err("after `unix:` comes an absolute path of at most 107 bytes".into()),
+                false => Err(AddressError::Path),
             };
         }
         if let Some(rest) = text.strip_prefix("redis://") {
             let (server, prefix) = rest.split_once('/').unwrap_or((rest, ""));
             if !super::is_name(prefix) {
-                return Err("it is redis://HOST:PORT/PREFIX, and the prefix as a name".into());
+                return Err(AddressError::Prefix);
             }
             let prefix = prefix.into();
             return match Address::parse(server)? {
                 Address::Tcp(server) => Ok(Address::Redis { server, prefix }),
-                _ => Err("after `redis://` comes HOST:PORT".into()),
+                _ => Err(AddressError::Server),
             };
         }
-        let (host, port) = text
-            .rsplit_once(':')
-            .ok_or("HOST:PORT, unix:/PATH or redis://HOST:PORT/PREFIX is expected")?;
+        let (host, port) = text.rsplit_once(':').ok_or(AddressError::Form)?;
         if port.parse::<u16>().map_or(true, |port| port == 0) {
-            return Err(format!("the port is from 1 to 65535, not `{port}`"));
+            return Err(AddressError::Port(port.into()));
         }
         let good = match host.strip_prefix('[') {
             Some(inner) => inner
@@ -73,9 +119,8 @@ impl Address {
                 (1..=253).contains(&host.len()) && host.bytes().all(letter)
             }
         };
-        let why = || format!("`{host}` is no host (an address of IPv6 needs brackets)");
         let address = good.then(|| Address::Tcp(text.into()));
-        address.ok_or_else(why)
+        address.ok_or_else(|| AddressError::Host(host.into()))
     }
 
     /// Whether what goes there stays on this machine.

@@ -16,7 +16,7 @@
 //!
 //! A parent that speaks version 1 says no way. It counts as a root where it is the first of the
 //! list, or the agent has no children, and else as one that has lost the root.
-use super::Result;
+use super::error::error;
 use std::time::Duration;
 
 /// The cost of who has no parent. Less than this is a way to a root.
@@ -46,6 +46,24 @@ pub struct Way {
     pub cost: u16,
     /// Who lies on it, the head first and the agent last.
     pub names: Vec<String>,
+}
+
+error! {
+    /// Why a candidate is not taken, or a parent is left.
+    ParentError {
+        /// Its place is none of the list.
+        Unknown = "it is no parent",
+        /// The way over it has the agent's own name.
+        Circle = "its way leads over this agent",
+        /// The way over it costs [too much](CIRCLE), or has too many names.
+        LongWay = "its way is too long",
+        /// It has lost the root.
+        NoRoot = "it has no root",
+        /// It is not better than the parent that there is.
+        NoBetter = "another parent is connected",
+        /// It was better once, and has to be so twice in turn.
+        Once = "it has to be better twice",
+    }
 }
 
 /// The candidates of an agent, in the order of its list, and the one that is its parent.
@@ -185,7 +203,7 @@ impl Parents {
     /// # Errors
     ///
     /// Why it is to be left.
-    pub fn hears(&mut self, way: Way) -> Result {
+    pub fn hears(&mut self, way: Way) -> Result<(), ParentError> {
         let over = self.over(self.at, &way);
         self.was_in_circle |= over.is_err();
         over?;
@@ -200,11 +218,11 @@ impl Parents {
         way.cost.saturating_add(cost).min(CIRCLE)
     }
 
-    fn over(&self, at: usize, way: &Way) -> Result<u16> {
+    fn over(&self, at: usize, way: &Way) -> Result<u16, ParentError> {
         match self.cost(at, way) {
-            _ if way.names.contains(&self.name) => Err("its way leads over this agent"),
-            CIRCLE => Err("its way is too long"),
-            _ if way.names.len() >= NAMES => Err("its way is too long"),
+            _ if way.names.contains(&self.name) => Err(ParentError::Circle),
+            CIRCLE => Err(ParentError::LongWay),
+            _ if way.names.len() >= NAMES => Err(ParentError::LongWay),
             cost => Ok(cost),
         }
     }
@@ -214,7 +232,7 @@ impl Parents {
     /// # Errors
     ///
     /// Why it is not.
-    pub fn looked(&mut self, at: usize, way: &Way) -> Result {
+    pub fn looked(&mut self, at: usize, way: &Way) -> Result<(), ParentError> {
         let (over, own) = (self.over(at, way), self.says.cost);
         if self.heard.is_some() && at == self.at {
             // (it is the parent, on another connection)
@@ -223,20 +241,20 @@ impl Parents {
         let is_sole = self.costs.len() == 1;
         let may = !self.was_in_circle || way.names.first() < Some(&self.name);
         let is_free = self.heard.is_none() && (is_sole || !self.has_children) && may;
-        let better = self.better.get_mut(at).ok_or("it is no parent")?;
+        let better = self.better.get_mut(at).ok_or(ParentError::Unknown)?;
         let before = std::mem::take(better);
         let cost = over?;
         if cost >= NONE && !is_free {
-            return Err("it has no root");
+            return Err(ParentError::NoRoot);
         } else if cost >= own && !is_free {
-            return Err("another parent is connected");
+            return Err(ParentError::NoBetter);
         }
         *better = (before + 1).min(TWICE);
         let is_soon = own >= NONE && (cost < NONE || is_sole);
         match is_soon || *better == TWICE {
             true => Ok(()),
-            false if cost >= NONE => Err("it has no root"),
-            false => Err("it has to be better twice"),
+            false if cost >= NONE => Err(ParentError::NoRoot),
+            false => Err(ParentError::Once),
         }
     }
 

@@ -1,6 +1,6 @@
 //! The connections of an agent: who connects to whom, what is said first, and who is waited for.
 use super::parents::{Parents, Way, BEAT, NONE, SILENCE};
-use super::{Body, Relay, Result};
+use super::{Body, Relay};
 use connection::{travels, Conn, State};
 use dials::Dial;
 use handler::{fact, Context};
@@ -23,8 +23,12 @@ mod shown;
 mod words;
 
 pub use connection::Line;
+pub use fault::Fault;
 pub use handler::Handler;
-pub use setup::{Call, Children, Parent, Setup, Whom};
+pub use setup::{Call, ChildError, Children, Parent, Setup, Whom};
+
+/// What is done, or why a connection is left for it, in words of a journal.
+type Result<T = (), E = String> = std::result::Result<T, E>;
 
 /// How many connections there are at most whose hello has not come, besides one for each child that
 /// is away: these may come all at once, and must not drive each other out.
@@ -84,14 +88,30 @@ pub struct Peers<L, A> {
     space: Box<[u8]>,
 }
 
+/// What it is set up with, and how many connections there are.
+impl<L, A: fmt::Debug> fmt::Debug for Peers<L, A> {
+    fn fmt(&self, to: &mut fmt::Formatter<'_>) -> fmt::Result {
+        let mut shown = to.debug_struct("Peers");
+        shown.field("setup", &self.setup);
+        shown.field("relay", &self.relay);
+        shown.field("parents", &self.parents);
+        shown.field("connections", &self.conns.len());
+        shown.finish_non_exhaustive()
+    }
+}
+
 impl<L: Line, A: Clone + PartialEq + fmt::Display> Peers<L, A> {
     /// An agent without connections. `life`: a number that the process drew when it began; `room`:
     /// An agent without connections. `life`: a number that the process drew when it began; `room`:
     /// how many items its list has room for.
     pub fn new(setup: Setup<A>, life: u64, room: u64, now: Instant) -> Peers<L, A> {
+        let relay = match setup.is_root() {
+            true => Relay::root(room),
+            false => Relay::below(room),
+        };
         let mut peers = Peers {
             // (an agent without children makes tables of what it keeps)
-            relay: Relay::new(setup.is_root(), room, true),
+            relay: relay.keeping(),
             parents: Parents::new(&setup.name, setup.prices(), false),
             setup,
             life,
@@ -187,14 +207,14 @@ impl<L: Line, A: Clone + PartialEq + fmt::Display> Peers<L, A> {
     /// # Errors
     ///
     /// Why it is none, and nothing is changed.
-    pub fn add(&mut self, name: &str, address: Option<A>, now: Instant) -> Result {
+    pub fn add(&mut self, name: &str, address: Option<A>, now: Instant) -> Result<(), ChildError> {
         if !super::is_name(name) || name == self.setup.name {
-            return Err("it is no name of a child");
+            return Err(ChildError::NoName);
         }
         match &mut self.setup.children {
-            Children::Any => return Err("any child may connect already"),
+            Children::Any => return Err(ChildError::Any),
             Children::Named(names) if names.contains_key(name) => {
-                return Err("it is a child already");
+                return Err(ChildError::Known);
             }
             Children::Named(names) => names.insert(name.into(), address),
         };
@@ -207,8 +227,13 @@ impl<L: Line, A: Clone + PartialEq + fmt::Display> Peers<L, A> {
     /// # Errors
     ///
     /// Where there is none of this name.
-    pub fn remove(&mut self, name: &str, now: Instant, to: &mut dyn Handler) -> Result {
-        self.relay.child(name).ok_or("it is no child")?;
+    pub fn remove(
+        &mut self,
+        name: &str,
+        now: Instant,
+        to: &mut dyn Handler,
+    ) -> Result<(), ChildError> {
+        self.relay.child(name).ok_or(ChildError::Unknown)?;
         self.leave_child(name, &mut Context { now, to });
         Ok(())
     }

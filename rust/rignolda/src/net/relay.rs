@@ -3,6 +3,7 @@ use super::{Body, BODY_BYTES};
 use crate::{Child, Connection, Frame, Node, Params, Session};
 use std::cell::Cell;
 use std::collections::{BTreeMap, VecDeque};
+use std::fmt;
 use std::sync::Arc;
 use std::time::{Duration, Instant};
 
@@ -16,8 +17,16 @@ const KEPT_BYTES: usize = 4 * BODY_BYTES;
 /// How many earlier lives of a child are remembered.
 const LIVES: usize = 8;
 
-/// Whether an item came, and which children were left behind for it.
-pub type Came = (bool, Vec<String>);
+/// What came of a frame.
+#[derive(Clone, Debug, Default, PartialEq, Eq)]
+#[must_use = "an item that came is to be handled"]
+#[non_exhaustive]
+pub struct Came {
+    /// Whether it brought an item.
+    pub is_fresh: bool,
+    /// The children that were left behind, so that there is room.
+    pub left_behind: Vec<String>,
+}
 
 /// The root's node has no link above it, and it alone publishes.
 enum Above {
@@ -47,7 +56,7 @@ impl Above {
 /// use std::time::Instant;
 ///
 /// let now = Instant::now();
-/// let (mut root, mut leaf) = (Relay::new(true, 8, true), Relay::new(false, 8, false));
+/// let (mut root, mut leaf) = (Relay::root(8), Relay::below(8));
 /// root.add("leaf", now);
 /// root.publish(&Arc::new(Body::of(b"a whole table".to_vec())));
 /// root.last_is_a_table();
@@ -56,7 +65,7 @@ impl Above {
 /// let (above, anew) = root.greeted("leaf", 1, leaf.label(), None, now).expect("it is a child");
 /// assert!(anew);
 /// let (label, body) = root.poll("leaf", now).expect("there is a table to send");
-/// assert!(leaf.on_frame(Some(below), label, &body).0);
+/// assert!(leaf.on_frame(Some(below), label, &body).is_fresh);
 /// assert!(root.on_ack("leaf", Some(above), leaf.ack().expect("it has the turn"), now));
 /// assert_eq!(root.poll("leaf", now), None);
 /// ```
@@ -116,6 +125,32 @@ pub struct Link {
     ignored: u64,
 }
 
+/// Without its bodies.
+impl fmt::Debug for Relay {
+    fn fmt(&self, to: &mut fmt::Formatter<'_>) -> fmt::Result {
+        let mut shown = to.debug_struct("Relay");
+        shown.field("is_root", &self.is_root());
+        shown.field("room", &self.room);
+        shown.field("kept", &self.kept());
+        shown.field("children", &self.children);
+        shown.finish_non_exhaustive()
+    }
+}
+
+/// Without the body that is sent.
+impl fmt::Debug for Link {
+    fn fmt(&self, to: &mut fmt::Formatter<'_>) -> fmt::Result {
+        let mut shown = to.debug_struct("Link");
+        shown.field("is_connected", &self.is_connected());
+        shown.field("since", &self.since);
+        shown.field("connections", &self.connections);
+        shown.field("timeouts", &self.timeouts);
+        shown.field("acknowledged", &self.acknowledged());
+        shown.field("is_left_behind", &self.left);
+        shown.finish_non_exhaustive()
+    }
+}
+
 impl Link {
     /// Whether the child has a connection, or its word lies in a store that answers.
     pub fn is_connected(&self) -> bool {
@@ -143,20 +178,32 @@ impl Link {
 }
 
 impl Relay {
-    /// A node with room for `room` items, at the root or below it; and whether it keeps the last
-    /// whole table for children, which it does in any case from the first child on.
-    pub fn new(is_root: bool, room: u64, keeps: bool) -> Relay {
+    /// The node of a root, with room for so many items.
+    pub fn root(room: u64) -> Relay {
+        Relay::new(room, Above::Root)
+    }
+
+    /// A node below the root, with room for so many items.
+    pub fn below(room: u64) -> Relay {
+        Relay::new(room, |node| Above::Below(Session::new(node)))
+    }
+
+    /// The same node, which keeps the last whole table before it has children. (From the first one
+    /// on each node does.)
+    #[must_use]
+    pub fn keeping(mut self) -> Relay {
+        self.keeps = true;
+        self
+    }
+
+    fn new(room: u64, above: impl FnOnce(Node) -> Above) -> Relay {
         // (the label is none of a sender's: so the first frame is fresh)
-        let node = Node::new(LABELS, room as usize);
-        let above = match is_root {
-            true => Above::Root(node),
-            false => Above::Below(Session::new(node)),
-        };
+        let above = above(Node::new(LABELS, room as usize));
         Relay {
             params: Params::new(1, LABELS).expect("capacity 1 may have 4 to 1000 labels"),
             above,
             room,
-            keeps,
+            keeps: false,
             bodies: VecDeque::new(),
             bytes: 0,
             table: None,
@@ -168,7 +215,7 @@ impl Relay {
     }
 
     /// The link above.
-    fn below(&mut self) -> Option<&mut Session<Node>> {
+    fn link(&mut self) -> Option<&mut Session<Node>> {
         match &mut self.above {
             Above::Root(_) => None,
             Above::Below(session) => Some(session),
@@ -203,18 +250,20 @@ impl Relay {
     }
 
     /// Begins a connection to the parent. The one that there was is left.
+    #[must_use = "the number belongs to the connection"]
     pub fn made(&mut self) -> Option<Connection> {
-        self.below()?.made()
+        self.link()?.made()
     }
 
     /// The same for a connection that the parent made. An acknowledgement is to be sent first.
+    #[must_use = "the number belongs to the connection"]
     pub fn accepted(&mut self) -> Option<Connection> {
-        self.below()?.accepted()
+        self.link()?.accepted()
     }
 
     /// Leaves the connection to the parent.
     pub fn ended(&mut self, connection: Connection) {
-        if let Some(session) = self.below() {
+        if let Some(session) = self.link() {
             session.ended(connection);
         }
     }
@@ -222,21 +271,25 @@ impl Relay {
     /// Takes a frame of the parent that came by this connection, or, by none, that its word in a
     /// store shows: whether it brought an item. Those that were left behind for it are named.
     pub fn on_frame(&mut self, by: Option<Connection>, label: u16, body: &Arc<Body>) -> Came {
-        let (left, item) = (self.make_room(), body.item);
+        let (left_behind, item) = (self.make_room(), body.item);
         let frame = Frame { label, item };
-        let fresh = self.below().map_or(false, |session| match by {
+        let is_fresh = self.link().map_or(false, |session| match by {
             Some(connection) => session.on_frame(connection, frame),
             None => session.on_word(frame),
         });
-        if fresh {
+        if is_fresh {
             self.keep(body);
         }
-        (fresh, left)
+        Came {
+            is_fresh,
+            left_behind,
+        }
     }
 
     /// The label to acknowledge now.
+    #[must_use = "the turn is given away by it"]
     pub fn ack(&mut self) -> Option<u16> {
-        self.below()?.ack()
+        self.link()?.ack()
     }
 
     // ---- The list
@@ -377,6 +430,7 @@ impl Relay {
     }
 
     /// Begins a connection to a child. The one that there was is left.
+    #[must_use = "the number belongs to the connection"]
     pub fn made_to(&mut self, name: &str) -> Option<Connection> {
         let link = self.children.get_mut(name)?;
         (link.connection, link.words) = (None, false);
@@ -387,6 +441,7 @@ impl Relay {
     /// A child said this in its hello, on a connection that it made, or that was made to it under a
     /// number. The link goes on where it is the same process, and was not left behind; else it
     /// begins anew at the last whole table. With the connection comes whether it did.
+    #[must_use = "the number belongs to the connection"]
     pub fn greeted(
         &mut self,
         name: &str,
@@ -447,6 +502,7 @@ impl Relay {
 
     /// The frame to write to a child now, and its body; or, where it has no connection and was not
     /// left behind, to set for it in a store.
+    #[must_use = "the turn is given away by it"]
     pub fn poll(&mut self, name: &str, now: Instant) -> Option<(u16, Arc<Body>)> {
         let (link, node) = (self.children.get_mut(name)?, self.above.node());
         let session = &mut link.session;
@@ -541,6 +597,7 @@ impl Relay {
     }
 
     /// Drops the backlog of each child that has been away for so long. They are named.
+    #[must_use = "who is left behind is to be told"]
     pub fn evict(&mut self, after: Duration, now: Instant) -> Vec<String> {
         let is_late = |link: &Link| now >= link.since + after;
         let late = self.away().filter(|(_, link)| is_late(link));

@@ -28,6 +28,7 @@
 //! # Ok::<(), std::io::Error>(())
 //! ```
 use std::collections::HashSet;
+use std::fmt;
 use std::io::{self, ErrorKind, Read, Write};
 use std::os::unix::io::{AsRawFd, RawFd};
 use std::os::unix::net::{UnixListener, UnixStream};
@@ -98,6 +99,15 @@ pub struct Server<T, L: Listener> {
     full: Option<Instant>,
 }
 
+impl<T, L: Listener> fmt::Debug for Server<T, L> {
+    fn fmt(&self, to: &mut fmt::Formatter<'_>) -> fmt::Result {
+        let mut shown = to.debug_struct("Server");
+        shown.field("listener", &self.listener.as_raw_fd());
+        shown.field("clients", &self.clients.len());
+        shown.finish_non_exhaustive()
+    }
+}
+
 impl<T, L: Listener> Server<T, L> {
     /// A server without clients. `most`: the most bytes of a request; `idle`: how long a client may
     /// be without one.
@@ -140,6 +150,7 @@ impl<T, L: Listener> Server<T, L> {
 
     /// Accepts, reads and writes what there is now, where one of these descriptors is its own: the
     /// requests that came whole. Each ticket is to be answered once.
+    #[must_use = "each ticket is to be answered"]
     pub fn ready(&mut self, fired: &HashSet<RawFd>, now: Instant) -> Vec<(Ticket, T)> {
         // (it was this short a time ahead)
         self.full = self.full.filter(|at| *at <= now + FULL);

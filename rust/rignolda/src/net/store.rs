@@ -5,7 +5,7 @@
 use std::cell::Cell;
 use std::sync::atomic::{AtomicBool, Ordering};
 use std::sync::{mpsc, Arc};
-use std::{io, thread};
+use std::{fmt, io, thread};
 
 /// What an agent asks of a store at once.
 #[derive(Clone, Debug, Default, PartialEq, Eq)]
@@ -26,7 +26,7 @@ pub trait Store {
     /// # Errors
     ///
     /// Why it is not known to be done.
-    fn turn(&mut self, turn: &Turn) -> Result<Vec<Vec<u8>>, String>;
+    fn turn(&mut self, turn: &Turn) -> io::Result<Vec<Vec<u8>>>;
 }
 
 /// A thread that does what may have to wait, for a store or a disk, so that its caller need not. It
@@ -47,6 +47,15 @@ pub struct Worker<J, D> {
 /// At how many looks in turn a thread does nothing where a job or an answer is lost: one that is
 /// told of a job begins at once.
 pub const LOST: u32 = 10;
+
+impl<J, D> fmt::Debug for Worker<J, D> {
+    fn fmt(&self, to: &mut fmt::Formatter<'_>) -> fmt::Result {
+        let mut shown = to.debug_struct("Worker");
+        shown.field("thread", &self.thread.thread().name());
+        shown.field("waits", &self.waits);
+        shown.finish_non_exhaustive()
+    }
+}
 
 impl<J: Send + 'static, D: Send + 'static> Worker<J, D> {
     /// Starts it. It calls `wake` whenever a job was done.
@@ -91,6 +100,7 @@ impl<J: Send + 'static, D: Send + 'static> Worker<J, D> {
     }
 
     /// What came of the next job, if it is over.
+    #[must_use = "an answer is given once"]
     pub fn done(&self) -> Option<D> {
         let done = self.done.try_recv().ok()?;
         self.waits.set(self.waits.get().saturating_sub(1));

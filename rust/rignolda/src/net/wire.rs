@@ -34,10 +34,10 @@
 //!     other => panic!("{:?}", other),
 //! }
 //! assert_eq!(wire::take(&mut stream, Expect::Frames)?, None);
-//! # Ok::<(), &'static str>(())
+//! # Ok::<(), wire::WireError>(())
 //! ```
 use super::parents::{Way, NAMES};
-use super::{is_name, Body, Result, BODY_BYTES, NAME_BYTES};
+use super::{error::error, is_name, Body, BODY_BYTES, NAME_BYTES};
 use std::ops::RangeInclusive;
 use std::sync::Arc;
 
@@ -78,6 +78,7 @@ pub struct Hello {
 
 /// What a connection brings.
 #[derive(Clone, Debug, PartialEq, Eq)]
+#[non_exhaustive]
 pub enum Message {
     /// What an end says first.
     Hello(Hello),
@@ -115,6 +116,7 @@ pub struct Reference {
 
 /// What may come next on a connection.
 #[derive(Clone, Copy, Debug, PartialEq, Eq)]
+#[non_exhaustive]
 pub enum Expect {
     /// The first message.
     Hello,
@@ -124,6 +126,28 @@ pub enum Expect {
     Frames,
     /// Those of a child.
     Acks,
+}
+
+error! {
+    /// Why what a connection brings is no message.
+    WireError {
+        /// It does not begin as a hello.
+        NoHello = "it is no hello",
+        /// A hello has a version that nobody speaks.
+        NoVersion = "its version of the protocol is none",
+        /// A name of a hello is [none of an agent](is_name).
+        NoName = "a name of its hello is none",
+        /// It is none of the messages that may come next.
+        NoMessage = "it is no message",
+        /// A body has more than [`BODY_BYTES`].
+        LongBody = "a body is too long",
+        /// A way has more than [`WAY_BYTES`], or too many names.
+        LongWay = "a way is too long",
+        /// A name of a way is [none of an agent](is_name).
+        NoNameOfWay = "a name of a way is none",
+        /// A report has more than [`REPORT_BYTES`].
+        LongReport = "a report is too long",
+    }
 }
 
 impl Hello {
@@ -205,7 +229,7 @@ pub fn report(report: &[u8]) -> Vec<u8> {
 }
 
 /// What is read, or why it is not: nothing where more has to come.
-type Parsed<T> = Result<T, Option<&'static str>>;
+type Parsed<T> = Result<T, Option<WireError>>;
 
 /// What is still to be read.
 struct Rest<'a>(&'a [u8]);
@@ -229,7 +253,7 @@ impl<'a> Rest<'a> {
     }
 
     /// Some bytes after their length, which has so many bytes itself.
-    fn counted(&mut self, bytes: usize, most: usize, why: &'static str) -> Parsed<&'a [u8]> {
+    fn counted(&mut self, bytes: usize, most: usize, why: WireError) -> Parsed<&'a [u8]> {
         match self.number(bytes)? as usize {
             length if length > most => Err(Some(why)),
             length => self.take(length),
@@ -241,7 +265,7 @@ impl<'a> Rest<'a> {
         let name = std::str::from_utf8(self.take(length)?).ok();
         let name = name.filter(|it| is_name(it) || (may_lack && it.is_empty()));
         let name = name.map(String::from);
-        name.ok_or(Some("a name of its hello is none"))
+        name.ok_or(Some(WireError::NoName))
     }
 }
 
@@ -258,11 +282,11 @@ pub(super) fn head(bytes: &[u8]) -> Option<(u16, u32, usize)> {
 /// # Errors
 ///
 /// Why it is no message: the connection is to be closed.
-pub fn take(input: &mut Vec<u8>, expect: Expect) -> Result<Option<Message>> {
+pub fn take(input: &mut Vec<u8>, expect: Expect) -> Result<Option<Message>, WireError> {
     let mut rest = Rest(input);
     let message = match (expect, head(input)) {
         (Expect::Frames, Some((.., length))) if length > BODY_BYTES => {
-            return Err("a body is too long");
+            return Err(WireError::LongBody);
         }
         (Expect::Frames, Some((label, item, length))) if input.len() >= FRAME_HEAD + length => {
             let bytes = input[FRAME_HEAD..FRAME_HEAD + length].to_vec();
@@ -292,7 +316,7 @@ fn parse(rest: &mut Rest<'_>, expect: Expect) -> Parsed<Message> {
             let (label, item) = (rest.number(2)? as u16, rest.number(4)? as u32);
             let length = rest.number(4)? as u32;
             if length as usize > BODY_BYTES {
-                return Err(Some("a body is too long"));
+                return Err(Some(WireError::LongBody));
             }
             let (head, digest) = (rest.array()?, rest.array()?);
             let reference = Reference {
@@ -305,13 +329,13 @@ fn parse(rest: &mut Rest<'_>, expect: Expect) -> Parsed<Message> {
         }
         (Expect::Frames | Expect::Way, b'W') => {
             let cost = rest.number(2)? as u16;
-            let names = rest.counted(2, WAY_BYTES, "a way is too long")?;
+            let names = rest.counted(2, WAY_BYTES, WireError::LongWay)?;
             let names = std::str::from_utf8(names).unwrap_or_default();
             let names: Vec<String> = names.split('\n').map(String::from).collect();
             if names.len() > NAMES {
-                return Err(Some("a way is too long"));
+                return Err(Some(WireError::LongWay));
             } else if !names.iter().all(|name| is_name(name)) {
-                return Err(Some("a name of a way is none"));
+                return Err(Some(WireError::NoNameOfWay));
             }
             Message::Way(Way { cost, names })
         }
@@ -319,10 +343,10 @@ fn parse(rest: &mut Rest<'_>, expect: Expect) -> Parsed<Message> {
         (Expect::Acks, b'A') => Message::Ack(rest.number(2)? as u16),
         (Expect::Acks, b'N') => Message::Lacks(rest.number(2)? as u16),
         (Expect::Acks, b'R') => {
-            let bytes = rest.counted(4, REPORT_BYTES, "a report is too long")?;
+            let bytes = rest.counted(4, REPORT_BYTES, WireError::LongReport)?;
             Message::Report(bytes.to_vec())
         }
-        _ => return Err(Some("it is no message")),
+        _ => return Err(Some(WireError::NoMessage)),
     })
 }
 
@@ -331,12 +355,12 @@ fn hello(rest: &mut Rest<'_>) -> Parsed<Message> {
     let (is_look, least) = match begins(LOOK) {
         true => (true, FIRST),
         false if begins(MAGIC) => (false, OLD),
-        false => return Err(Some("it is no hello")),
+        false => return Err(Some(WireError::NoHello)),
     };
     rest.take(MAGIC.len())?;
     let version = rest.number(1)? as u8;
     if version < least {
-        return Err(Some("its version of the protocol is none"));
+        return Err(Some(WireError::NoVersion));
     }
     let (life, label) = (rest.number(8)?, rest.number(2)? as u16);
     let (from, to) = (rest.name(false)?, rest.name(true)?);

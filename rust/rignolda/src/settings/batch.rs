@@ -94,6 +94,7 @@ impl Batch {
     /// Waits until the disk has all, and moves them to their places: those that failed, which are
     /// as they were. Then it waits until the disk knows what moved, where a folder can be synced.
     /// The batch is empty then.
+    #[must_use = "files may have failed"]
     pub fn commit(&mut self) -> Vec<(PathBuf, io::Error)> {
         let all = std::mem::take(&mut self.new);
         let done = sync(&all);

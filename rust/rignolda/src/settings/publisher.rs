@@ -28,6 +28,7 @@ pub struct Publisher {
 
 /// A body to publish.
 #[derive(Debug)]
+#[non_exhaustive]
 pub struct Published {
     /// The body.
     pub body: Arc<Body>,
@@ -243,6 +244,7 @@ impl Publisher {
     }
 
     /// The next body to publish. `limit`: how many items may follow a table at most.
+    #[must_use = "it counts as published"]
     pub fn next(&mut self, limit: u64) -> Option<Published> {
         let (next, changes) = (self.next_body(limit), self.changed.len());
         let (meaning, files) = match next.kind {

@@ -24,6 +24,7 @@ pub type Kept = (String, Option<Vec<u8>>);
 
 /// What of some settings is none, or cannot be read, and why.
 #[derive(Debug, Default, PartialEq, Eq)]
+#[non_exhaustive]
 pub struct Faults {
     /// How many there are.
     pub count: u64,
@@ -33,6 +34,7 @@ pub struct Faults {
 
 /// All settings that could be read.
 #[derive(Debug, Default)]
+#[non_exhaustive]
 pub struct Found {
     /// Their keys and values.
     pub settings: BTreeMap<String, Vec<u8>>,
@@ -157,8 +159,10 @@ pub fn read_plain(path: &Path, most: usize) -> io::Result<Vec<u8>> {
 }
 
 /// Writes or removes files of a folder, which have their names as [people write](shown) them, and
-/// waits until the disk has them: what came of each. No two are of one key.
-pub fn write_folder(folder: &Path, entries: &[Kept]) -> Vec<Result<(), String>> {
+/// waits until the disk has them: what came of each; an error names the file. No two are of one
+/// key.
+#[must_use = "files may have failed"]
+pub fn write_folder(folder: &Path, entries: &[Kept]) -> Vec<io::Result<()>> {
     let mut batch = Batch::default();
     let mut write = |(key, value): &Kept| match value {
         Some(value) => batch.write(folder.join(&*shown(key)), value),
@@ -171,7 +175,8 @@ pub fn write_folder(folder: &Path, entries: &[Kept]) -> Vec<Result<(), String>> 
         let later = failed.iter().find(|(it, _)| *it == path);
         let error = done.as_ref().err().or(later.map(|(_, error)| error));
         error.map_or(Ok(()), |error| {
-            Err(format!("{}: {}", path.display(), error))
+            let why = format!("{}: {}", path.display(), error);
+            Err(io::Error::new(error.kind(), why))
         })
     });
     done.collect()

@@ -1,8 +1,7 @@
 //! What is read from connections, and written to them.
 use super::connection::{Chunk, Conn, Line};
-use super::{Context, Handler, Peers};
+use super::{Context, Handler, Peers, Result};
 use crate::net::wire::Expect;
-use crate::net::Result;
 use std::collections::BTreeSet;
 use std::io::{ErrorKind, IoSlice};
 use std::time::Instant;
@@ -68,7 +67,7 @@ impl<L: Line, A: Clone + PartialEq + fmt::Display> Peers<L, A> {
             .set(due.map(|due| at.map_or(due, |at| due.min(at))));
     }
 
-    fn read_one(&mut self, id: u64, cx: &mut Context<'_>) -> Result<(), String> {
+    fn read_one(&mut self, id: u64, cx: &mut Context<'_>) -> Result {
         let (mut total, mut reads) = (0, 0);
         while let Some(conn) = self.conns.get_mut(&id) {
             reads += 1;
@@ -139,14 +138,14 @@ impl<L: Line, A: Clone + PartialEq + fmt::Display> Peers<L, A> {
     }
 
     /// Handles each whole message that a connection brought.
-    pub(super) fn messages(&mut self, id: u64, cx: &mut Context<'_>) -> Result<(), String> {
+    pub(super) fn messages(&mut self, id: u64, cx: &mut Context<'_>) -> Result {
         while let Some(conn) = self.conns.get_mut(&id) {
             if conn.output.len() > UNREAD {
                 return Err("it reads nothing".into());
             }
             conn.has_said = true;
             let expect = conn.expects();
-            let message = conn.next(expect)?;
+            let message = conn.next(expect).map_err(|why| why.to_string())?;
             match (expect, &message) {
                 (Expect::Frames, Some(_)) => conn.is_alive(cx.now),
                 (Expect::Frames, None) => conn.waits_for_rest(cx.now),

@@ -1,8 +1,8 @@
 //! One connection: what it is for, what comes and what is to be written.
 use super::{Whom, READ_BYTES};
 use crate::net::parents::SILENCE;
-use crate::net::wire::{self, Expect, Hello, Message, FIRST, FRAME_HEAD, OLD};
-use crate::net::{Body, Result};
+use crate::net::wire::{self, Expect, Hello, Message, WireError, FIRST, FRAME_HEAD, OLD};
+use crate::net::Body;
 use crate::Connection;
 use std::collections::VecDeque;
 use std::io::{Read, Write};
@@ -160,7 +160,7 @@ pub(super) struct Part {
 
 impl<L> Conn<L> {
     /// The next whole message of what came.
-    pub(super) fn next(&mut self, expect: Expect) -> Result<Option<Message>> {
+    pub(super) fn next(&mut self, expect: Expect) -> Result<Option<Message>, WireError> {
         if self.part.is_none() {
             let message = wire::take(&mut self.input, expect)?;
             if message.is_some() || expect != Expect::Frames {

@@ -2,9 +2,8 @@
 use super::connection::{Line, State};
 use super::{fact, Call, Children, Context, Handler, Parent, Peers, Whom, BEAT, SHORT};
 use crate::net::wire::{self, FIRST, OLD};
-use crate::net::Result;
 use std::time::{Duration, Instant};
-use std::{fmt, mem};
+use std::{fmt, io, mem};
 
 /// Why a root ends a look that it has taken up.
 pub(super) const LOOKED: &str = "it was looked at";
@@ -77,6 +76,7 @@ impl<L: Line, A: Clone + PartialEq + fmt::Display> Peers<L, A> {
     }
 
     /// A connection that is to be made now. What became of it is to be told to [`Peers::called`].
+    #[must_use = "what becomes of it is to be told"]
     pub fn next_call(&mut self, now: Instant, to: &mut dyn Handler) -> Option<Call<A>> {
         self.due.set(None);
         let is_due = |dial: &Dial| dial.next.map_or(true, |at| now >= at);
@@ -113,7 +113,7 @@ impl<L: Line, A: Clone + PartialEq + fmt::Display> Peers<L, A> {
     pub fn called(
         &mut self,
         call: Call<A>,
-        line: Result<L, String>,
+        line: io::Result<L>,
         now: Instant,
         to: &mut dyn Handler,
     ) {
@@ -125,7 +125,7 @@ impl<L: Line, A: Clone + PartialEq + fmt::Display> Peers<L, A> {
         let is_child = matches!(whom, Whom::Child(_));
         let is_old = mute > u8::from(is_child);
         let looks = !is_old && !is_child;
-        let made = line.and_then(|line| {
+        let made = line.map_err(|why| why.to_string()).and_then(|line| {
             let number = match whom {
                 _ if looks => return Ok((line, State::Looks(whom.clone(), at, None))),
                 Whom::Child(name) => self.relay.made_to(name),

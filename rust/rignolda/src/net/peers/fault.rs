@@ -8,8 +8,9 @@ use super::{
     fact, travels, Children, Conn, Context, Handler, Line, Peers, Setup, State, Whom, BEAT, LATER,
     READ_BYTES, SILENCE,
 };
-use crate::net::{Link, Result, BODY_BYTES};
+use crate::net::{Link, BODY_BYTES};
 use std::collections::BTreeSet;
+use std::error::Error;
 use std::fmt;
 use std::time::{Duration, Instant};
 
@@ -24,6 +25,25 @@ const TAKES: (u32, u64) = (2, 1);
 const SENT_NOTHING: (u32, u64) = (0, 2);
 const TAKES_IN_STORE: (u32, u64) = (10, 10);
 
+/// What cannot be in the state of an agent: at no time is it so in a sound process.
+#[derive(Clone, Copy, Debug, PartialEq, Eq)]
+pub struct Fault(&'static str);
+
+impl Fault {
+    /// What it is, in words.
+    pub fn what(&self) -> &'static str {
+        self.0
+    }
+}
+
+impl fmt::Display for Fault {
+    fn fmt(&self, to: &mut fmt::Formatter<'_>) -> fmt::Result {
+        to.write_str(self.0)
+    }
+}
+
+impl Error for Fault {}
+
 impl<L: Line, A: Clone + PartialEq + fmt::Display> Peers<L, A> {
     /// Looks at the state, which is to be done once a second. `looks_up`: whether the caller looks
     /// an address up for a [call](Peers::next_call).
@@ -31,7 +51,12 @@ impl<L: Line, A: Clone + PartialEq + fmt::Display> Peers<L, A> {
     /// # Errors
     ///
     /// What cannot be, where something cannot: then the process is to end.
-    pub fn check(&mut self, looks_up: bool, now: Instant, to: &mut dyn Handler) -> Result {
+    pub fn check(
+        &mut self,
+        looks_up: bool,
+        now: Instant,
+        to: &mut dyn Handler,
+    ) -> Result<(), Fault> {
         self.mend(looks_up, now);
         self.leave_who_takes_nothing(&mut Context { now, to });
         self.fault().map_or(Ok(()), Err)
@@ -102,7 +127,11 @@ impl<L: Line, A: Clone + PartialEq + fmt::Display> Peers<L, A> {
     }
 
     /// What cannot be, where something cannot: at no time is it so in a sound process.
-    pub fn fault(&self) -> Option<&'static str> {
+    pub fn fault(&self) -> Option<Fault> {
+        self.contradiction().map(Fault)
+    }
+
+    fn contradiction(&self) -> Option<&'static str> {
         let Setup {
             name,
             parents,

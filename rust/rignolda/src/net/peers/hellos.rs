@@ -1,9 +1,9 @@
 //! What each end says first, and of its way: who it is, and whether it is taken.
 use super::connection::{Chunk, Conn, Line, State};
 use super::dials::LOOKED;
-use super::{fact, Children, Context, Parent, Peers, Whom, BEAT, NONE};
+use super::{fact, Children, Context, Parent, Peers, Result, Whom, BEAT, NONE};
 use crate::net::wire::{self, Expect, Hello, FIRST, OLD, VERSION};
-use crate::net::{Relay, Result, Way};
+use crate::net::{Relay, Way};
 use crate::Connection;
 use std::fmt;
 use std::time::Instant;
@@ -99,15 +99,15 @@ impl<L: Line, A: Clone + PartialEq + fmt::Display> Peers<L, A> {
             State::Looks(whom, at, _) => (whom.clone(), *at),
             State::Link(whom, ..) => (whom.clone(), self.parents.at()),
             // (a child that was told no name of its parent says none)
-            _ if !is_meant && !to.is_empty() => return Err("it means another agent"),
+            _ if !is_meant && !to.is_empty() => return Err("it means another agent".into()),
             _ => self.caller(from).ok_or("its name is none of a child")?,
         };
         let name = self.name_of(&whom, at);
         let is_other = name.map_or(false, |name| name != from);
         if is_other || !(is_meant || conn.is_greeting()) {
-            return Err("its hello has other names");
+            return Err("its hello has other names".into());
         } else if !conn.line.may_be(from) {
-            return Err("its certificate has another name");
+            return Err("its certificate has another name".into());
         }
         Ok((whom, at))
     }
@@ -119,7 +119,7 @@ impl<L: Line, A: Clone + PartialEq + fmt::Display> Peers<L, A> {
         hello: Hello,
         is_look: bool,
         cx: &mut Context<'_>,
-    ) -> Result<(), String> {
+    ) -> Result {
         let (whom, at) = self.who(id, &hello)?;
         let version = self.common(id, &hello, is_look || whom == Whom::Parent, cx)?;
         let is_old = version == OLD;
@@ -165,7 +165,7 @@ impl<L: Line, A: Clone + PartialEq + fmt::Display> Peers<L, A> {
         hello: &Hello,
         may_begin: bool,
         cx: &mut Context<'_>,
-    ) -> Result<u8, String> {
+    ) -> Result<u8> {
         let conn = self.conns.get(&id).ok_or("it is gone")?;
         let is_answer = matches!(conn.state, State::Link(..)) || !may_begin;
         let theirs = if is_answer {
@@ -201,10 +201,10 @@ impl<L: Line, A: Clone + PartialEq + fmt::Display> Peers<L, A> {
         match conn.state.clone() {
             State::Looks(_, at, Some(rank)) if self.setup.is_root() => {
                 cx.to.on_looked(at, Some((&way, rank)));
-                return Err(LOOKED);
+                return Err(LOOKED.into());
             }
             State::Looks(whom, at, Some(_)) => {
-                self.parents.looked(at, &way)?;
+                self.looked(at, &way)?;
                 self.leave(at, cx);
                 if whom != Whom::Parent {
                     self.look_ended(&whom, false, "", cx);
@@ -224,7 +224,7 @@ impl<L: Line, A: Clone + PartialEq + fmt::Display> Peers<L, A> {
                 let name = self.name_of(&Whom::Parent, at).cloned();
                 self.say(id, name.unwrap_or_default());
             }
-            State::Comes(at, hello) => match self.parents.looked(at, &way) {
+            State::Comes(at, hello) => match self.looked(at, &way) {
                 Ok(()) => {
                     self.leave(at, cx);
                     self.parents.took(at, way);
@@ -237,9 +237,15 @@ impl<L: Line, A: Clone + PartialEq + fmt::Display> Peers<L, A> {
                     self.answered(id, cx.now);
                 }
             },
-            _ => return Err("it is no message"),
+            _ => return Err("it is no message".into()),
         }
         Ok(())
+    }
+
+    /// Whether a candidate that says this is to be taken now; else why not.
+    pub(super) fn looked(&mut self, at: usize, way: &Way) -> Result {
+        let looked = self.parents.looked(at, way);
+        looked.map_err(|why| why.to_string())
     }
 
     /// Who an agent of this name is, where it connects itself; of a parent, which one.

@@ -1,9 +1,9 @@
 //! What travels over links: frames, acknowledgements, reports and ways.
 use super::connection::{travels, Chunk, Line};
-use super::{fact, Context, Handler, Peers, Whom, LATER};
+use super::{fact, Context, Handler, Peers, Result, Whom, LATER};
 use crate::net::relay::Came;
 use crate::net::wire::{self, Message, Reference, FIRST, HEAD_BYTES, REFERS};
-use crate::net::{Body, Result};
+use crate::net::Body;
 use crate::Connection;
 use std::sync::Arc;
 use std::time::{Duration, Instant};
@@ -17,12 +17,7 @@ const SHORT_TABLE: usize = 64;
 const JOINED: usize = 16 << 10;
 
 impl<L: Line, A: Clone + PartialEq + fmt::Display> Peers<L, A> {
-    pub(super) fn message(
-        &mut self,
-        id: u64,
-        message: Message,
-        cx: &mut Context<'_>,
-    ) -> Result<(), String> {
+    pub(super) fn message(&mut self, id: u64, message: Message, cx: &mut Context<'_>) -> Result {
         let conn = self.conns.get_mut(&id).ok_or("it is gone")?;
         if !matches!(
             message,
@@ -44,7 +39,9 @@ impl<L: Line, A: Clone + PartialEq + fmt::Display> Peers<L, A> {
                 return answer;
             }
             (None, Message::Way(way)) => self.way_came(id, way, cx)?,
-            (Some((Whom::Parent, _)), Message::Way(way)) => self.parents.hears(way)?,
+            (Some((Whom::Parent, _)), Message::Way(way)) => {
+                self.parents.hears(way).map_err(|why| why.to_string())?;
+            }
             (Some((Whom::Parent, number)), Message::Frame(label, body)) => {
                 self.frame_came(id, number, label, &body, cx);
             }
@@ -118,19 +115,22 @@ impl<L: Line, A: Clone + PartialEq + fmt::Display> Peers<L, A> {
 
     /// At the root: puts a body at the end of the list.
     pub fn publish(&mut self, body: &Arc<Body>, now: Instant, to: &mut dyn Handler) {
-        let left = self.relay.publish(body);
-        self.came((true, left), body, &mut Context { now, to });
+        let came = Came {
+            is_fresh: true,
+            left_behind: self.relay.publish(body),
+        };
+        self.came(came, body, &mut Context { now, to });
     }
 
     /// A frame came from above, and brought an item or not; and who was left behind for it.
-    pub(super) fn came(&mut self, (fresh, left): Came, body: &Arc<Body>, cx: &mut Context<'_>) {
-        for name in left {
+    pub(super) fn came(&mut self, came: Came, body: &Arc<Body>, cx: &mut Context<'_>) {
+        for name in came.left_behind {
             fact!(cx, "left-behind", "{name}");
             if let Some(id) = self.children.get(&name) {
                 self.leave_line(*id, "it is too far behind", cx);
             }
         }
-        if fresh && cx.to.on_item(body, cx.now) {
+        if came.is_fresh && cx.to.on_item(body, cx.now) {
             self.relay.last_is_a_table();
             self.says_again = true;
         }

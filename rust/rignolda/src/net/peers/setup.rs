@@ -1,4 +1,5 @@
 //! Whom an agent may have connections with.
+use crate::net::error::error;
 use std::collections::BTreeMap;
 use std::fmt;
 use std::time::Duration;
@@ -73,8 +74,23 @@ pub enum Children<A> {
     Any,
 }
 
+error! {
+    /// Why an agent is not made a child, or is none that could be removed.
+    ChildError {
+        /// Its name is [none](crate::net::is_name), or that of the agent itself.
+        NoName = "it is no name of a child",
+        /// [Any](Children::Any) child may connect.
+        Any = "any child may connect already",
+        /// It is a child.
+        Known = "it is a child already",
+        /// It is no child.
+        Unknown = "it is no child",
+    }
+}
+
 /// The other end of a connection.
 #[derive(Clone, Debug, PartialEq, Eq, PartialOrd, Ord)]
+#[non_exhaustive]
 pub enum Whom {
     /// The parent.
     Parent,

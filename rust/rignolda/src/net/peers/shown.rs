@@ -3,7 +3,7 @@ use super::words::Words;
 use super::{count, fact, Context, Handler, Line, Peers, Whom};
 use crate::net::wire::{self, Expect, Hello, Message};
 use std::time::{Duration, Instant};
-use std::{fmt, mem};
+use std::{fmt, io, mem};
 
 /// The first pause between two looks after something changed. It doubles until nothing does.
 pub(super) const FIRST: Duration = Duration::from_millis(2);
@@ -26,7 +26,7 @@ impl<L: Line, A: Clone + PartialEq + fmt::Display> Peers<L, A> {
     pub fn turned(
         &mut self,
         store: &A,
-        got: Result<Vec<Vec<u8>>, String>,
+        got: io::Result<Vec<Vec<u8>>>,
         now: Instant,
         to: &mut dyn Handler,
     ) {
@@ -46,6 +46,7 @@ impl<L: Line, A: Clone + PartialEq + fmt::Display> Peers<L, A> {
                     place.due = if is_more { now } else { now + place.pause };
                 }
                 Err(why) => {
+                    let why = why.to_string();
                     for whom in self.all_in(at, |_| true) {
                         let words = self.leave_words(&whom, now);
                         self.lost(&whom, words.and_then(|words| words.since), &why, cx);
@@ -82,15 +83,20 @@ impl<L: Line, A: Clone + PartialEq + fmt::Display> Peers<L, A> {
             if let (true, Some(way)) = (is_new, way) {
                 words.way = Some(way.clone());
                 let heard = words.since.map_or(Ok(()), |_| self.parents.hears(way));
-                heard.unwrap_or_else(|why| self.lost(whom, words.since.take(), why, cx));
+                heard.unwrap_or_else(|why| {
+                    self.lost(whom, words.since.take(), &why.to_string(), cx);
+                });
             }
             return is_new;
         }
         // (of one that speaks version 1 there is no such word)
         let old = is_parent.then(|| self.parents.old(at));
-        let taken = way.clone().or(old).ok_or("its word is not there");
-        match taken.and_then(|said| self.parents.looked(at, &said)) {
-            Err(why) => self.look_ended(whom, false, why, cx),
+        let taken = way
+            .clone()
+            .or(old)
+            .ok_or_else(|| "its word is not there".into());
+        match taken.and_then(|said| self.looked(at, &said)) {
+            Err(why) => self.look_ended(whom, false, &why, cx),
             Ok(()) if is_parent => (words.looks, words.way) = (false, way),
             Ok(()) => {
                 self.look_ended(whom, false, "", cx);
@@ -134,8 +140,8 @@ impl<L: Line, A: Clone + PartialEq + fmt::Display> Peers<L, A> {
         if words.since.is_none() {
             let at = self.parents.at();
             let way = words.way.clone().unwrap_or_else(|| self.parents.old(at));
-            if let Err(why) = self.parents.looked(at, &way) {
-                self.lost(&Whom::Parent, None, why, cx);
+            if let Err(why) = self.looked(at, &way) {
+                self.lost(&Whom::Parent, None, &why, cx);
                 return None;
             }
             self.parents.took(at, way);

@@ -186,6 +186,7 @@ impl<L: Line, A: Clone + PartialEq + fmt::Display> Peers<L, A> {
 
     /// The turns that are to be begun now, and at which stores. What came of each is to be told to
     /// [`Peers::turned`].
+    #[must_use = "what becomes of them is to be told"]
     pub fn turns(&mut self, now: Instant, to: &mut dyn Handler) -> Vec<(A, Turn)> {
         let (cx, mut turns) = (&mut Context { now, to }, Vec::new());
         for at in 0..self.stores.len() {
