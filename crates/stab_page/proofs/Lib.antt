@@ -2,3 +2,4 @@ mod Bounds
 mod Schedule
 mod Strays
 mod Trees
+mod Lists

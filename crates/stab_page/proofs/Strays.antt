@@ -8,7 +8,7 @@ use Rattle.stab_core.specs.declared.start.Start.{Start}
 use Rattle.stab_core.specs.Replay.{start_items}
 use Rattle.stab_core.specs.Trace.{Explains}
 use Rattle.stab_core.proofs.ForCallers.{few_picked, length_picked}
-use Rattle.stab_page_link.specs.Standing.{strays_in}
+use Rattle.stab_page.specs.Standing.{strays_in}
 
 -- the strays of origins in their order
 counted : (strays sent : List ℕ) → strays_in (map Stray strays ++ map Sent sent) ≡ length strays

@@ -2,3 +2,9 @@ pub mod TreeCodes
 pub mod TracedTree
 pub mod TreeStanding
 pub mod TreeReport
+pub mod Codes
+pub mod PageLink
+pub mod PageLinkInside
+pub mod Effects
+pub mod Standing
+pub mod Report

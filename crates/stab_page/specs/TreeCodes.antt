@@ -12,8 +12,8 @@ use Rattle.stab_core.specs.declared.act.LinkAct.TheVariants.{RecvAck, LoseFrame,
 use Rattle.stab_core.specs.LinkSetup.{LinkSetup, setup}
 use Rattle.stab_tree.specs.NodeOpenings.{OpeningsValue}
 use Rattle.stab_treecore.specs.declared.event.TreeEvent.{TreeEvent}
-use Rattle.stab_page_link.specs.Codes.{start_of}
-use Rattle.stab_page_link.specs.PageLink.{parameters}
+use Rattle.stab_page.specs.Codes.{start_of}
+use Rattle.stab_page.specs.PageLink.{parameters}
 use Rattle.stab_page.specs.declared.tree_code.LinkCode.{LinkCode}
 use Rattle.stab_page.specs.declared.tree_code.OpeningCode.{OpeningCode}
 use Rattle.stab_page.specs.declared.tree_code.TreeEventCode.{TreeEventCode}

@@ -10,7 +10,7 @@ use Rattle.stab_core.specs.declared.event.Effect.{Effect}
 use Rattle.stab_core.specs.declared.origin.Origin.{Origin}
 use Rattle.stab_tree.specs.NodeOpenings.{OpeningsValue}
 use Rattle.stab_treecore.specs.declared.event.TreeEvent.{TreeEvent}
-use Rattle.stab_page_link.specs.Report.{effect_number, origin_numbers, report}
+use Rattle.stab_page.specs.Report.{effect_number, origin_numbers, report}
 use Rattle.stab_page.specs.TracedTree.{TracedTree, traced_into, traced_initial_tree}
 use Rattle.stab_page.specs.TracedTree.{traced_tree_replay, tree_effects}
 use Rattle.stab_page.specs.TreeCodes.{fits, setup_of}

@@ -15,7 +15,7 @@ use Rattle.stab_core.specs.declared.origin.Origin.TheVariants.{Stray, Sent}
 use Rattle.stab_tree.specs.NodeOpenings.{hold_at, opening_at}
 use Rattle.stab_tree.specs.Nodes.{parent_at}
 use Rattle.stab_treecore.specs.Paths.{path_sum}
-use Rattle.stab_page_link.specs.Standing.{missing_of}
+use Rattle.stab_page.specs.Standing.{missing_of}
 use Rattle.stab_page.specs.TracedTree.{TracedTree, traced_into}
 
 -- the origins of the first n published items

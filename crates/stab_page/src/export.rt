@@ -5,18 +5,18 @@ ghost use Rattle.stab_frames.specs.Parameters.{AreLawful};
 ghost use Rattle.stab_core.specs.LinkLaw.{LinkLaw};
 ghost use Rattle.stab_core.specs.Replay.{IsLawful, start_items};
 ghost use Rattle.stab_core.specs.Trace.{traced_initial, traced_replay};
-ghost use Rattle.stab_page_link.specs.Codes.{event_of, start_of};
-ghost use Rattle.stab_page_link.specs.Effects.{effects};
-ghost use Rattle.stab_page_link.specs.PageLink.{parameters};
-ghost use Rattle.stab_page_link.specs.Report.{answer, is_accepted, report};
-ghost use Rattle.stab_page_link.specs.Standing.{strays_in};
+ghost use Rattle.stab_page.specs.Codes.{event_of, start_of};
+ghost use Rattle.stab_page.specs.Effects.{effects};
+ghost use Rattle.stab_page.specs.PageLink.{parameters};
+ghost use Rattle.stab_page.specs.Report.{answer, is_accepted, report};
+ghost use Rattle.stab_page.specs.Standing.{strays_in};
 
+use crate::code::{EventCode, FrameCode};
 use crate::laws;
+use crate::link::{MAX_EVENTS, MAX_QUEUED, PageLink};
+use crate::numbers::{self, MAX_NUMBERS, Numbers};
+use crate::run::run;
 use stab_frames::Label;
-use stab_page_link::code::{EventCode, FrameCode};
-use stab_page_link::link::{MAX_EVENTS, MAX_QUEUED, PageLink};
-use stab_page_link::numbers::{self, MAX_NUMBERS, Numbers};
-use stab_page_link::run::run;
 
 /// The report of one link after these events, from this start: how many numbers there are, and the
 /// numbers. None where the capacity is not 1 to 64 or the number of labels not 2 to 1000, the start

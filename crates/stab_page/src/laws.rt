@@ -15,7 +15,7 @@ ghost use Rattle.stab_treecore.specs.Network.{IsNetwork};
 ghost use Rattle.stab_treecore.specs.NodeLaws.{TreeLawAtNodes, held_bound, most_missing};
 ghost use Rattle.stab_treecore.specs.NodeLaws.{strays_bound};
 ghost use Rattle.stab_treecore.specs.TreeReplay.{initial_tree, tree_replay};
-ghost use Rattle.stab_page_link.specs.Standing.{strays_in};
+ghost use Rattle.stab_page.specs.Standing.{strays_in};
 ghost use Rattle.stab_page.specs.TracedTree.{list_at, page_network, traced_initial_tree};
 ghost use Rattle.stab_page.specs.TracedTree.{traced_tree_replay, whole};
 ghost use Rattle.stab_page.specs.TreeStanding.{held_at_most, missing_at_most, strays_at_most};

@@ -1,10 +1,10 @@
 //! The worst start and a small tree, as a page asks for them.
 
+use crate::code::{EventCode, FrameCode};
 use crate::export::stab_page_report;
+use crate::numbers::MAX_NUMBERS;
 use crate::tree_code::{LinkCode, OpeningCode, TreeEventCode};
 use crate::tree_export::stab_page_tree_report;
-use stab_page_link::code::{EventCode, FrameCode};
-use stab_page_link::numbers::MAX_NUMBERS;
 use std::test::Fail;
 
 /// The worst events: items 10 to 13 are offered.

@@ -13,11 +13,11 @@ ghost use Rattle.stab_page.specs.TracedTree.{traced_tree_effect, traced_initial_
 ghost use Rattle.stab_page.specs.TracedTree.{traced_tree_step};
 ghost use Rattle.stab_page.specs.TreeCodes.{fits, openings_of, parent_of, setup_of};
 
+use crate::link::PageLink;
 use crate::tree_code::{self, LinkCode, MAX_HELD, OpeningCode};
 use arrayvec::ArrayVec;
 use stab_core::{Effect, Event};
 use stab_frames::Item;
-use stab_page_link::link::PageLink;
 use stab_tree::NodeId;
 use stab_treecore::TreeEvent;
 use std::marker::Model;

@@ -4,10 +4,10 @@ ghost use Rattle.std.specs.Prelude.{◌≡◌, ◌≤◌, IsTrue, length};
 ghost use Rattle.stab_page.specs.TracedTree.{traced_link};
 ghost use Rattle.stab_page.specs.TreeCodes.{fits, opening_of, parent_of, setup_of, tree_event_of};
 
+use crate::code::{EventCode, FrameCode};
+use crate::link::PageLink;
 use stab_core::{Event, LinkAct};
 use stab_frames::{Item, Label};
-use stab_page_link::code::{EventCode, FrameCode};
-use stab_page_link::link::PageLink;
 use stab_tree::NodeId;
 use stab_treecore::TreeEvent;
 

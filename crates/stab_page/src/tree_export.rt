@@ -13,12 +13,12 @@ ghost use Rattle.stab_page.specs.TreeCodes.{tree_event_of};
 ghost use Rattle.stab_page.specs.TreeReport.{tree_answer, tree_is_accepted, tree_report};
 
 use crate::laws;
+use crate::numbers::{MAX_NUMBERS, Numbers};
 use crate::tree::{MAX_NODES, MAX_STEPS, PageTree};
 use crate::tree_code::{LinkCode, OpeningCode, TreeEventCode};
 use crate::tree_numbers::tree_report;
 use crate::tree_run::run_tree;
 use stab_frames::Item;
-use stab_page_link::numbers::{MAX_NUMBERS, Numbers};
 
 /// The report of a tree after these events of a schedule: how many numbers there are, and the
 /// numbers. None where there are not 1 to 8 nodes, a link does not fit, more than 256 items are

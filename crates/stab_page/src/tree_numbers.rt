@@ -6,10 +6,10 @@ ghost use Rattle.stab_page.specs.TreeReport.{link_numbers, list_numbers, node_nu
 ghost use Rattle.stab_page.specs.TreeReport.{numbers_to, standing_numbers, tree_report};
 ghost use Rattle.stab_page.specs.TreeStanding.{node_origins};
 
+use crate::entry::{EffectEntry, OriginEntry};
+use crate::numbers::{self, Numbers};
 use crate::tree::{MAX_NODES, MAX_STEPS, PageTree};
 use crate::tree_standing::{passed_over, strays_of};
-use stab_page_link::entry::{EffectEntry, OriginEntry};
-use stab_page_link::numbers::{self, Numbers};
 use stab_tree::NodeId;
 
 /// The report of a tree and of the effects so far.

@@ -2,10 +2,10 @@ ghost use Rattle.std.specs.Prelude.{◌≡◌, ◌≤◌, All, length, map};
 ghost use Rattle.stab_page.specs.TracedTree.{HasAtMost, traced_tree_replay, tree_effects};
 ghost use Rattle.stab_page.specs.TreeCodes.{tree_event_of};
 
+use crate::entry::EffectEntry;
 use crate::tree::{MAX_STEPS, PageTree};
 use crate::tree_code::TreeEventCode;
 use arrayvec::ArrayVec;
-use stab_page_link::entry::EffectEntry;
 
 /// Replays a schedule on a tree at its start, and answers the effects.
 pub fn run_tree(

@@ -10,13 +10,13 @@ ghost use Rattle.stab_page.specs.TreeStanding.{missing_at_most, node_origins, op
 ghost use Rattle.stab_page.specs.TreeStanding.{origins_above, passed_over, place_or, sent_to};
 ghost use Rattle.stab_page.specs.TreeStanding.{strays_at_most, strays_of, through};
 
+use crate::entry::OriginEntry;
+use crate::link::MAX_EVENTS;
+use crate::standing;
 use crate::tree::{MAX_NODES, MAX_STEPS, PageTree};
 use crate::tree_code::MAX_HELD;
 use arrayvec::ArrayVec;
 use stab_core::Origin;
-use stab_page_link::entry::OriginEntry;
-use stab_page_link::link::MAX_EVENTS;
-use stab_page_link::standing;
 use stab_tree::NodeId;
 
 /// The most items of a node.

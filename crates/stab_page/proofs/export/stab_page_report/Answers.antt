@@ -1,6 +1,6 @@
 use Rattle.std.proofs.Common.{map}
-use Rattle.stab_page_link.specs.Codes.{event_of, start_of}
-use Rattle.stab_page_link.specs.PageLink.{parameters}
+use Rattle.stab_page.specs.Codes.{event_of, start_of}
+use Rattle.stab_page.specs.PageLink.{parameters}
 use Rattle.stab_page.proofs.export.stab_page_report.Goals as goal
 
 pub returns-then-not-is_accepted-clause-law : goal.returns-then-not-is_accepted-clause-law

@@ -1,6 +1,0 @@
-pub mod Codes
-pub mod PageLink
-pub mod PageLinkInside
-pub mod Effects
-pub mod Standing
-pub mod Report
