@@ -2,8 +2,8 @@
  * Rignolda: bodies of settings, as bytes that travel beside an item, which of them an agent takes
  * and applies, and what a root publishes, for agents of one's own.
  *
- * Each call is proved: it does what the definitions of the crates rignolda_body, rignolda_agent and
- * rignolda_root say. The rules for pointers and for several calls at once are those of rignolda.h, and none takes memory.
+ * Each call is proved: it does what the definitions of the crate rignolda_agent say. The rules for
+ * pointers and for several calls at once are those of rignolda.h, and none takes memory.
  * The calls are those of an archive of their own, librignolda_settings.a, which needs `memmove` of
  * a C library and nothing else.
  *
@@ -14,19 +14,19 @@
  * digits, '.', '_' and '-', with no dot or hyphen in front, and a value at most 1 MiB. There are at
  * most 65,536 entries, and 16 MiB in all.
  *
- * The laws (functions of the module laws of the crate rignolda_body):
+ * The laws (functions of the module body_laws of the crate rignolda_agent):
  *   - what_is_spelled_is_read, what_is_read_is_spelled: the check takes exactly the bodies, and no
  *     two texts say the same.
  *   - what_is_written_is_read: a head and then its entries, one after the other, are that body.
  *   - entries_are_read_in_turn: in a body that was checked, as many entries as its head says follow
  *     each other from the end of the head to the end of the bytes.
- * Those of what an agent does with bodies, of the crate rignolda_agent:
+ * Those of what an agent does with bodies, of the module laws:
  *   - nothing_older_is_applied: while its floor is that of its files, the number that they are from
  *     never falls.
  *   - what_waits_lacks_nothing, a_newer_table_makes_the_files_right: what is applied is the root's.
  *   - two_rounds_bring_the_roots_settings: from every bit pattern of a taker whose numbers are not
  *     newer than the root's.
- * Those of what a root publishes, of the crate rignolda_root:
+ * Those of what a root publishes, of the module root_laws:
  *   - numbers_rise_by_one, a_round_ends, every_change_is_published: from every bit pattern of a
  *     publisher, unless it is held.
  *   - what_does_not_wait_is_told: a table that was told every body is the root's, beside each key

@@ -2,7 +2,7 @@
 use Rattle.std.proofs.Common.{◌≡◌, ◌≢◌, ℕ, ◌<◌, Bool, true, false, inl, inr, List, [], ◌∷◌, ◌++◌, length, Option, Some, None, refl, sym, ap, subst, ◌∙◌}
 use Rattle.std.specs.Prelude.{◌==◌, ◌&&◌, not, if◌then◌else◌}
 use Rattle.std.proofs.lemmas.Bool.{and_parts, cases_Bool, eq-eqb, true≢false}
-use Rattle.rignolda_body.specs.Spelling.{Body}
+use Rattle.rignolda_agent.specs.BodySpelling.{Body}
 use Rattle.rignolda_agent.specs.Numbers.{circle, is_newer}
 use Rattle.rignolda_agent.specs.Takers.{Taker, takes, is_held, after_if, after}
 use Rattle.rignolda_agent.specs.Agents.{Agent, applied_if, taken_if, hears, happens, applies, number_if, applied, applied_by, starts_again, with_body}

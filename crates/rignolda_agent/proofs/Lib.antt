@@ -5,3 +5,20 @@ mod Promise
 mod Waiting
 mod Above
 mod Runs
+pub mod ForCallers
+mod Steps
+mod Loop
+mod Heads
+mod NumberBytes
+mod Again
+mod Spelled
+mod Sums
+mod TableSums
+mod Texts
+mod KeyBytes
+pub mod Rising
+pub mod Chosen
+pub mod RootRounds
+pub mod Queue
+pub mod Told
+pub mod Merged

@@ -10,7 +10,7 @@ use Rattle.stab_core.specs.Picks.{AllBelow, RisesFrom}
 use Rattle.stab_treecore.specs.TreeLaw.{HalfTreeLawAt}
 use Rattle.stab_settings.proofs.Suffixes.{AllBetween, ends_with_all}
 use Rattle.stab_settings.proofs.Overwritten.{items_between, first_items_end}
-use Rattle.rignolda_body.specs.Spelling.{Body}
+use Rattle.rignolda_agent.specs.BodySpelling.{Body}
 use Rattle.rignolda_agent.specs.Agents.{Agent, Settings, hears, hears_all, tell, tell_all}
 use Rattle.rignolda_agent.specs.Items.{Reading, SaysBehind, hears_items, hears_read}
 use Rattle.rignolda_agent.specs.Rounds.{is_behind, IsReady, IsRound}

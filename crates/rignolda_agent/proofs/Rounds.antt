@@ -3,9 +3,9 @@ use Rattle.std.proofs.Common.{◌≡◌, ℕ, Bool, true, false, List, [], ◌�
 use Rattle.std.specs.Prelude.{not, if◌then◌else◌}
 use Rattle.std.specs.List.{AllByRecursion}
 use Rattle.std.proofs.lemmas.Bool.{and_parts}
-use Rattle.rignolda_body.specs.declared.body.Kind.{Kind}
-use Rattle.rignolda_body.specs.declared.body.Kind.TheVariants.{Table}
-use Rattle.rignolda_body.specs.Spelling.{Body}
+use Rattle.rignolda_agent.specs.declared.body.Kind.{Kind}
+use Rattle.rignolda_agent.specs.declared.body.Kind.TheVariants.{Table}
+use Rattle.rignolda_agent.specs.BodySpelling.{Body}
 use Rattle.rignolda_agent.specs.Numbers.{is_newer}
 use Rattle.rignolda_agent.specs.Takers.{Taker, takes, is_held, drops, after_if}
 use Rattle.rignolda_agent.specs.Agents.{Agent, Settings, told, tell, tell_all, applied_if, taken_if, hears, hears_all, with_body}

@@ -3,8 +3,8 @@ use Rattle.std.proofs.Common.{◌≡◌, ℕ, true, false, inl, inr, List, [], �
 use Rattle.std.specs.Prelude.{◌==◌, ◌&&◌, not, if◌then◌else◌}
 use Rattle.std.proofs.lemmas.List.Sums.{fold-append}
 use Rattle.std.proofs.lemmas.Bool.{and_parts, and_right, or_right, cases_Bool, eq-eqb}
-use Rattle.rignolda_body.specs.declared.body.Kind.TheVariants.{Table}
-use Rattle.rignolda_body.specs.Spelling.{Body}
+use Rattle.rignolda_agent.specs.declared.body.Kind.TheVariants.{Table}
+use Rattle.rignolda_agent.specs.BodySpelling.{Body}
 use Rattle.rignolda_agent.specs.Numbers.{is_newer, next}
 use Rattle.rignolda_agent.specs.Takers.{takes, is_held, drops, follows, is_table, after_if}
 use Rattle.rignolda_agent.specs.Agents.{Agent, Settings, tell, tell_all, applied_if, taken_if, hears, hears_all, with_body}

@@ -2,9 +2,9 @@
 use Rattle.std.proofs.Common.{◌≡◌, ◌⊎◌, ℕ, Bool, true, false, inl, inr, List, [], ◌∷◌, ◌++◌, Option, Some, None, refl, sym, ap, subst, ◌∙◌}
 use Rattle.std.specs.Prelude.{◌==◌, ◌&&◌, ◌||◌, not, if◌then◌else◌}
 use Rattle.std.proofs.lemmas.Bool.{eqb-true, true≢false, ne_eqb}
-use Rattle.rignolda_body.specs.declared.body.Kind.{Kind}
-use Rattle.rignolda_body.specs.declared.body.Kind.TheVariants.{Changes, Table, Harmless}
-use Rattle.rignolda_body.specs.Spelling.{Body}
+use Rattle.rignolda_agent.specs.declared.body.Kind.{Kind}
+use Rattle.rignolda_agent.specs.declared.body.Kind.TheVariants.{Changes, Table, Harmless}
+use Rattle.rignolda_agent.specs.BodySpelling.{Body}
 use Rattle.rignolda_agent.specs.Numbers.{is_newer, next}
 use Rattle.rignolda_agent.specs.Takers.{takes, is_held, drops, follows, is_table, after_if}
 use Rattle.rignolda_agent.specs.Agents.{Agent, LacksNothing, EndsAt, WaitsWell, applied_if, taken_if, hears, happens_all, with_body, starts_again}

@@ -6,9 +6,9 @@ use Rattle.std.specs.Prelude.{◌≡◌, ◌⊎◌, ℕ, ◌==◌, ◌&&◌, not
 use Rattle.std.specs.Prelude.{List, [], ◌∷◌, ◌++◌, Option, Some, None, nat_eq}
 use Rattle.std.specs.List.{fold}
 use Rattle.std.specs.Cmp.Lexicographic.{pointwise}
-use Rattle.rignolda_body.specs.declared.body.Kind.{Kind}
-use Rattle.rignolda_body.specs.declared.body.Kind.TheVariants.{Changes, Table, Harmless}
-use Rattle.rignolda_body.specs.Spelling.{Setting, Body}
+use Rattle.rignolda_agent.specs.declared.body.Kind.{Kind}
+use Rattle.rignolda_agent.specs.declared.body.Kind.TheVariants.{Changes, Table, Harmless}
+use Rattle.rignolda_agent.specs.BodySpelling.{Setting, Body}
 use Rattle.rignolda_agent.specs.Numbers.{next}
 use Rattle.rignolda_agent.specs.Takers.{Taker, takes, is_held, drops, after, restarted}
 

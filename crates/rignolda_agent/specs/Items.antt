@@ -3,7 +3,7 @@
 -- Source: this project's own.
 use Rattle.std.specs.Prelude.{◌≡◌, ℕ, true, List, map, Option, Some, None, IfSome}
 use Rattle.std.specs.List.{fold}
-use Rattle.rignolda_body.specs.Spelling.{Body}
+use Rattle.rignolda_agent.specs.BodySpelling.{Body}
 use Rattle.rignolda_agent.specs.Agents.{Agent, hears}
 use Rattle.rignolda_agent.specs.Rounds.{is_behind}
 

@@ -4,3 +4,13 @@ pub mod Agents
 pub mod Rounds
 pub mod Items
 pub mod Structs
+pub mod BodySpelling
+pub mod Reading
+pub mod Seen
+pub mod Checksum
+pub mod Sums
+pub mod Writing
+pub mod Publishers
+pub mod Runs
+pub mod Merging
+pub mod Waiting

@@ -3,8 +3,8 @@
 use Rattle.std.specs.Prelude.{◌-◌, ◌≡◌, ℕ, ◌==◌, ◌<◌, ◌≤◌, ◌&&◌, not, Bool, true, if◌then◌else◌}
 use Rattle.std.specs.Prelude.{List, [], ◌∷◌, ◌++◌, Option, Some, None}
 use Rattle.std.specs.List.{AllByRecursion}
-use Rattle.rignolda_body.specs.declared.body.Kind.TheVariants.{Table}
-use Rattle.rignolda_body.specs.Spelling.{Body}
+use Rattle.rignolda_agent.specs.declared.body.Kind.TheVariants.{Table}
+use Rattle.rignolda_agent.specs.BodySpelling.{Body}
 use Rattle.rignolda_agent.specs.Numbers.{ahead, circle, half, is_newer, next}
 use Rattle.rignolda_agent.specs.Takers.{Taker}
 

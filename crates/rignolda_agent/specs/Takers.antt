@@ -6,8 +6,8 @@
 -- is not newer than 9, and changes nothing.
 -- Source: this project's own.
 use Rattle.std.specs.Prelude.{ℕ, ◌==◌, ◌&&◌, ◌||◌, not, Bool, true, false, if◌then◌else◌}
-use Rattle.rignolda_body.specs.declared.body.Kind.{Kind}
-use Rattle.rignolda_body.specs.declared.body.Kind.TheVariants.{Changes, Table, Harmless}
+use Rattle.rignolda_agent.specs.declared.body.Kind.{Kind}
+use Rattle.rignolda_agent.specs.declared.body.Kind.TheVariants.{Changes, Table, Harmless}
 use Rattle.rignolda_agent.specs.Numbers.{is_newer, next}
 
 pub record Taker : Type 0 where

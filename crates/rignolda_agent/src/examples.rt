@@ -1,8 +1,8 @@
 //! Examples of the definitions, worked out: a law with an empty body.
 
 ghost use Rattle.std.specs.Prelude.{◌≡◌, ℕ, List, [], ◌∷◌, Option, Some, None, true, false};
-ghost use Rattle.rignolda_body.specs.declared.body.Kind.TheVariants.{Changes, Table, Harmless};
-ghost use Rattle.rignolda_body.specs.Spelling.{Body, Setting};
+ghost use Rattle.rignolda_agent.specs.declared.body.Kind.TheVariants.{Changes, Table, Harmless};
+ghost use Rattle.rignolda_agent.specs.BodySpelling.{Body, Setting};
 ghost use Rattle.rignolda_agent.specs.Agents.{Agent, applied, happens_all, none_set};
 ghost use Rattle.rignolda_agent.specs.Numbers.{ahead, furthest, is_newer, next};
 ghost use Rattle.rignolda_agent.specs.Takers.{Taker, after, drops, fills, looks};

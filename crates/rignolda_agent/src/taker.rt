@@ -1,11 +1,11 @@
 ghost use Rattle.std.specs.Prelude.{◌≡◌, ◌&&◌, not, true, false};
-ghost use Rattle.rignolda_body.specs.declared.body.Kind.{Kind};
+ghost use Rattle.rignolda_agent.specs.declared.body.Kind.{Kind};
 ghost use Rattle.rignolda_agent.specs.Takers.{Taker as TakerState, after, after_if, drops, fills};
 ghost use Rattle.rignolda_agent.specs.Takers.{follows, is_held, is_table, looks, restarted, takes};
 ghost use Rattle.rignolda_agent.specs.Structs.{taker_of};
 
+use crate::body::Kind;
 use crate::numbers::{is_newer, next};
-use rignolda_body::Kind;
 
 /// What an agent remembers of the bodies that it took. Every bit pattern means something.
 #[repr(C)]

@@ -2,10 +2,10 @@
 use Rattle.std.proofs.Common.{◌≡◌, ℕ, zero, suc, ◌+◌, ◌<◌, ◌≤◌, List, [], ◌∷◌, ◌++◌, length, take, drop, Some, None, Ok, refl, ap, ◌∙◌, append_assoc, arith}
 use Rattle.std.specs.Int.{w32, to_be_bytes}
 use Rattle.std.proofs.lemmas.List.{append-nil, length-append, length-drop, take_at}
-use Rattle.rignolda_body.specs.Reading.{entry_at}
-use Rattle.rignolda_body.specs.Seen.{AreBytes}
-use Rattle.rignolda_body.specs.Spelling.{Setting, entry_bytes}
-use Rattle.rignolda_body.proofs.ForCallers.{after_text, entry_there}
+use Rattle.rignolda_agent.specs.Reading.{entry_at}
+use Rattle.rignolda_agent.specs.Seen.{AreBytes}
+use Rattle.rignolda_agent.specs.BodySpelling.{Setting, entry_bytes}
+use Rattle.rignolda_agent.proofs.ForCallers.{after_text, entry_there}
 use Rattle.rignolda_settings_c.specs.declared.bodies.BodyEntry.{BodyEntry}
 use Rattle.rignolda_settings_c.specs.Calls.{Found}
 

@@ -1,13 +1,13 @@
 -- What the structs and the numbers of the calls mean.
 -- Source: this project's own.
 use Rattle.std.specs.Prelude.{◌≡◌, ℕ, ◌+◌, ◌==◌, if◌then◌else◌, List, length, take, drop, Option, Some, None, Result, Ok, Err}
-use Rattle.rignolda_body.specs.declared.body.Head.{Head}
-use Rattle.rignolda_body.specs.declared.body.Kind.{Kind}
-use Rattle.rignolda_body.specs.declared.body.Kind.TheVariants.{Changes, Table, Harmless}
-use Rattle.rignolda_body.specs.declared.fault.Fault.{Fault}
-use Rattle.rignolda_body.specs.declared.fault.Fault.TheVariants.{Unfit, Large, Short, NoKind, Many, NoMark, NoKey, Order, Long, Unset, Trailing}
-use Rattle.rignolda_body.specs.Spelling.{Setting, head_bytes, kind_byte, mark}
-use Rattle.rignolda_body.specs.Writing.{after_writing, end_of, has_room}
+use Rattle.rignolda_agent.specs.declared.body.Head.{Head}
+use Rattle.rignolda_agent.specs.declared.body.Kind.{Kind}
+use Rattle.rignolda_agent.specs.declared.body.Kind.TheVariants.{Changes, Table, Harmless}
+use Rattle.rignolda_agent.specs.declared.fault.Fault.{Fault}
+use Rattle.rignolda_agent.specs.declared.fault.Fault.TheVariants.{Unfit, Large, Short, NoKind, Many, NoMark, NoKey, Order, Long, Unset, Trailing}
+use Rattle.rignolda_agent.specs.BodySpelling.{Setting, head_bytes, kind_byte, mark}
+use Rattle.rignolda_agent.specs.Writing.{after_writing, end_of, has_room}
 use Rattle.rignolda_settings_c.specs.declared.bodies.BodyEntry.{BodyEntry}
 use Rattle.rignolda_settings_c.specs.declared.bodies.BodyHead.{BodyHead}
 

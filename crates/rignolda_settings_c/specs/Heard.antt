@@ -1,7 +1,7 @@
 -- What an agent is told to do about a body, by the byte with which it begins and its number.
 -- Source: this project's own.
 use Rattle.std.specs.Prelude.{ℕ, ◌&&◌, not, Bool, true, false, Option, Some, None}
-use Rattle.rignolda_body.specs.declared.body.Kind.{Kind}
+use Rattle.rignolda_agent.specs.declared.body.Kind.{Kind}
 use Rattle.rignolda_agent.specs.Takers.{Taker, after, drops, fills, is_held, is_table, looks, takes}
 use Rattle.rignolda_settings_c.specs.declared.taker.TakerHeard.{TakerHeard}
 

@@ -1,8 +1,8 @@
 -- The byte that says a kind of body, as it stands in front of its bytes; 0 where there is none.
 use Rattle.std.specs.Prelude.{ℕ}
-use Rattle.rignolda_root.specs.declared.publisher.Next.{Next}
-use Rattle.rignolda_root.specs.declared.publisher.Next.TheVariants.{Nothing, Harmless, Changes}
-use Rattle.rignolda_root.specs.declared.publisher.Next.TheVariants.{Whole}
+use Rattle.rignolda_agent.specs.declared.publisher.Next.{Next}
+use Rattle.rignolda_agent.specs.declared.publisher.Next.TheVariants.{Nothing, Harmless, Changes}
+use Rattle.rignolda_agent.specs.declared.publisher.Next.TheVariants.{Whole}
 
 abbrev pub kind_byte : Next → ℕ
 kind_byte Nothing = 0

@@ -1,12 +1,12 @@
 ghost use Rattle.std.specs.Prelude.{◌≡◌, List, drop};
-ghost use Rattle.rignolda_body.specs.Checksum.{checksum};
-ghost use Rattle.rignolda_body.specs.Reading.{entry_at, heard};
-ghost use Rattle.rignolda_body.specs.Seen.{head_of};
-ghost use Rattle.rignolda_body.specs.Spelling.{kind_byte};
+ghost use Rattle.rignolda_agent.specs.BodySpelling.{kind_byte};
+ghost use Rattle.rignolda_agent.specs.Checksum.{checksum};
+ghost use Rattle.rignolda_agent.specs.Reading.{entry_at, heard};
+ghost use Rattle.rignolda_agent.specs.Seen.{head_of};
 ghost use Rattle.rignolda_settings_c.specs.Calls.{Found, check_code, fault_code, kind_named};
 ghost use Rattle.rignolda_settings_c.specs.Calls.{written_head};
 
-use rignolda_body::{Fault, Kind, checksum, entry, heard};
+use rignolda_agent::{Fault, Kind, checksum, entry, heard};
 
 /// The bytes are a body.
 const BODY: u8 = 0;

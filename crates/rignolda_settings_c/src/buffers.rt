@@ -1,10 +1,10 @@
 ghost use Rattle.std.specs.Prelude.{◌≡◌, Some, None};
-ghost use Rattle.rignolda_body.specs.Spelling.{Setting, entry_bytes};
-ghost use Rattle.rignolda_body.specs.Writing.{after_writing, end_of, is_written};
+ghost use Rattle.rignolda_agent.specs.BodySpelling.{Setting, entry_bytes};
+ghost use Rattle.rignolda_agent.specs.Writing.{after_writing, end_of, is_written};
 ghost use Rattle.rignolda_settings_c.specs.Calls.{begun, begun_end, end_code, kind_named};
 
 use crate::bodies::kind_named;
-use rignolda_body::{Entry, write_entry, write_head};
+use rignolda_agent::{Entry, write_entry, write_head};
 
 /// Writes what a body has before its entries, and returns its end, from which on the first entry is
 /// to be written; or returns 0 where the byte names no kind or the buffer is too short. A harmless

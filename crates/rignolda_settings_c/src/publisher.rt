@@ -1,10 +1,10 @@
 ghost use Rattle.std.specs.Prelude.{◌≡◌, ◌==◌, not};
 ghost use Rattle.rignolda_agent.specs.Numbers.{is_newer, next as after_number};
-ghost use Rattle.rignolda_root.specs.Publishers.{after_body, begun, entries, gone_above};
-ghost use Rattle.rignolda_root.specs.Publishers.{is_in_a_round, new, next, publisher_of, waits};
+ghost use Rattle.rignolda_agent.specs.Publishers.{after_body, begun, entries, gone_above};
+ghost use Rattle.rignolda_agent.specs.Publishers.{is_in_a_round, new, next, publisher_of, waits};
 ghost use Rattle.rignolda_settings_c.specs.Kinds.{kind_byte};
 
-use rignolda_root::{Next, Publisher};
+use rignolda_agent::{Next, Publisher};
 
 /// The body to publish next.
 #[repr(C)]

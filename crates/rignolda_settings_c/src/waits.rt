@@ -1,7 +1,7 @@
 ghost use Rattle.std.specs.Prelude.{◌≡◌, ℕ, if◌then◌else◌, Option, Some, None};
-ghost use Rattle.rignolda_root.specs.Waiting.{left_out, merged, waits_with};
+ghost use Rattle.rignolda_agent.specs.Waiting.{left_out, merged, waits_with};
 
-use rignolda_root::Waits;
+use rignolda_agent::Waits;
 
 /// A change of a key comes: whether its value takes the place of the one that waits.
 #[unsafe(no_mangle)]

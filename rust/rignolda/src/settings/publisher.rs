@@ -10,7 +10,7 @@ use std::sync::Arc;
 /// Changes that wait are merged: of each key the last value alone is published. A round is a number
 /// of harmless items and then the whole table; while changes come, they and the harmless items take
 /// turns. Which body is next, its number and what it has of all this is said by calls of the proved
-/// library; its crate `rignolda_root` has the laws.
+/// library; its crate `rignolda_agent` has the laws.
 ///
 /// A key may have values for [groups](super::parts) besides the one for all. A body that has one of
 /// them has all that are set: so whoever takes it needs nothing else to see which one counts.

@@ -1,5 +1,0 @@
-use Rattle.rignolda_root.proofs.Merged.{each_key}
-use Rattle.rignolda_root.proofs.laws.merged_changes_tell_the_same.Goals as goal
-
-pub returns : goal.returns
-returns c = each_key

@@ -1,4 +1,0 @@
-pub mod Publishers
-pub mod Runs
-pub mod Merging
-pub mod Waiting
