@@ -8,7 +8,7 @@
 -- none, and the fault is the one of `rignolda scenario`.
 -- Source: this project's own.
 use Rattle.std.specs.Prelude.{◌≡◌, ℕ, Bool, true, false, List, Option, Some, None, Ok, All, codes}
-use Rattle.std.specs.Prelude.{if◌then◌else◌, is_some}
+use Rattle.std.specs.Prelude.{if◌then◌else◌, is_some, string_bytes}
 use Rattle.serde_json.specs.Data.{Data}
 use Rattle.serde_json.specs.Find.{get}
 use Rattle.stab_core.specs.Replay.{IsLawful}
@@ -32,6 +32,8 @@ use Rattle.stab_task.specs.declared.fault.CliFault.{CliFault}
 use Rattle.stab_treecore.specs.Network.{IsNetwork}
 use Rattle.stab_treecore.specs.Refusals.{NamesLink}
 use Rattle.rignolda_commands.specs.Told.{IsUntold}
+use Rattle.rignolda_commands.specs.declared.run.Drawing.{Drawing}
+use Rattle.rignolda_commands.specs.declared.run.Drawing.TheVariants as drawing
 use Rattle.rignolda_commands.specs.declared.scenario.StepsFault.{StepsFault}
 use Rattle.rignolda_commands.specs.declared.scenario.StepsFault.TheVariants as steps
 
@@ -100,3 +102,9 @@ IsDrawn is_picture input text = IsDrawnBy (has_steps (value_of input)) is_pictur
 -- why these bytes have no run
 abbrev pub IsUndrawn : List ℕ → StepsFault → Type 0
 IsUndrawn input its_fault = IsUndrawnBy (has_steps (value_of input)) input its_fault
+
+-- the text that is drawn of a run, or the whole drawing
+abbrev pub drawn_text : Drawing → List ℕ
+drawn_text (drawing.Link its_job) = run_text its_job
+drawn_text (drawing.Schedule its_job) = schedule_run_text (network its_job) its_job.schedule
+drawn_text (drawing.Whole text) = string_bytes text

@@ -1,12 +1,13 @@
-ghost use Rattle.std.specs.Prelude.{◌≡◌, ◌≢◌, ℕ, List, false, Some, None, Ok, string_bytes};
+ghost use Rattle.std.specs.Prelude.{◌≡◌, ◌≢◌, ◌⊎◌, ℕ, List, false, Some, None, Ok};
 ghost use Rattle.std.specs.Prelude.{IfErr, IfOk, IfSome, OnOk, option_map};
 ghost use Rattle.std.specs.Io.KnownBytes.{Appends, Keeps};
 ghost use Rattle.serde_json.specs.Data.{Data};
 ghost use Rattle.serde_json.specs.View.{view};
 ghost use Rattle.rignolda_commands.specs.Drawn.{IsDrawn, IsDrawnAs, IsDrawnBy, IsDrawnLink};
 ghost use Rattle.rignolda_commands.specs.Drawn.{IsDrawnScenario, IsDrawnTree, IsUndrawn, IsUndrawnBy};
-ghost use Rattle.rignolda_commands.specs.Drawn.{has_steps, task_of};
+ghost use Rattle.rignolda_commands.specs.Drawn.{drawn_text, has_steps, task_of};
 ghost use Rattle.rignolda_commands.specs.Told.{IsUntold};
+ghost use Rattle.rignolda_draw.specs.Written.{Begun};
 ghost use Rattle.rignolda_explain.specs.Kinds.{chosen};
 ghost use Rattle.stab_job.specs.Jobs.{job};
 ghost use Rattle.stab_job_stream.specs.Parts.{SameMembers};
@@ -20,7 +21,7 @@ ghost use Rattle.stab_task.specs.declared.command.Task.TheVariants.{Link, Tree};
 
 use crate::job::{job_of, link_job_of, scenario_beside, scenario_of};
 use crate::kind::has_steps;
-use crate::run::{link_run, scenario_run, tree_run};
+use crate::run::{Drawing, link_run, scenario_run, tree_run, write_drawing};
 use crate::scenario::StepsFault;
 use rignolda_explain::kind_of;
 use rignolda_findings::{Kind, seems_a_link_job, seems_to_have_steps};
@@ -31,14 +32,18 @@ use stab_job_stream::read_plain_job;
 use stab_json::read_value;
 use stab_script::LinkJob;
 use stab_stream::read_plain_link_job;
-use stab_task::{CliFault, load, write_text};
+use stab_task::{CliFault, load};
 use std::alloc::Global;
 use std::io::{Read, Write};
 
 /// Reads a job, and writes its run step by step, as text or as a picture: that of the link of a
 /// link job, that of the schedule of a job of a tree, and that of the steps of such a job where it
 /// has some. Where there is none, the fault is that of `stab link`, of `stab tree`, or of
-/// [`act_scenario`](crate::act_scenario), and nothing is written unless it is `Write`.
+/// [`act_scenario`](crate::act_scenario).
+///
+/// A run is replayed before the first byte of it is written, so nothing is written unless the fault
+/// is `Write`, or memory is refused while it is drawn: then the beginning of the text is written.
+#[tactic(auto, using(crate::proofs::Drawn::unwritten, crate::proofs::Drawn::nothing_else, crate::proofs::Drawn::begun_then, crate::proofs::Drawn::not_begun, rignolda_draw::proofs::ForCallers::kept_bytes))]
 pub fn act_draw<R: Read, W: Write>(
     alloc: Global,
     is_picture: bool,
@@ -51,10 +56,16 @@ pub fn act_draw<R: Read, W: Write>(
     ensures fault { IfErr result (λ fault. fault ≢ StepsFault.Job CliFault.Write
         → IfSome (R.remaining reader.old) (λ input. IsUndrawn input fault)) }
     ensures nothing { IfErr result (λ fault. fault ≢ StepsFault.Job CliFault.Write
+        → fault ≢ StepsFault.Job CliFault.Memory
         → Keeps (W.contents writer.old) (W.contents writer.new)) }
+    ensures begun { IfErr result (λ fault. fault ≢ StepsFault.Job CliFault.Write
+        → Keeps (W.contents writer.old) (W.contents writer.new)
+        ⊎ IfSome (R.remaining reader.old) (λ input.
+        (text : List ℕ) × IsDrawn is_picture input text
+        × Begun (W.contents writer.old) (W.contents writer.new) text)) }
 {
-    let text = draw_input(alloc, is_picture, reader)?;
-    write_text(writer, &text)?;
+    let drawing = draw_input(alloc, is_picture, reader)?;
+    write_drawing(alloc, writer, drawing)?;
     Ok(())
 }
 
@@ -64,22 +75,23 @@ fn draw_input<R: Read>(
     alloc: Global,
     is_picture: bool,
     reader: &mut R,
-) -> Result<String, StepsFault>
-    ensures drawn { IfOk result (λ text.
-        IfSome (R.remaining reader.old) (λ input. IsDrawn is_picture input (string_bytes text))) }
+) -> Result<Drawing, StepsFault>
+    ensures drawn { IfOk result (λ drawing. IfSome (R.remaining reader.old)
+        (λ input. IsDrawn is_picture input (drawn_text drawing))) }
     ensures fault { IfErr result (λ fault.
         IfSome (R.remaining reader.old) (λ input. IsUndrawn input fault)) }
     ensures no_write { IfErr result (λ fault. fault ≢ StepsFault.Job CliFault.Write) }
 {
     let bytes = load(alloc, reader)?;
-    let text = draw_bytes(alloc, is_picture, &bytes)?;
-    Ok(text)
+    let drawing = draw_bytes(alloc, is_picture, &bytes)?;
+    Ok(drawing)
 }
 
 /// The run of the job that these bytes are, or of its steps. The job is read off the text, as one of
 /// the kind that it seems to be; and where that fails, all that is said comes from its value.
-fn draw_bytes(alloc: Global, is_picture: bool, bytes: &[u8]) -> Result<String, StepsFault>
-    ensures drawn { IfOk result (λ text. IsDrawn is_picture bytes.now (string_bytes text)) }
+fn draw_bytes(alloc: Global, is_picture: bool, bytes: &[u8]) -> Result<Drawing, StepsFault>
+    ensures drawn { IfOk result (λ drawing.
+        IsDrawn is_picture bytes.now (drawn_text drawing)) }
     ensures fault { IfErr result (IsUndrawn bytes.now) }
     ensures no_write { IfErr result (λ fault. fault ≢ StepsFault.Job CliFault.Write) }
 {
@@ -94,13 +106,14 @@ fn draw_bytes(alloc: Global, is_picture: bool, bytes: &[u8]) -> Result<String, S
 
 /// The same, where the bytes are read as a link job first.
 #[tactic(auto, using(crate::proofs::Drawn::memory_is_refused))]
-fn draw_link_first(alloc: Global, is_picture: bool, bytes: &[u8]) -> Result<String, StepsFault>
-    ensures drawn { IfOk result (λ text. IsDrawn is_picture bytes.now (string_bytes text)) }
+fn draw_link_first(alloc: Global, is_picture: bool, bytes: &[u8]) -> Result<Drawing, StepsFault>
+    ensures drawn { IfOk result (λ drawing.
+        IsDrawn is_picture bytes.now (drawn_text drawing)) }
     ensures fault { IfErr result (IsUndrawn bytes.now) }
     ensures no_write { IfErr result (λ fault. fault ≢ StepsFault.Job CliFault.Write) }
 {
     match read_plain_link_job(alloc, bytes)? {
-        Some(job) => draw_plain_link(alloc, is_picture, bytes, &job),
+        Some(job) => draw_plain_link(alloc, is_picture, bytes, job),
         None => draw_by_value(alloc, is_picture, bytes),
     }
 }
@@ -111,22 +124,24 @@ fn draw_plain_link(
     alloc: Global,
     is_picture: bool,
     bytes: &[u8],
-    job: &LinkJob,
-) -> Result<String, StepsFault>
-    requires job { link_job bytes.now ≡ Ok job.now }
+    job: LinkJob,
+) -> Result<Drawing, StepsFault>
+    requires job { link_job bytes.now ≡ Ok job }
     requires others { IfSome (value_of bytes.now) HasNoOthers }
-    ensures drawn { IfOk result (λ text. IsDrawn is_picture bytes.now (string_bytes text)) }
+    ensures drawn { IfOk result (λ drawing.
+        IsDrawn is_picture bytes.now (drawn_text drawing)) }
     ensures fault { IfErr result (IsUndrawn bytes.now) }
     ensures no_write { IfErr result (λ fault. fault ≢ StepsFault.Job CliFault.Write) }
 {
-    let text = draw_link_job(alloc, is_picture, bytes, job)?;
-    Ok(text)
+    let drawing = draw_link_job(alloc, is_picture, bytes, job)?;
+    Ok(drawing)
 }
 
 /// The same, where the bytes are read as a scenario first.
 #[tactic(auto, using(crate::proofs::Drawn::memory_is_refused))]
-fn draw_steps_first(alloc: Global, is_picture: bool, bytes: &[u8]) -> Result<String, StepsFault>
-    ensures drawn { IfOk result (λ text. IsDrawn is_picture bytes.now (string_bytes text)) }
+fn draw_steps_first(alloc: Global, is_picture: bool, bytes: &[u8]) -> Result<Drawing, StepsFault>
+    ensures drawn { IfOk result (λ drawing.
+        IsDrawn is_picture bytes.now (drawn_text drawing)) }
     ensures fault { IfErr result (IsUndrawn bytes.now) }
     ensures no_write { IfErr result (λ fault. fault ≢ StepsFault.Job CliFault.Write) }
 {
@@ -145,10 +160,11 @@ fn draw_plain_steps(
     bytes: &[u8],
     its_job: Job,
     members: &Value,
-) -> Result<String, StepsFault>
+) -> Result<Drawing, StepsFault>
     requires job { IsUnscheduled (job bytes.now) its_job }
     requires members { (d : Data) × (value_of bytes.now ≡ Some d) × SameMembers d (view members.now) }
-    ensures drawn { IfOk result (λ text. IsDrawn is_picture bytes.now (string_bytes text)) }
+    ensures drawn { IfOk result (λ drawing.
+        IsDrawn is_picture bytes.now (drawn_text drawing)) }
     ensures fault { IfErr result (IsUndrawn bytes.now) }
     ensures no_write { IfErr result (λ fault. fault ≢ StepsFault.Job CliFault.Write) }
 {
@@ -166,25 +182,27 @@ fn draw_steps(
     is_picture: bool,
     bytes: &[u8],
     its_scenario: &Scenario,
-) -> Result<String, StepsFault>
+) -> Result<Drawing, StepsFault>
     requires { scenario bytes.now ≡ Ok its_scenario.now }
-    ensures drawn { IfOk result (λ text. IsDrawn is_picture bytes.now (string_bytes text)) }
+    ensures drawn { IfOk result (λ drawing.
+        IsDrawn is_picture bytes.now (drawn_text drawing)) }
     ensures fault { IfErr result (IsUndrawn bytes.now) }
     ensures no_write { IfErr result (λ fault. fault ≢ StepsFault.Job CliFault.Write) }
 {
-    let text = scenario_run(alloc, is_picture, its_scenario)?;
-    Ok(text)
+    let drawing = scenario_run(alloc, is_picture, its_scenario)?;
+    Ok(drawing)
 }
 
 /// The same, where the bytes are read as a job with its schedule first.
 #[tactic(auto, using(crate::proofs::Drawn::memory_is_refused))]
-fn draw_schedule_first(alloc: Global, is_picture: bool, bytes: &[u8]) -> Result<String, StepsFault>
-    ensures drawn { IfOk result (λ text. IsDrawn is_picture bytes.now (string_bytes text)) }
+fn draw_schedule_first(alloc: Global, is_picture: bool, bytes: &[u8]) -> Result<Drawing, StepsFault>
+    ensures drawn { IfOk result (λ drawing.
+        IsDrawn is_picture bytes.now (drawn_text drawing)) }
     ensures fault { IfErr result (IsUndrawn bytes.now) }
     ensures no_write { IfErr result (λ fault. fault ≢ StepsFault.Job CliFault.Write) }
 {
     match read_plain_job(alloc, bytes, true)? {
-        Some((job, members)) => draw_job(alloc, is_picture, bytes, &job, &members),
+        Some((job, members)) => draw_job(alloc, is_picture, bytes, job, &members),
         None => draw_by_value(alloc, is_picture, bytes),
     }
 }
@@ -196,20 +214,21 @@ fn draw_job(
     alloc: Global,
     is_picture: bool,
     bytes: &[u8],
-    its_job: &Job,
+    its_job: Job,
     members: &Value,
-) -> Result<String, StepsFault>
-    requires job { job bytes.now ≡ Ok its_job.now }
+) -> Result<Drawing, StepsFault>
+    requires job { job bytes.now ≡ Ok its_job }
     requires members { (d : Data) × (value_of bytes.now ≡ Some d) × SameMembers d (view members.now) }
-    ensures drawn { IfOk result (λ text. IsDrawn is_picture bytes.now (string_bytes text)) }
+    ensures drawn { IfOk result (λ drawing.
+        IsDrawn is_picture bytes.now (drawn_text drawing)) }
     ensures fault { IfErr result (IsUndrawn bytes.now) }
     ensures no_write { IfErr result (λ fault. fault ≢ StepsFault.Job CliFault.Write) }
 {
     if has_steps(Some(members)) {
         draw_by_value(alloc, is_picture, bytes)
     } else {
-        let text = draw_schedule(alloc, is_picture, bytes, its_job)?;
-        Ok(text)
+        let drawing = draw_schedule(alloc, is_picture, bytes, its_job)?;
+        Ok(drawing)
     }
 }
 
@@ -219,30 +238,32 @@ fn draw_schedule(
     alloc: Global,
     is_picture: bool,
     bytes: &[u8],
-    its_job: &Job,
-) -> Result<String, CliFault>
-    requires job { job bytes.now ≡ Ok its_job.now }
+    its_job: Job,
+) -> Result<Drawing, CliFault>
+    requires job { job bytes.now ≡ Ok its_job }
     requires steps { has_steps (value_of bytes.now) ≡ false }
-    ensures drawn { IfOk result (λ text. IsDrawn is_picture bytes.now (string_bytes text)) }
+    ensures drawn { IfOk result (λ drawing.
+        IsDrawn is_picture bytes.now (drawn_text drawing)) }
     ensures fault { IfErr result (λ fault. IsUndrawn bytes.now (StepsFault.Job fault)) }
     ensures no_write { IfErr result (λ fault. fault ≢ CliFault.Write) }
 {
-    let text = tree_run(alloc, is_picture, its_job)?;
-    Ok(text)
+    let drawing = tree_run(alloc, is_picture, its_job)?;
+    Ok(drawing)
 }
 
 /// The run of the job that these bytes are, or of its steps, by their value.
 #[tactic(auto, using(crate::proofs::Drawn::memory_is_refused))]
-fn draw_by_value(alloc: Global, is_picture: bool, bytes: &[u8]) -> Result<String, StepsFault>
-    ensures drawn { IfOk result (λ text. IsDrawn is_picture bytes.now (string_bytes text)) }
+fn draw_by_value(alloc: Global, is_picture: bool, bytes: &[u8]) -> Result<Drawing, StepsFault>
+    ensures drawn { IfOk result (λ drawing.
+        IsDrawn is_picture bytes.now (drawn_text drawing)) }
     ensures fault { IfErr result (IsUndrawn bytes.now) }
     ensures no_write { IfErr result (λ fault. fault ≢ StepsFault.Job CliFault.Write) }
 {
     let value = read_value(alloc, bytes)?;
     let kind = kind_of(value.as_ref());
     let is_scenario = has_steps(value.as_ref());
-    let text = draw_by(alloc, is_scenario, kind, value, is_picture, bytes)?;
-    Ok(text)
+    let drawing = draw_by(alloc, is_scenario, kind, value, is_picture, bytes)?;
+    Ok(drawing)
 }
 
 /// The run of bytes that have steps, or of others of this kind, which have this value.
@@ -253,19 +274,19 @@ fn draw_by(
     value: Option<Value>,
     is_picture: bool,
     bytes: &[u8],
-) -> Result<String, StepsFault>
+) -> Result<Drawing, StepsFault>
     requires kind { kind ≡ chosen None (value_of bytes.now) }
     requires value { option_map view value ≡ value_of bytes.now }
-    ensures drawn { IfOk result (λ text.
-        IsDrawnBy is_scenario is_picture bytes.now (string_bytes text)) }
+    ensures drawn { IfOk result (λ drawing.
+        IsDrawnBy is_scenario is_picture bytes.now (drawn_text drawing)) }
     ensures fault { IfErr result (IsUndrawnBy is_scenario bytes.now) }
     ensures no_write { IfErr result (λ fault. fault ≢ StepsFault.Job CliFault.Write) }
 {
     if is_scenario {
         draw_scenario(alloc, value, is_picture, bytes)
     } else {
-        let text = draw_kind(alloc, kind, value, is_picture, bytes)?;
-        Ok(text)
+        let drawing = draw_kind(alloc, kind, value, is_picture, bytes)?;
+        Ok(drawing)
     }
 }
 
@@ -276,15 +297,16 @@ fn draw_scenario(
     value: Option<Value>,
     is_picture: bool,
     bytes: &[u8],
-) -> Result<String, StepsFault>
+) -> Result<Drawing, StepsFault>
     requires { option_map view value ≡ value_of bytes.now }
-    ensures drawn { IfOk result (λ text. IsDrawnScenario is_picture bytes.now (string_bytes text)) }
+    ensures drawn { IfOk result (λ drawing.
+        IsDrawnScenario is_picture bytes.now (drawn_text drawing)) }
     ensures fault { IfErr result (λ fault. IsUntold bytes.now fault) }
     ensures no_write { IfErr result (λ fault. fault ≢ StepsFault.Job CliFault.Write) }
 {
     let scenario = scenario_of(alloc, value.as_ref(), bytes)?;
-    let text = scenario_run(alloc, is_picture, &scenario)?;
-    Ok(text)
+    let drawing = scenario_run(alloc, is_picture, &scenario)?;
+    Ok(drawing)
 }
 
 /// The run of the job of this kind that these bytes are, which have this value.
@@ -294,10 +316,10 @@ fn draw_kind(
     value: Option<Value>,
     is_picture: bool,
     bytes: &[u8],
-) -> Result<String, CliFault>
+) -> Result<Drawing, CliFault>
     requires { option_map view value ≡ value_of bytes.now }
-    ensures drawn { IfOk result (λ text.
-        IsDrawnAs kind is_picture bytes.now (string_bytes text)) }
+    ensures drawn { IfOk result (λ drawing.
+        IsDrawnAs kind is_picture bytes.now (drawn_text drawing)) }
     ensures fault { IfErr result (IsFault (task_of kind) bytes.now) }
     ensures no_write { IfErr result (λ fault. fault ≢ CliFault.Write) }
 {
@@ -313,14 +335,15 @@ fn draw_link(
     value: Option<Value>,
     is_picture: bool,
     bytes: &[u8],
-) -> Result<String, CliFault>
+) -> Result<Drawing, CliFault>
     requires { option_map view value ≡ value_of bytes.now }
-    ensures drawn { IfOk result (λ text. IsDrawnLink is_picture bytes.now (string_bytes text)) }
+    ensures drawn { IfOk result (λ drawing.
+        IsDrawnLink is_picture bytes.now (drawn_text drawing)) }
     ensures fault { IfErr result (IsFault (Link false) bytes.now) }
     ensures no_write { IfErr result (λ fault. fault ≢ CliFault.Write) }
 {
     let job = link_job_of(alloc, value, bytes)?;
-    draw_link_job(alloc, is_picture, bytes, &job)
+    draw_link_job(alloc, is_picture, bytes, job)
 }
 
 /// The run of the link job that these bytes are.
@@ -328,15 +351,16 @@ fn draw_link_job(
     alloc: Global,
     is_picture: bool,
     bytes: &[u8],
-    job: &LinkJob,
-) -> Result<String, CliFault>
-    requires { link_job bytes.now ≡ Ok job.now }
-    ensures drawn { IfOk result (λ text. IsDrawnLink is_picture bytes.now (string_bytes text)) }
+    job: LinkJob,
+) -> Result<Drawing, CliFault>
+    requires { link_job bytes.now ≡ Ok job }
+    ensures drawn { IfOk result (λ drawing.
+        IsDrawnLink is_picture bytes.now (drawn_text drawing)) }
     ensures fault { IfErr result (IsFault (Link false) bytes.now) }
     ensures no_write { IfErr result (λ fault. fault ≢ CliFault.Write) }
 {
-    let text = link_run(alloc, is_picture, job)?;
-    Ok(text)
+    let drawing = link_run(alloc, is_picture, job)?;
+    Ok(drawing)
 }
 
 /// The run of the schedule of the job that these bytes are, which have this value.
@@ -345,13 +369,14 @@ fn draw_tree(
     value: Option<Value>,
     is_picture: bool,
     bytes: &[u8],
-) -> Result<String, CliFault>
+) -> Result<Drawing, CliFault>
     requires { option_map view value ≡ value_of bytes.now }
-    ensures drawn { IfOk result (λ text. IsDrawnTree is_picture bytes.now (string_bytes text)) }
+    ensures drawn { IfOk result (λ drawing.
+        IsDrawnTree is_picture bytes.now (drawn_text drawing)) }
     ensures fault { IfErr result (IsFault Tree bytes.now) }
     ensures no_write { IfErr result (λ fault. fault ≢ CliFault.Write) }
 {
     let job = job_of(alloc, value.as_ref(), bytes)?;
-    let text = tree_run(alloc, is_picture, &job)?;
-    Ok(text)
+    let drawing = tree_run(alloc, is_picture, job)?;
+    Ok(drawing)
 }

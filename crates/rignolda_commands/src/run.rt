@@ -1,10 +1,13 @@
-//! The run of a job that was read, as text or as a picture.
+//! The run of a job that was read: it is replayed, and then drawn, as text or as a picture.
 
-ghost use Rattle.std.specs.Prelude.{◌≡◌, false, string_bytes, All, IfErr, IfOk, OnOk};
+ghost use Rattle.std.specs.Prelude.{◌≡◌, ◌≢◌, false, string_bytes, All, IfErr, IfOk, OnOk};
+ghost use Rattle.std.specs.Io.KnownBytes.{Appends};
 ghost use Rattle.stab_core.specs.Link.{IsReason};
 ghost use Rattle.stab_core.specs.Replay.{IsLawful};
+ghost use Rattle.rignolda_commands.specs.Drawn.{drawn_text};
 ghost use Rattle.rignolda_draw.specs.Runs.{run_text};
 ghost use Rattle.rignolda_draw.specs.Schedules.{schedule_run_text};
+ghost use Rattle.rignolda_draw.specs.Written.{Begun, Written};
 ghost use Rattle.rignolda_draw_scenario.specs.ScenarioRuns.{scenario_run_text};
 ghost use Rattle.stab_job.specs.JobValues.{network};
 ghost use Rattle.stab_job.specs.Replays.{IsReplayReason};
@@ -12,58 +15,116 @@ ghost use Rattle.rignolda_scenario.specs.Counts.{IsUnrun};
 ghost use Rattle.stab_treecore.specs.Network.{IsNetwork};
 ghost use Rattle.stab_treecore.specs.Refusals.{NamesLink};
 
-use rignolda_draw::{run_text, schedule_run_text};
+use rignolda_draw::{OutputFault, write_run, write_schedule_run};
 use rignolda_draw_scenario::scenario_run_text;
 use rignolda_picture::{link_picture, scenario_picture, schedule_picture};
 use rignolda_scenario::{Scenario, ScenarioFault};
-use stab_core::StartFault;
+use stab_core::{StartFault, run_link};
 use stab_job::Job;
 use stab_script::LinkJob;
+use stab_task::{CliFault, write_text};
 use stab_treecore::TreeStartFault;
 use std::alloc::Global;
+use std::io::Write;
+
+/// A run that was replayed to its end, and is still to be drawn; or a whole drawing.
+#[derive(Debug, Drop)]
+pub enum Drawing {
+    /// The run of a link job.
+    Link(LinkJob),
+    /// The run of a job's schedule.
+    Schedule(Job),
+    /// A picture, or the text of a scenario's run.
+    Whole(String),
+}
 
 /// The run of a scenario that was read.
 pub(crate) fn scenario_run(
     alloc: Global,
     is_picture: bool,
     scenario: &Scenario,
-) -> Result<String, ScenarioFault>
-    ensures text { IfOk result (λ text.
-        is_picture ≡ false → string_bytes text ≡ scenario_run_text scenario.now) }
+) -> Result<Drawing, ScenarioFault>
+    ensures text { IfOk result (λ drawing.
+        is_picture ≡ false → drawn_text drawing ≡ scenario_run_text scenario.now) }
     ensures refused { IfErr result (IsUnrun scenario.now.job scenario.now.steps) }
 {
     if is_picture {
-        scenario_picture(alloc, scenario)
+        let text = scenario_picture(alloc, scenario)?;
+        Ok(Drawing::Whole(text))
     } else {
-        scenario_run_text(alloc, scenario)
+        let text = scenario_run_text(alloc, scenario)?;
+        Ok(Drawing::Whole(text))
     }
 }
 
 /// The run of a link job that was read.
-pub(crate) fn link_run(alloc: Global, is_picture: bool, job: &LinkJob) -> Result<String, StartFault>
-    ensures text { IfOk result (λ text.
-        is_picture ≡ false → string_bytes text ≡ run_text job.now) }
-    ensures lawful { OnOk result (IsLawful job.now.params job.now.start) }
-    ensures refused { IfErr result (IsReason job.now.params job.now.start) }
+pub(crate) fn link_run(alloc: Global, is_picture: bool, job: LinkJob) -> Result<Drawing, StartFault>
+    ensures text { IfOk result (λ drawing.
+        is_picture ≡ false → drawn_text drawing ≡ run_text job) }
+    ensures lawful { OnOk result (IsLawful job.params job.start) }
+    ensures refused { IfErr result (IsReason job.params job.start) }
 {
     if is_picture {
-        link_picture(alloc, job)
-    } else {
-        run_text(alloc, job)
+        let text = link_picture(alloc, &job)?;
+        return Ok(Drawing::Whole(text));
     }
+    let end = run_link(alloc, job.params, &job.start, job.events.as_slice())?;
+    drop(end);
+    Ok(Drawing::Link(job))
 }
 
 /// The run of the schedule of a job that was read.
-pub(crate) fn tree_run(alloc: Global, is_picture: bool, job: &Job) -> Result<String, TreeStartFault>
-    ensures text { IfOk result (λ text. is_picture ≡ false
-        → string_bytes text ≡ schedule_run_text (network job.now) job.now.schedule) }
-    ensures network { OnOk result (IsNetwork (network job.now)) }
-    ensures named { OnOk result (All (NamesLink job.now.tree.parents) job.now.schedule) }
-    ensures refused { IfErr result (IsReplayReason job.now) }
+pub(crate) fn tree_run(alloc: Global, is_picture: bool, job: Job) -> Result<Drawing, TreeStartFault>
+    ensures text { IfOk result (λ drawing. is_picture ≡ false
+        → drawn_text drawing ≡ schedule_run_text (network job) job.schedule) }
+    ensures network { OnOk result (IsNetwork (network job)) }
+    ensures named { OnOk result (All (NamesLink job.tree.parents) job.schedule) }
+    ensures refused { IfErr result (IsReplayReason job) }
 {
     if is_picture {
-        schedule_picture(alloc, job)
-    } else {
-        schedule_run_text(alloc, job)
+        let text = schedule_picture(alloc, &job)?;
+        return Ok(Drawing::Whole(text));
+    }
+    let end = job.replay(alloc)?;
+    drop(end);
+    Ok(Drawing::Schedule(job))
+}
+
+/// Draws a run, and writes it in blocks; a whole drawing is written at once.
+#[tactic(auto, using(rignolda_draw::proofs::ForCallers::all_appended))]
+pub(crate) fn write_drawing<W: Write>(
+    alloc: Global,
+    writer: &mut W,
+    drawing: Drawing,
+) -> Result<(), CliFault>
+    ensures written { OnOk result
+        (Appends (W.contents writer.old) (W.contents writer.new) (drawn_text drawing)) }
+    ensures fault { IfErr result (λ fault. fault ≢ CliFault.Write → fault ≡ CliFault.Memory) }
+    ensures begun { IfErr result (λ fault. fault ≢ CliFault.Write
+        → Begun (W.contents writer.old) (W.contents writer.new) (drawn_text drawing)) }
+{
+    match write_first(alloc, writer, drawing) {
+        Ok(last) => write_text(writer, &last),
+        Err(OutputFault::Memory) => Err(CliFault::Memory),
+        Err(OutputFault::Write) => Err(CliFault::Write),
+    }
+}
+
+/// Draws a run, and writes all but the last of it, which is handed out.
+#[tactic(auto, using(rignolda_draw::proofs::ForCallers::kept_whole))]
+fn write_first<W: Write>(
+    alloc: Global,
+    writer: &mut W,
+    drawing: Drawing,
+) -> Result<String, OutputFault>
+    ensures written { IfOk result (λ last. Written (W.contents writer.old)
+        (W.contents writer.new) (string_bytes last) (drawn_text drawing)) }
+    ensures begun { IfErr result (λ fault. fault ≢ OutputFault.Write
+        → Begun (W.contents writer.old) (W.contents writer.new) (drawn_text drawing)) }
+{
+    match drawing {
+        Drawing::Link(job) => write_run(alloc, writer, &job),
+        Drawing::Schedule(job) => write_schedule_run(alloc, writer, &job),
+        Drawing::Whole(text) => Ok(text),
     }
 }

@@ -1,2 +1,3 @@
 pub mod Joined
 pub mod Going
+pub mod ForCallers

@@ -2,3 +2,4 @@ pub mod Words
 pub mod Runs
 pub mod Schedules
 pub mod Rows
+pub mod Written

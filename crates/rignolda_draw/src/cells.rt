@@ -7,7 +7,7 @@ ghost use Rattle.rignolda_draw.specs.Schedules.{act_word, name_cell};
 ghost use Rattle.rignolda_draw.specs.Words.{cell, effect_word, event_word, frame_word, item_word};
 ghost use Rattle.rignolda_draw.specs.Words.{queue_word};
 
-use crate::words::{push_acks, push_decimal, push_effect, push_event, push_frames, push_item};
+use crate::words::{push_acks, push_decimal, push_event, push_frames, push_item};
 use stab_core::{Effect, Event, Link};
 use stab_frames::Item;
 use stab_tree::{NodeId, Tree};
@@ -30,7 +30,7 @@ pub fn push_state_cells(
     push_acks_cell(text, link)?;
     push_recv_label_cell(text, link)?;
     push_item(text, delivered)?;
-    text.push_str("\n")
+    text.push('\n')
 }
 
 /// The item that the sender holds.
@@ -41,8 +41,26 @@ pub(crate) fn held(link: &Link) -> Option<Item>
 }
 
 /// Adds an event in its column.
-#[tactic(auto, unfolding(crate::specs::Words::cell))]
+#[tactic(auto, unfolding(crate::specs::Words::cell, crate::specs::Words::event_word))]
 pub(crate) fn push_event_cell(text: &mut String, event: Event) -> Result<(), AllocError>
+    ensures { OnOk result
+        (string_bytes text.new ≡ string_bytes text.old ++ cell 19 (event_word event)) }
+{
+    match event {
+        Event::SendFrame => text.push_str("\"send_frame\"        "),
+        Event::RecvFrame { keep: false } => text.push_str("\"recv_frame\"        "),
+        Event::RecvFrame { keep: true } => text.push_str("\"recv_frame_keep\"   "),
+        Event::SendAck => text.push_str("\"send_ack\"          "),
+        Event::RecvAck { keep: false } => text.push_str("\"recv_ack\"          "),
+        Event::RecvAck { keep: true } => text.push_str("\"recv_ack_keep\"     "),
+        Event::Close => text.push_str("\"close\"             "),
+        Event::Offer(_) | Event::LoseFrame(_) | Event::LoseAck(_) => push_longer(text, event),
+    }
+}
+
+/// Adds an event with a number in its column.
+#[tactic(auto, unfolding(crate::specs::Words::cell))]
+fn push_longer(text: &mut String, event: Event) -> Result<(), AllocError>
     ensures { OnOk result
         (string_bytes text.new ≡ string_bytes text.old ++ cell 19 (event_word event)) }
 {
@@ -87,14 +105,22 @@ fn name_of(tree: &Tree, node: NodeId) -> &str
 }
 
 /// Adds an effect in its column.
-#[tactic(auto, unfolding(crate::specs::Words::cell))]
+#[tactic(auto, unfolding(crate::specs::Words::cell, crate::specs::Words::effect_word))]
 pub(crate) fn push_effect_cell(text: &mut String, effect: Effect) -> Result<(), AllocError>
     ensures { OnOk result
         (string_bytes text.new ≡ string_bytes text.old ++ cell 7 (effect_word effect)) }
 {
-    let from = text.len();
-    push_effect(text, effect)?;
-    pad(text, from, 7)
+    text.push_str(match effect {
+        Effect::Nothing => "Nothing ",
+        Effect::Held => "Held    ",
+        Effect::Sent => "Sent    ",
+        Effect::Fresh(_) => "Fresh   ",
+        Effect::Old => "Old     ",
+        Effect::Acked => "Acked   ",
+        Effect::Ignored => "Ignored ",
+        Effect::Lost => "Lost    ",
+        Effect::Closed => "Closed  ",
+    })
 }
 
 /// Adds a label or a count in a narrow column.

@@ -9,6 +9,7 @@
 
 mod cells;
 mod next;
+mod output;
 mod row;
 mod rows;
 mod run;
@@ -17,7 +18,8 @@ mod stopped;
 mod words;
 
 pub use cells::{push_name_cell, push_number_cell, push_state_cells};
+pub use output::{OutputFault, write_block};
 pub use row::Row;
 pub use rows::{link_rows, push_step_row, schedule_rows};
-pub use run::{push_start_line, run_text};
-pub use schedule::{push_step_line, schedule_run_text};
+pub use run::{push_start_line, write_run};
+pub use schedule::{push_step_line, write_schedule_run};

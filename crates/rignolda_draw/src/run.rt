@@ -1,43 +1,97 @@
-ghost use Rattle.std.specs.Prelude.{◌≡◌, ◌++◌, string_bytes, IfErr, IfOk, OnOk};
-ghost use Rattle.stab_core.specs.Link.{IsReason, link_at};
-ghost use Rattle.stab_core.specs.Replay.{IsLawful};
+ghost use Rattle.std.specs.Prelude.{◌≡◌, ◌≢◌, ◌++◌, string_bytes, IfErr, IfOk, OnOk};
+ghost use Rattle.std.specs.Io.KnownBytes.{Keeps};
+ghost use Rattle.stab_core.specs.Link.{link_at};
+ghost use Rattle.stab_core.specs.Replay.{initial};
 ghost use Rattle.stab_core.specs.Step.{step};
-ghost use Rattle.rignolda_draw.specs.Runs.{event_line, event_lines, run_text, start_line, state_cells};
+ghost use Rattle.rignolda_draw.specs.Written.{Begun, Written};
+ghost use Rattle.rignolda_draw.specs.Runs.{event_line, event_lines, head, run_text, start_line};
+ghost use Rattle.rignolda_draw.specs.Runs.{state_cells};
 
 use crate::cells::{push_effect_cell, push_event_cell, push_state_cells};
+use crate::output::{OutputFault, write_block};
 use crate::words::delivered_by;
-use stab_core::{Event, Link, StartFault};
+use stab_core::{Event, Link};
 use stab_script::LinkJob;
 use std::alloc::{AllocError, Global};
+use std::io::Write;
 
 /// The names of the columns, which are the first line of a run.
 const HEAD: &str =
     "event               effect  label holds acked frames      acks    remembers delivers\n";
 
-/// The run of a link job: the names of the columns, the link at its start, and a line for each
-/// event with the link after it. It refuses a start as `stab link` does.
-#[tactic(auto, unfolding(crate::specs::Runs::head))]
-pub fn run_text(alloc: Global, job: &LinkJob) -> Result<String, StartFault>
-    ensures text { IfOk result (λ text. string_bytes text ≡ run_text job.now) }
-    ensures lawful { OnOk result (IsLawful job.now.params job.now.start) }
-    ensures refused { IfErr result (IsReason job.now.params job.now.start) }
+/// Draws the run of a link job: the names of the columns, the link at its start, and a line for
+/// each event with the link after it. All but the last of the text is written; that is handed out.
+///
+/// The run was replayed before, so nothing but memory is refused.
+#[tactic(auto, using(crate::proofs::ForCallers::not_begun))]
+pub fn write_run<W: Write>(
+    alloc: Global,
+    writer: &mut W,
+    job: &LinkJob,
+) -> Result<String, OutputFault>
+    ensures run { IfOk result (λ last. Written (W.contents writer.old) (W.contents writer.new)
+        (string_bytes last) (run_text job.now)) }
+    ensures begun { IfErr result (λ fault. fault ≢ OutputFault.Write
+        → Begun (W.contents writer.old) (W.contents writer.new) (run_text job.now)) }
 {
-    let mut link = Link::new(alloc, job.params, &job.start)?;
-    let mut text = String::from_str(alloc, HEAD)?;
-    push_start_line(&mut text, &link)?;
-    push_event_lines(&mut text, &mut link, job.events.as_slice())?;
+    let Ok(mut link) = Link::new(alloc, job.params, &job.start) else {
+        return Err(OutputFault::Memory);
+    };
+    let mut text = first_lines(alloc, &link)?;
+    write_event_lines(writer, &mut text, &mut link, job.events.as_slice())?;
     Ok(text)
 }
 
-/// Adds a line for each of these events. Where memory is refused, a part of them may be there.
-fn push_event_lines(text: &mut String, link: &mut Link, events: &[Event]) -> Result<(), AllocError>
-    ensures { OnOk result (string_bytes text.new ≡ string_bytes text.old
-        ++ event_lines link.old.params link.old.state events.now) }
+/// The names of the columns, and the line of the start.
+#[tactic(auto, unfolding(crate::specs::Runs::head))]
+fn first_lines(alloc: Global, link: &Link) -> Result<String, AllocError>
+    ensures { IfOk result (λ text. string_bytes text ≡ head ++ start_line link.now.state) }
+{
+    let mut text = String::from_str(alloc, HEAD)?;
+    push_start_line(&mut text, link)?;
+    Ok(text)
+}
+
+/// Adds a line for each of these events, and writes what has grown to a block. Where it stops, a
+/// part of them may be there.
+#[tactic(auto, using(crate::proofs::ForCallers::kept_whole, crate::proofs::ForCallers::begun_here))]
+fn write_event_lines<W: Write>(
+    writer: &mut W,
+    text: &mut String,
+    link: &mut Link,
+    events: &[Event],
+) -> Result<(), OutputFault>
+    ensures lines { OnOk result (Written (W.contents writer.old) (W.contents writer.new)
+        (string_bytes text.new)
+        (string_bytes text.old ++ event_lines link.old.params link.old.state events.now)) }
+    ensures begun { IfErr result (λ fault. fault ≢ OutputFault.Write
+        → Begun (W.contents writer.old) (W.contents writer.new)
+        (string_bytes text.old ++ event_lines link.old.params link.old.state events.now)) }
 {
     for event in events {
-        push_event_line(text, link, *event)?;
+        write_event_line(writer, text, link, *event)?;
     }
     Ok(())
+}
+
+/// Takes a step, adds its line, and writes what has grown to a block.
+#[tactic(auto, using(crate::proofs::ForCallers::kept_bytes))]
+fn write_event_line<W: Write>(
+    writer: &mut W,
+    text: &mut String,
+    link: &mut Link,
+    event: Event,
+) -> Result<(), OutputFault>
+    ensures line { OnOk result (Written (W.contents writer.old) (W.contents writer.new)
+        (string_bytes text.new)
+        (string_bytes text.old ++ event_line event link.old.params link.old.state)) }
+    ensures steps { OnOk result (link.new
+        ≡ link_at link.old.params (step link.old.params link.old.state event)) }
+    ensures unwritten { IfErr result (λ fault. fault ≢ OutputFault.Write
+        → Keeps (W.contents writer.old) (W.contents writer.new)) }
+{
+    push_event_line(text, link, event)?;
+    write_block(writer, text)
 }
 
 /// Adds the line of the start.

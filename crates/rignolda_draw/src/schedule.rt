@@ -1,67 +1,67 @@
 ghost use Rattle.std.specs.Prelude.{◌↔◌, IsErrOf};
-ghost use Rattle.std.specs.Prelude.{◌≡◌, ◌++◌, ◌<◌, All, length, string_bytes, IfErr, IfOk, OnOk};
+ghost use Rattle.std.specs.Prelude.{◌≡◌, ◌≢◌, ◌++◌, ◌<◌, length, string_bytes};
+ghost use Rattle.std.specs.Prelude.{[], Some, IfErr, IfOk, OnOk};
+ghost use Rattle.std.specs.Io.KnownBytes.{Keeps};
+ghost use Rattle.std.specs.Option.{option_map_or};
 ghost use Rattle.stab_job.specs.JobValues.{network};
-ghost use Rattle.stab_job.specs.Replays.{IsReplayReason};
-ghost use Rattle.stab_treecore.specs.Network.{IsNetwork};
-ghost use Rattle.stab_treecore.specs.Refusals.{IsStepReason, NamesLink, NamesNoLink};
+ghost use Rattle.stab_treecore.specs.Refusals.{NamesLink, NamesNoLink};
 ghost use Rattle.stab_treecore.specs.TreeStep.{event_on, next_item, tree_effect, tree_step};
 ghost use Rattle.stab_treecore.specs.WholeTree.{link_into};
+ghost use Rattle.rignolda_draw.specs.Written.{Begun, Written};
 ghost use Rattle.rignolda_draw.specs.Schedules.{link_line, link_start_line, node_start_line};
 ghost use Rattle.rignolda_draw.specs.Schedules.{schedule_run_text, start_lines, step_line};
 ghost use Rattle.rignolda_draw.specs.Schedules.{step_lines, tree_head};
-ghost use Rattle.std.specs.Option.{option_map_or};
-ghost use Rattle.std.specs.Prelude.{[], Some};
 
 use crate::cells::{push_act_cell, push_effect_cell, push_name_cell, push_state_cells};
 use crate::next::event_on;
+use crate::output::{OutputFault, write_block};
 use crate::run::push_start_line;
-use crate::stopped::stopped;
 use crate::words::delivered_by;
 use stab_core::{Effect, Event, Link};
 use stab_job::Job;
 use stab_tree::{NodeId, Tree};
-use stab_treecore::{TreeEvent, TreeStartFault, TreeState, TreeStepFault};
+use stab_treecore::{TreeEvent, TreeState, TreeStepFault};
 use std::alloc::{AllocError, Global};
+use std::io::Write;
 
 /// The names of the columns, which are the first line of a schedule's run.
 const HEAD: &str =
     "link      event               effect  label holds acked frames      acks    remembers delivers\n";
 
-/// The run of a job's schedule: the names of the columns, each link at its start, and a line for
-/// each event with its link after it. It refuses what [`Job::replay`] refuses.
-#[tactic(auto, using(stab_job::proofs::ForCallers::start_reason))]
-pub fn schedule_run_text(alloc: Global, job: &Job) -> Result<String, TreeStartFault>
-    ensures text { IfOk result (λ text.
-        string_bytes text ≡ schedule_run_text (network job.now) job.now.schedule) }
-    ensures network { OnOk result (IsNetwork (network job.now)) }
-    ensures named { OnOk result (All (NamesLink job.now.tree.parents) job.now.schedule) }
-    ensures refused { IfErr result (IsReplayReason job.now) }
+/// Draws the run of a job's schedule: the names of the columns, each link at its start, and a line
+/// for each event with its link after it. All but the last of the text is written; that is handed
+/// out.
+///
+/// The schedule was replayed before, so nothing but memory is refused.
+#[tactic(auto, using(crate::proofs::ForCallers::not_begun))]
+pub fn write_schedule_run<W: Write>(
+    alloc: Global,
+    writer: &mut W,
+    job: &Job,
+) -> Result<String, OutputFault>
+    ensures run { IfOk result (λ last. Written (W.contents writer.old) (W.contents writer.new)
+        (string_bytes last) (schedule_run_text (network job.now) job.now.schedule)) }
+    ensures begun { IfErr result (λ fault. fault ≢ OutputFault.Write
+        → Begun (W.contents writer.old) (W.contents writer.new)
+        (schedule_run_text (network job.now) job.now.schedule)) }
 {
-    let mut state = job.initial_tree(alloc)?;
-    match text_from(alloc, job.tree(), &mut state, job.schedule()) {
-        Ok(text) => Ok(text),
-        Err(fault) => Err(stopped(job, fault)),
-    }
+    let Ok(mut state) = job.initial_tree(alloc) else {
+        return Err(OutputFault::Memory);
+    };
+    let mut text = first_lines(alloc, job.tree(), &state)?;
+    write_step_lines(writer, &mut text, job.tree(), &mut state, job.schedule())?;
+    Ok(text)
 }
 
-/// The run from this state.
+/// The names of the columns, and the lines of the links at their starts.
 #[tactic(auto, unfolding(crate::specs::Schedules::tree_head, crate::specs::Runs::head))]
-fn text_from(
-    alloc: Global,
-    tree: &Tree,
-    state: &mut TreeState,
-    events: &[TreeEvent],
-) -> Result<String, TreeStepFault>
-    requires same_tree { state.old.parents ≡ tree.now.parents }
-    ensures text { IfOk result (λ text. string_bytes text ≡ tree_head
-        ++ start_lines tree.now state.old ++ step_lines tree.now state.old events.now) }
-    ensures named { OnOk result (All (NamesLink state.old.parents) events.now) }
-    ensures stops { IsErrOf result TreeStepFault.NoSuchLink
-        → IsStepReason state.old events.now TreeStepFault.NoSuchLink }
+fn first_lines(alloc: Global, tree: &Tree, state: &TreeState) -> Result<String, AllocError>
+    requires same_tree { state.now.parents ≡ tree.now.parents }
+    ensures { IfOk result (λ text.
+        string_bytes text ≡ tree_head ++ start_lines tree.now state.now) }
 {
     let mut text = String::from_str(alloc, HEAD)?;
     push_start_lines(&mut text, tree, state)?;
-    push_step_lines(&mut text, tree, state, events)?;
     Ok(text)
 }
 
@@ -96,25 +96,50 @@ fn push_node_start(
     }
 }
 
-/// Adds a line for each of these events. Where one is refused, a part of them may be there.
-#[tactic(auto, using(crate::proofs::Going::begins, crate::proofs::Going::stops_here, crate::proofs::Going::one_further, crate::proofs::Going::all_named))]
-fn push_step_lines(
+/// Adds a line for each of these events, and writes what has grown to a block. Where it stops, a
+/// part of them may be there.
+#[tactic(auto, using(crate::proofs::ForCallers::kept_whole, crate::proofs::ForCallers::begun_here))]
+fn write_step_lines<W: Write>(
+    writer: &mut W,
     text: &mut String,
     tree: &Tree,
     state: &mut TreeState,
     events: &[TreeEvent],
-) -> Result<(), TreeStepFault>
+) -> Result<(), OutputFault>
     requires same_tree { state.old.parents ≡ tree.now.parents }
-    ensures lines { OnOk result (string_bytes text.new
-        ≡ string_bytes text.old ++ step_lines tree.now state.old events.now) }
-    ensures named { OnOk result (All (NamesLink state.old.parents) events.now) }
-    ensures stops { IsErrOf result TreeStepFault.NoSuchLink
-        → IsStepReason state.old events.now TreeStepFault.NoSuchLink }
+    ensures lines { OnOk result (Written (W.contents writer.old) (W.contents writer.new)
+        (string_bytes text.new)
+        (string_bytes text.old ++ step_lines tree.now state.old events.now)) }
+    ensures begun { IfErr result (λ fault. fault ≢ OutputFault.Write
+        → Begun (W.contents writer.old) (W.contents writer.new)
+        (string_bytes text.old ++ step_lines tree.now state.old events.now)) }
 {
     for event in events {
-        push_step_line(text, tree, state, *event)?;
+        write_step_line(writer, text, tree, state, *event)?;
     }
     Ok(())
+}
+
+/// Takes a step, adds its line, and writes what has grown to a block.
+#[tactic(auto, using(crate::proofs::ForCallers::kept_bytes))]
+fn write_step_line<W: Write>(
+    writer: &mut W,
+    text: &mut String,
+    tree: &Tree,
+    state: &mut TreeState,
+    event: TreeEvent,
+) -> Result<(), OutputFault>
+    requires same_tree { state.old.parents ≡ tree.now.parents }
+    ensures line { OnOk result (Written (W.contents writer.old) (W.contents writer.new)
+        (string_bytes text.new) (string_bytes text.old ++ step_line tree.now state.old event)) }
+    ensures steps { OnOk result (state.new ≡ tree_step state.old event) }
+    ensures unwritten { IfErr result (λ fault. fault ≢ OutputFault.Write
+        → Keeps (W.contents writer.old) (W.contents writer.new)) }
+{
+    match push_step_line(text, tree, state, event) {
+        Ok(()) => write_block(writer, text),
+        Err(_) => Err(OutputFault::Memory),
+    }
 }
 
 /// Takes a step, and adds its line.

@@ -48,24 +48,6 @@ pub(crate) fn push_event(text: &mut String, event: Event) -> Result<(), AllocErr
     }
 }
 
-/// Adds the name of an effect.
-#[tactic(auto, unfolding(crate::specs::Words::effect_word))]
-pub(crate) fn push_effect(text: &mut String, effect: Effect) -> Result<(), AllocError>
-    ensures { OnOk result (string_bytes text.new ≡ string_bytes text.old ++ effect_word effect) }
-{
-    text.push_str(match effect {
-        Effect::Nothing => "Nothing",
-        Effect::Held => "Held",
-        Effect::Sent => "Sent",
-        Effect::Fresh(_) => "Fresh",
-        Effect::Old => "Old",
-        Effect::Acked => "Acked",
-        Effect::Ignored => "Ignored",
-        Effect::Lost => "Lost",
-        Effect::Closed => "Closed",
-    })
-}
-
 /// The item that the receiver delivered in a step with this effect.
 pub(crate) fn delivered_by(effect: Effect) -> Option<Item>
     ensures { result ≡ delivered_by effect }
@@ -83,7 +65,7 @@ pub(crate) fn push_item(text: &mut String, item: Option<Item>) -> Result<(), All
 {
     match item {
         Some(item) => push_decimal(text, u64::from(item)),
-        None => text.push_str("-"),
+        None => text.push('-'),
     }
 }
 
@@ -94,7 +76,7 @@ pub(crate) fn push_frames(text: &mut String, link: &Link) -> Result<(), AllocErr
         ++ queue_word frame_word link.now.state.frames) }
 {
     if link.frame_count() == 0 {
-        return text.push_str("-");
+        return text.push('-');
     }
     for place in 0..link.frame_count() {
         push_frame(text, place, link.frame_at(place))?;
@@ -114,7 +96,7 @@ fn push_frame(text: &mut String, place: u16, entry: Option<Frame>) -> Result<(),
     };
     push_comma(text, place)?;
     push_decimal(text, u64::from(frame.label))?;
-    text.push_str("=")?;
+    text.push('=')?;
     push_decimal(text, u64::from(frame.item))
 }
 
@@ -125,7 +107,7 @@ pub(crate) fn push_acks(text: &mut String, link: &Link) -> Result<(), AllocError
         ++ queue_word decimal link.now.state.acks) }
 {
     if link.ack_count() == 0 {
-        return text.push_str("-");
+        return text.push('-');
     }
     for place in 0..link.ack_count() {
         push_ack(text, place, link.ack_at(place))?;
@@ -152,9 +134,5 @@ fn push_ack(text: &mut String, place: u16, entry: Option<Label>) -> Result<(), A
 fn push_comma(text: &mut String, place: u16) -> Result<(), AllocError>
     ensures { OnOk result (string_bytes text.new ≡ string_bytes text.old ++ comma_before place) }
 {
-    if place > 0 {
-        text.push_str(",")
-    } else {
-        Ok(())
-    }
+    if place > 0 { text.push(',') } else { Ok(()) }
 }
