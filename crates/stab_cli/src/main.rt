@@ -1,7 +1,8 @@
 //! The program `stab`: reads a job, runs it, and prints what came of it.
 #![tactic(auto)]
 
-use stab_task::{CliFault, parse, perform, words};
+use stab_task::{CliFault, System, parse, perform, words};
+use std::io;
 use std::process::ExitCode;
 use std::rt::{Env, Files};
 use std::sync::Wait;
@@ -25,5 +26,6 @@ fn run<R: Env + Files + Input + Print + Threads + Wait + Clock + Send + Sync + A
 ) -> Result<(), CliFault> {
     let words = words(rt, rt.alloc())?;
     let (task, path) = parse(rt.alloc(), &words)?;
-    perform(rt, task, path)
+    let host = System::new(rt);
+    perform(rt, rt.alloc(), &host, task, path, &mut io::writer(rt))
 }

@@ -1,3 +1,4 @@
 pub mod Commands
 pub mod Refusals
 pub mod Unscheduled
+pub mod ToldBytes

@@ -3,3 +3,4 @@ pub mod Loading
 pub mod Answers
 pub mod Refusals
 pub mod CommandLine
+pub mod Hosts

@@ -11,6 +11,7 @@ mod answer;
 mod command;
 mod fault;
 mod file;
+mod host;
 mod link;
 mod run;
 
@@ -18,5 +19,6 @@ pub use answer::{act, write_text};
 pub use command::{Task, parse};
 pub use fault::CliFault;
 pub use file::{LoadFault, load};
+pub use host::{Host, System};
 pub use run::{perform, words};
 pub use stab_run::Links;
