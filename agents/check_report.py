@@ -55,16 +55,23 @@ def depth_of(name, parents):
     return depth
 
 
+def parts_of(job):
+    """By the name of a node its parent, its backlog and its opening; of one with a parent the start
+    and the capacity of its link."""
+    parents = {node["name"]: node.get("parent") for node in job["tree"]}
+    links = [name for name in parents if parents[name] is not None]
+    nothing = [[] for _ in parents]
+    has_openings = job.get("version", 1) == 2 and "backlogs" not in job
+    openings = job.get("openings", nothing) if has_openings else nothing
+    starts = job.get("starts", [{}] * len(links))
+    capacities = [(own or job)["capacity"] for own in job.get("links", [None] * len(links))]
+    return (parents, dict(zip(parents, job.get("backlogs", nothing))), dict(zip(parents, openings)),
+            dict(zip(links, starts)), dict(zip(links, capacities)))
+
+
 def fault(job, report):
     """What is wrong with a report, or nothing."""
-    parents = {node["name"]: node.get("parent") for node in job["tree"]}
-    backlogs = dict(zip(parents, job.get("backlogs", [[] for _ in parents])))
-    openings = [[] for _ in parents]
-    if job.get("version", 1) == 2 and "backlogs" not in job:
-        openings = job.get("openings", openings)
-    links = [name for name in parents if parents[name] is not None]
-    starts = dict(zip(links, job.get("starts", [{}] * len(links))))
-    own = dict(zip(links, job.get("links", [None] * len(links))))
+    parents, backlogs, openings, starts, capacities = parts_of(job)
     if not report.endswith("\n"):
         return "the last line does not end"
     lines = report[:-1].split("\n")
@@ -87,18 +94,18 @@ def fault(job, report):
             return f"{name}: the root alone has no acknowledged count"
         acked[name] = None if form[3] == "-" else int(form[3])
         ended[name] = form[4]
-    for at, (name, parent) in enumerate(parents.items()):
+    for name, parent in parents.items():
         if parent is None:
             if items[name] != job["items"]:
                 return f"{name}: the root has other items"
             continue
-        opening = openings[at]
+        opening = openings[name]
         if items[name][:len(opening)] != opening:
             return f"{name}: does not begin with its opening"
-        capacity = (own[name] or job)["capacity"]
         frames = [item for _, item in starts[name].get("frames", [])]
         above = backlogs[name] + items[parent]
-        if not obeys_link_law(above, items[name][len(opening):], acked[name], capacity, frames):
+        if not obeys_link_law(above, items[name][len(opening):], acked[name], capacities[name],
+                              frames):
             return f"{name}: the link law is broken"
         if ended[parent] == "upstream" and acked[name] != len(above):
             return f"{name}: not all of {parent} is acknowledged, which ended upstream"
@@ -123,21 +130,14 @@ def tree_fault(job, report):
     """Which node does not obey the tree law, or nothing. Every opening counts with its own length,
     and so does what an inner node had for the next one on the path; what the root had for its child
     counts as published. The report has a form that `fault` accepts."""
-    parents = {node["name"]: node.get("parent") for node in job["tree"]}
-    links = [name for name in parents if parents[name] is not None]
-    own = dict(zip(links, job.get("links", [None] * len(links))))
-    backlogs = dict(zip(parents, job.get("backlogs", [[] for _ in parents])))
-    openings = [[] for _ in parents]
-    if job.get("version", 1) == 2 and "backlogs" not in job:
-        openings = job.get("openings", openings)
-    openings = dict(zip(parents, openings))
+    parents, backlogs, openings, _, all_capacities = parts_of(job)
     for name, line in zip(parents, report.split("\n")[1::2]):
         strays = without = 0
         capacities = []
         published = job["items"]
         above = name
         while parents[above] is not None:
-            capacity = (own[above] or job)["capacity"]
+            capacity = all_capacities[above]
             strays, without = strays + capacity + len(openings[above]), without + capacity + 1
             capacities.append(capacity)
             if parents[parents[above]] is None:

@@ -84,8 +84,8 @@ def main():
         for tree in trees:
             if not until(lambda it=tree: not it.wrong(), 60):
                 sys.exit(f"idle: {len(tree.wrong())} agents of {tree.bin} lack settings")
-        # (reports after the start come to their rest)
-        time.sleep(15)
+        # (after a whole round nothing is done for the first time)
+        time.sleep(45)
         before = [[spent(agent.process.pid) for agent in tree] for tree in trees]
         began = time.monotonic()
         time.sleep(words.seconds)

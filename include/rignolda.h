@@ -60,7 +60,7 @@
  *     link's 2 * capacity + 1, and capacity + 1 of each link above it. Where each capacity is 1, at
  *     depth d M is 3 * d and N is 2 * d + 1. So N harmless items after a restart are enough. Fewer
  *     are not: under some schedule all N are missing (sharper_bounds_are_reached, a law of
- *     stab_reached). When the count begins, a child was offered nothing yet, or its sender holds
+ *     stab_convergence). When the count begins, a child was offered nothing yet, or its sender holds
  *     the first item of the list; what lies before that item in the buffer is not counted. Where
  *     the children of a node are at different items then, this is no one list, and the law holds of
  *     each path by itself, whatever the links beside it do: there the list of a node begins with

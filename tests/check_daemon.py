@@ -69,7 +69,7 @@ def main():
                         *APART)
         cases.works("each planted bug fits", "tests/daemon/planted.py", "--fits")
         cases.works("the demonstration goes as it says", "tests/daemon/demo")
-        for script in "check_judge.py", "check.py", "check_validators.py":
+        for script in "check.py", "check_validators.py":
             said = ran(f"tests/daemon/{script}")[1]
             print(said, end="", flush=True)
             found = re.search(r"^(\d+) passed, (\d+) failed\n\Z", said, re.M)

@@ -5,7 +5,6 @@ tests/try_edits.py with one in the place of the prover.
 Nothing is proved, and nothing of this repository is touched. The test takes some seconds. Its last
 line is 'N passed, M failed'.
 """
-import json
 import os
 import re
 import sys
@@ -116,6 +115,8 @@ page = house.top / "out/gate.md"
 holds("and in a table", all(
     re.search(fr"^\| `{it}` \| [0-9.]+ \| [0-9.]+ \|$", page.read_text(), re.M)
     for it in ("rt ci", "tests/try_edits.py", "the others")))
+holds("which has all that it took",
+      re.search(r"^\*\*[0-9.]+ minutes, [0-9.]+ processor minutes, ", page.read_text(), re.M))
 holds("it says how many tasks run at once, and why", re.search("^gate: [0-9]+ tasks at once: "
       "[0-9]+ processors, and .* for [0-9]+ tasks of 3.0 GB$", said, re.M))
 run(RT_JOBS="3")
@@ -204,36 +205,6 @@ for first, wanted, name in (
     holds(name, house.read("begun").split("\n")[:-1] == wanted)
 pages_and_release()
 
-# What a whole run is said to have cost: three crates, each of the last two over the first.
-house.write("crates.txt", "low:\nmid may_wait=1: low thiserror\nstab_cli: low\n")
-NONE = dict.fromkeys(("proof", "tests", "edits", "programs"), 0)
-COSTS = {"peak": 1, "own": 1, "largest": [1, "it"], "share": "", "parts": {"rt ci": [360, 420]},
-         "crates": {
-             "low": {**NONE, "proof": 60, "edits": 90}, "mid": {**NONE, "proof": 60, "tests": 120},
-             "stab_cli": {**NONE, "proof": 100, "programs": 20}}}
-
-
-def table(costs):
-    """The table of these costs, of a gate that took seven minutes."""
-    house.run("python3", "-B", "-c", "import json, sys, types; sys.path.insert(0, 'tools')\n"
-              "import costs; read = json.load(sys.stdin); crates = read.pop('crates')\n"
-              "it = types.SimpleNamespace(**read, by_crate=lambda: crates)\n"
-              f"costs.write_table(it, '{house.work}/page', 420.0, 480.0)",
-              given=json.dumps(costs), cwd=house.top)
-    return house.read("page")
-
-
-text = table(COSTS)
-holds("what it took is in the table", "**7.0 minutes, 8.0 processor minutes, " in text)
-holds("and what its parts took", "\n| `rt ci` | 6.0 | 7.0 |\n" in text)
-holds("and each crate", {
-    "| `low` | 1.0 | 0.0 | 1.5 | 0.0 | 2.5 |", "| `mid` | 1.0 | 2.0 | 0.0 | 0.0 | 3.0 |",
-    "| all | 3.7 | 2.0 | 1.5 | 0.3 | 7.5 |"} <= {*text.split("\n")})
-holds("and the longest chain of crates",
-      "The longest chain of crates, each proved over the one before, takes 3.0 minutes." in text)
-holds("a run that took most from earlier ones is said to be none from nothing",
-      "**This was not a run from nothing:** `rt ci` did 2 of the 9 proofs, and"
-      in table({**COSTS, "share": "2 of the 9 proofs"}))
 run("echo 'rt: ok; handles allowed: none; done in this run: 3 of the 9 proofs (of crates and of"
     " their tests); the others are kept from earlier runs of the same files on this machine'\n"
     "echo 9 passed, 0 failed")
@@ -243,7 +214,6 @@ remove(house.top / "tests/edits")
 
 # The loop of a developer, in a house of four crates: a program over mid, which has tests and is
 # over low; and a crate beside them. What rt does with a crate is in the file steps.
-house.command(house.work / "program", '[ "$#" -eq 0 ] || { echo "$*; $(cat); $(ls)"; exit 7; }')
 house.write("crates.txt", "low:\nmid: low\nbeside: low\nprogram: mid\n")
 house.write("crates/mid/src/tests.rt", "#[test]\nfn holds() {}\n")
 house.write("crates/program/src/main.rt")
@@ -260,12 +230,6 @@ def run_only(fails, *crates):
         [ "$1" != must-fail ] || at=$2
         echo "$1 $at" >>"$WORK/steps"
         echo "what rt says of $1 $at"
-        if [ "$1 $at" = 'run program' ] && [ '{fails}' != 'run program' ]; then
-            mkdir -p out
-            cp "$WORK/program" out/program
-            echo 'rt: running out/program; to give it other input, run that file yourself' >&2
-            exit 9
-        fi
         if [ "$1" = must-fail ]; then
             echo "rt: must-fail $2/a.edit: refused, as it must be: x"
             echo "rt: must-fail $2/b.edit: refused, as it must be: x"
@@ -282,7 +246,6 @@ def did(status, last, *steps):
 
 
 MID = "lib mid", "test mid", "check program", "must-fail mid"
-PROGRAM = "check program", "run program"
 said = run_only("", "mid").out
 holds("a crate, its tests and those above it, and then planted bugs",
       did(0, "5 passed, 0 failed", *MID))
@@ -298,20 +261,7 @@ run_only("", "mid")
 holds("and those that are tried apart", did(1, "7 passed, 1 failed", *MID, "apart mid"))
 remove(house.top / "tests/edits")
 run_only("", "program", "beside")
-holds("two crates, and no more", did(0, "3 passed, 0 failed", "lib beside", *PROGRAM))
-FILES = {"args": "one\ntwo words\n", "stdout": "one two words; in; data.txt\n", "stdin": "in",
-         "status": "7\n", "data/data.txt": ""}
-for name, changed, failed in (
-        ("a program that is named is run on its data", {}, 0),
-        ("and fails with another status", {"status": "3\n"}, 1),
-        ("or where it prints something else", {"stdout": f"{FILES['stdout']}more\n"}, 1)):
-    for file, text in {**FILES, **changed}.items():
-        house.write(f"crates/program/{file}", text)
-    run_only("", "program")
-    holds(name, did(failed, f"{2 - failed} passed, {failed} failed", *PROGRAM))
-remove(*(house.top / "crates/program" / it for it in ("out", "data", *FILES)))
-run_only("run program", "program")
-holds("or is not built", did(1, "1 passed, 1 failed", *PROGRAM))
+holds("two crates, and no more", did(0, "2 passed, 0 failed", "lib beside", "check program"))
 run_only("", "low")
 holds("all that stand on the lowest", ended(0, "9 passed, 0 failed")
       and sorted(house.read("steps").split("\n")[:-1]) == [

@@ -1,23 +1,17 @@
 #!/usr/bin/env -S python3 -B
-"""Looks for what the laws exclude, by the rules of tests/faults/reference.py alone.
+"""Looks for what no law excludes, by the rules of tests/faults/reference.py alone.
 
     tests/check_laws.py [N]     N random trees for each search, 200 by default
 
 It looks in random trees for
 
-- a node that breaks the law counted from the last fault that hit it;
 - a fault, after a rest, that costs more than `rignolda bounds` says;
-- a node that has not come back after as many rounds, or reading rounds, of its path as are said to
-  be enough, once no fault hits it, though faults go on elsewhere; or that receives anything but
-  what is published then, where each link of its path had acknowledged 2c + 2 items since;
-- a tree, from any start, that has not handed on everything after as many rounds, or reading rounds,
-  as are said to be enough;
+- a node that has not come back after as many reading rounds of its path as are said to be enough,
+  once no fault hits it, though faults go on elsewhere.
 
-and in all states of a link, of capacities 1 to 3, for more than 2c rounds that acknowledge nothing,
-and for more than c frames and then c acknowledgements that are received in vain.
-
-Nothing of it is made from the crates. It says how near the bounds came, and prints the values that
-the tests of rounds in tests_protocol expect. The last line is 'N passed, M failed'.
+The second is proved (`laws::nodes_converge`), and here it is said how near the bounds came. Nothing
+of it is made from the crates. It prints the values that the tests of rounds in tests_protocol
+expect, too. The last line is 'N passed, M failed'.
 """
 import itertools
 import random
@@ -56,17 +50,6 @@ def happen(rng, tree, new, times, publishes, faults=0, places=()):
             tree.act(node, rng.choice(ACTS), rng.randint(0, 2))
 
 
-def from_last_fault(rng):
-    """How far the nodes of a tree are below their bounds, counted from their last fault."""
-    tree, new = random_tree(rng), itertools.count()
-    nodes = range(1, len(tree.parents))
-    counts = dict.fromkeys(nodes, Count(tree))
-    for place in happen(rng, tree, new, rng.randint(50, 260), 0.04, rng.randint(0, 6), nodes):
-        counts.update({n: moment for moment in [Count(tree)] for n in nodes
-                       if place in tree.path(n)})
-    return [counts[n].slack(tree, n) for n in nodes]
-
-
 def costs(rng):
     """How far the nodes that a fault hits are below what it may cost: the link into one node is
     struck, or one restarts with a list of its own, and all its links are struck."""
@@ -102,8 +85,7 @@ def costs(rng):
 
 
 class Reading:
-    """What a reading round of a link waits for, and whether one is complete. With capacity 0 it is
-    any round."""
+    """What a reading round of a link waits for, and whether one is complete."""
 
     def __init__(self, capacity):
         self.capacity, self.left, self.is_complete = capacity, 0, False
@@ -130,9 +112,9 @@ class Reading:
             self.left = self.capacity
 
 
-def path_round(rng, tree, way, new, is_reading):
-    """Each link of a path completes a round; faults hit other nodes alone."""
-    reads = {n: Reading(tree.links[n].capacity * is_reading) for n in way}
+def path_round(rng, tree, way, new):
+    """Each link of a path completes a reading round; faults hit other nodes alone."""
+    reads = {n: Reading(tree.links[n].capacity) for n in way}
     others = [n for n in range(1, len(tree.parents)) if n not in way]
     while not all(it.is_complete for it in reads.values()):
         draw = rng.random()
@@ -147,13 +129,6 @@ def path_round(rng, tree, way, new, is_reading):
         tree.act(node, act, rng.randint(0, 1))
         if node in reads:
             reads[node].see(act)
-
-
-def enough(tree, way, is_reading):
-    """How many rounds of a path are said to be enough."""
-    each = 1 if is_reading else 2 * max(tree.links[n].capacity for n in way) + 1
-    return each * (sum(len(tree.backlog(n)) for n in way)
-                   + sum(tree.links[n].capacity for n in way[1:]) + 1) + len(way[1:])
 
 
 def is_handed_on(tree, way):
@@ -172,136 +147,24 @@ def is_complete(count, tree, node):
     return False
 
 
-def comes_back(rng, is_reading):
+def comes_back(rng):
     """How many rounds too many were said to be enough for one node to come back."""
     tree, new = random_tree(rng), itertools.count()
     nodes = range(1, len(tree.parents))
     node = rng.choice(nodes)
     way = list(tree.path(node))
-    count, acked = Count(tree), {n: tree.links[n].acked for n in way}
+    count = Count(tree)
     for place in happen(rng, tree, new, rng.randint(20, 300), 0.06, rng.randint(0, 6), nodes):
         if place in way:
-            count, acked = Count(tree), {n: tree.links[n].acked for n in way}
-    rounds = enough(tree, way, is_reading)
+            count = Count(tree)
+    rounds = (sum(len(tree.backlog(n)) for n in way)
+              + sum(tree.links[n].capacity for n in way[1:]) + 1 + len(way[1:]))
     handed_on = []
     for _ in range(rounds):
-        path_round(rng, tree, way, new, is_reading)
+        path_round(rng, tree, way, new)
         handed_on.append(is_handed_on(tree, way))
     assert handed_on[-1] and is_complete(count, tree, node), (node, count.of(tree, node))
-    if all(tree.links[n].acked >= acked[n] + 2 * tree.links[n].capacity + 2 for n in way):
-        had, root_had = len(tree.list_of(node)), len(tree.published)
-        others = [n for n in nodes if n not in way]
-        list(happen(rng, tree, new, rng.randint(20, 200), 0.1, 1000, others))
-        later, published = tree.list_of(node)[had:], tree.published[root_had:]
-        assert later == published[:len(later)], (node, later, published)
-        for _ in range(enough(tree, way, is_reading)):
-            path_round(rng, tree, way, new, is_reading)
-        assert tree.list_of(node)[had:] == published, node
     return [(rounds - 1 - handed_on.index(True),)]
-
-
-def tree_from_start(rng):
-    """A tree with any starts, and with openings up to a hold, which it answers as well."""
-    count = rng.randint(2, 7)
-    parents = [None] + [rng.choice([n, rng.randrange(n + 1)]) for n in range(count - 1)]
-    tree = Tree(parents, [None], range(rng.choice((0, 1, 4, 9))))
-    hold = rng.choice((0, 0, 2))
-    for n in range(1, count):
-        c = rng.choice((1, 1, 2, 3))
-        sizes = [c if rng.random() < 0.5 else rng.randint(0, c) for _ in range(2)]
-        label = lambda: rng.randrange(2 * c + 3)
-        tree.links.append(Link(c, 2 * c + 2, [(label(), -100 * n - i) for i in range(sizes[0])],
-                               [label() for _ in range(sizes[1])], rng.randrange(2 * c + 2),
-                               label()))
-        tree.openings[n] = [-1] * rng.randint(0, hold) if n in parents else []
-    return tree, hold
-
-
-def rounds_from_start(rng, is_reading):
-    """How many rounds too many were said to be enough until a tree has handed on everything."""
-    tree, hold = tree_from_start(rng)
-    nodes = range(1, len(tree.parents))
-    widest, most = max(tree.links[n].capacity for n in nodes), 0
-    for n in nodes:
-        above = list(tree.path(tree.parents[n]))
-        best = len(tree.published) + sum(tree.links[it].capacity + hold for it in above)
-        most = max(most, (1 if is_reading else 2 * widest + 1) * (best + 1) + len(above))
-    needed, is_lossy = 0, rng.random() < 0.3
-    while any(tree.backlog(n) or tree.links[n].frames for n in nodes) and needed <= most:
-        needed += 1
-        for n in sorted(nodes, reverse=rng.random() < 0.8):
-            link = tree.links[n]
-            for what in reading_round(link.capacity) if is_reading else ROUND:
-                tree.act(n, what)
-                for _ in range(rng.choice((0, 0, 1, 3))):
-                    tree.act(n, rng.choice(EXTRA))
-            if is_lossy and link.frames and rng.random() < 0.3:
-                link.frames.pop(rng.randrange(len(link.frames)))
-    return [(most - needed,)]
-
-
-def states_of(c):
-    """All states of a link of this capacity, of which only 'is it the sender's label' matters."""
-    bits = [it for n in range(c + 1) for it in itertools.product((0, 1), repeat=n)]
-    return {(frames, acks, recv) for frames in bits for acks in bits for recv in (0, 1)}
-
-
-def after(state, what, c):
-    """The state after an act, or None once the item is acknowledged."""
-    frames, acks, recv = state
-    if what == "send_frame" and len(frames) < c:
-        return frames + (1,), acks, recv
-    if what.startswith("recv_frame") and frames:
-        return frames[what == "recv_frame":], acks, frames[0]
-    if what == "send_ack" and len(acks) < c:
-        return frames, acks + (recv,), recv
-    if what.startswith("recv_ack") and acks:
-        return None if acks[0] else (frames, acks[what == "recv_ack":], recv)
-    return state
-
-
-def longest_in_vain(c):
-    """The most rounds that acknowledge nothing. Between their acts anything but a loss happens."""
-    states, rounds = states_of(c), -1
-    while states:
-        rounds += 1
-        for what in ROUND[1:]:
-            left = [*states]
-            while left:
-                state = left.pop()
-                more = {after(state, it, c) for it in [*ROUND[1:], *EXTRA]} - {None} - states
-                states |= more
-                left += more
-            states = {after(it, what, c) for it in states} - {None}
-    return rounds
-
-
-def receipts_in_vain(c):
-    """The most frames that are received before every frame and the receiver have the sender's
-    label, and then the most acknowledgements before the item is acknowledged; losses are free."""
-    def next_ones(state):
-        for kind, what in enumerate(("recv_frame", "recv_ack", "send_frame", "send_ack")):
-            found = after(state, what, c)
-            if found not in (None, state):
-                yield found, kind
-        for queue in 0, 1:
-            for i in range(len(state[queue])):
-                parts = list(state)
-                parts[queue] = state[queue][:i] + state[queue][i + 1:]
-                yield tuple(parts), None
-
-    def longest(counted, stays):
-        best, is_changed = {state: 0 for state in states_of(c) if stays(state)}, True
-        while is_changed:
-            is_changed = False
-            for state, (found, kind) in ((it, more) for it in best for more in next_ones(it)):
-                if found in best and best[found] + (kind == counted) > best[state]:
-                    best[state], is_changed = best[found] + (kind == counted), True
-            assert max(best.values()) < 100
-        return max(best.values())
-
-    is_there = lambda state: state[2] and all(state[0])
-    return longest(0, lambda state: not is_there(state)), longest(1, is_there)
 
 
 def print_values():
@@ -324,12 +187,7 @@ def print_values():
 
 def main():
     count, cases = int((sys.argv + [200])[1]), Cases()
-    for name, search in (
-            ("nodes since their last fault", from_last_fault), ("what a fault costs", costs),
-            ("a node comes back by rounds", lambda rng: comes_back(rng, False)),
-            ("a node comes back by reading rounds", lambda rng: comes_back(rng, True)),
-            ("rounds", lambda rng: rounds_from_start(rng, False)),
-            ("reading rounds", lambda rng: rounds_from_start(rng, True))):
+    for name, search in ("what a fault costs", costs), ("a node comes back", comes_back):
         found, fault = [], None
         for seed in range(count):
             try:
@@ -339,11 +197,6 @@ def main():
         nearest = [min(it) for it in zip(*found)]
         cases.holds(f"{name} in {count} trees, within {nearest} of the bounds",
                     not fault and min(nearest) >= 0, fault)
-    for c in (1, 2, 3):
-        cases.holds(f"capacity {c}: 2c rounds can be in vain, and no more",
-                    longest_in_vain(c) == 2 * c)
-        cases.holds(f"capacity {c}: c frames and then c acknowledgements",
-                    receipts_in_vain(c) == (c, c))
     print_values()
     return cases.sum_up()
 

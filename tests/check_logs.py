@@ -4,12 +4,13 @@
     tests/check_logs.py [COUNT [SEED]]     1,500 logs by default, the same each time
 
 Each draw is a tree with links of their own, items of which many may be equal, and what each node
-received: strays, and then items of its parent, with some of the first ones missing. Every second one
-is spoiled: items are swapped, doubled, altered, left out or added, or two nodes have one another's
-list. `rignolda judge` has to print what tests/faults/logs.py says, and to refuse what is no log as
+received: strays, and then items of its parent, with some of the first ones missing. Every second
+one is spoiled: items are swapped, doubled, altered, left out or added, or two nodes exchange their
+lists. `rignolda judge` has to print what tests/faults/logs.py says, and to refuse what is no log as
 man/rignolda.1 says. Beside these there are all runs of a chain of two links of capacity 1, found by
 a search through all states of a link: it has to accept what two items come to, and of what three
-come to, drawn ones; and of one link and three items it has to accept exactly what a run gives.
+come to, drawn ones; and of one link and three items it has to accept exactly what a run gives. By
+the logs of agents that tests/daemon/long.py has by hand it has to say what stands beside them.
 
 The program is the one of check_tables.py. The last line is 'N passed, M failed'.
 """
@@ -22,8 +23,9 @@ from concurrent.futures import ThreadPoolExecutor
 from pathlib import Path
 
 TOP = Path(__file__).resolve().parent.parent
-sys.path[:0] = [str(TOP / "tests/faults"), str(TOP / "tools")]
+sys.path[:0] = [str(TOP / part) for part in ("tests/faults", "tests/daemon", "tools")]
 
+import long
 from logs import delivered, kept, path_of, text_of
 from programs import answered, counted, run_with
 
@@ -39,7 +41,8 @@ REFUSED = [
     ({"received": [[]], "from": ["x"]}, SHAPE), ({"received": []}, LISTS),
     ({"received": [[], [], []]}, LISTS), ({"received": [[]], "from": [0]}, LISTS),
     ({"received": [[], []], "from": [0]}, PLACES), ({"received": [[], []], "from": []}, PLACES),
-    ({"received": [[], []], "from": [0, 3]}, PLACE), ({"received": [[], []], "from": [3, 0]}, PLACE),
+    ({"received": [[], []], "from": [0, 3]}, PLACE),
+    ({"received": [[], []], "from": [3, 0]}, PLACE),
     ({"received": [[], []], "from": [0, 65536]}, PLACE),
     ({"received": [[], []], "from": [4294967295, 0]}, PLACE),
     ({"received": [[], []], "from": [0, 4294967296]}, SHAPE),
@@ -117,7 +120,10 @@ def drawn(draw, is_spoiled):
         few = draw.choice([0, 0, few, draw.randrange(few + 1)])
         missing = capacities[node] + 1 + min(few, capacities[node])
         end = draw.choice([len(above), len(above), draw.randrange(len(above) + 1)])
-        front = [item for item in above[:min(missing, end)] if draw.random() < 0.5]
+        # (one more than may be missing is, now and then)
+        missing += is_spoiled and draw.random() < 0.3
+        kept_of_front = draw.choice([0, 0.5])
+        front = [item for item in above[:min(missing, end)] if draw.random() < kept_of_front]
         received[node] = [draw.randrange(top) for _ in range(few)] + front + above[missing:end]
     if is_spoiled:
         for _ in range(draw.choice([1, 2, 4])):
@@ -151,6 +157,13 @@ def of_runs(draw):
             yield {**JOB, "items": items, "received": [[], has]}, has in right
 
 
+def of_agents(file):
+    """The logs of agents that were made by hand, each with what is wrong in its verdict."""
+    for name, parts, wanted, *broken in long.CASES:
+        found = long.judged(file, *parts, broken=broken[0] if broken else ())
+        yield f"agents: {name}", None if found == wanted else f"{found}\nwanted {wanted}"
+
+
 def tried(file):
     """Tries all logs with this program."""
     count = int(sys.argv[1]) if len(sys.argv) > 1 else 1500
@@ -166,10 +179,11 @@ def tried(file):
         said += [(status, "", "") for status, _, _ in pool.map(judged, runs)]
     wanted += [(0 if is_run else 1, "", "") for _, is_run in runs]
     broken = sum(text != "obeys\n" for _, text in cases[:count])
-    print(f"logs: {count} drawn, of which {broken} do not obey, {len(REFUSED)} refused, and "
-          f"{len(runs)} of all that runs give")
-    return counted(((json.dumps(job), None if has == want else f"{has}\nwanted {want}")
-                    for (job, _), has, want in zip(cases + runs, said, wanted)), quiet=True)
+    print(f"logs: {count} drawn, of which {broken} do not obey, {len(REFUSED)} refused, "
+          f"{len(runs)} of all that runs give, and {len(long.CASES)} of agents")
+    faults = ((json.dumps(job), None if has == want else f"{has}\nwanted {want}")
+              for (job, _), has, want in zip(cases + runs, said, wanted))
+    return counted(itertools.chain(faults, of_agents(file)), quiet=True)
 
 
 if __name__ == "__main__":

@@ -1,7 +1,7 @@
 #!/usr/bin/env python3
 """Checks page/index.html in Chromium and Firefox, run headless, from a file. By hand:
 
-    tests/check_page.py [--jobs N] [--seed N] [--pictures FOLDER] [chromium|firefox]..
+    tests/check_page.py [--jobs N] [--seed N] [chromium|firefox]..
 
 It takes the commands `chromium` and `firefox-esr` (Debian's packages), and the programs.
 In each browser it looks that
@@ -38,8 +38,7 @@ In each browser it looks that
 - what is said of missing items fits the number of labels, and of an item whose frame is under way;
 - the buttons, the slider, the keys and the address do what they say;
 
-and with --pictures it keeps pictures, light and dark, wide and narrow. The last line is
-'N passed, M failed'.
+The last line is 'N passed, M failed'.
 """
 import argparse
 import base64
@@ -69,7 +68,7 @@ MOST_MILLISECONDS = 200
 MOST_MILLISECONDS_OF_A_STEP = 50
 SECONDS = 60
 
-WIDE, NARROW = (1100, 900), (390, 800)
+WIDE = 1100, 900
 SCREENS = (1280, 800), (1024, 768), (390, 844)
 CONTROLS = "button, input, select, textarea"
 
@@ -117,11 +116,9 @@ class Chromium:
                     raise RuntimeError(f"{method}: {said['error']}")
                 return said["result"]
 
-    def size(self, width, height, dark):
+    def size(self, width, height):
         self.ask("Emulation.setDeviceMetricsOverride", width=width, height=height,
                  deviceScaleFactor=1, mobile=width < 600)
-        scheme = {"name": "prefers-color-scheme", "value": "dark" if dark else "light"}
-        self.ask("Emulation.setEmulatedMedia", features=[scheme])
 
     def go(self, address):
         self.ask("Page.navigate", url="about:blank")
@@ -150,15 +147,6 @@ class Chromium:
         self.ask("Input.dispatchKeyEvent", type="keyDown", text=text, **same)
         self.ask("Input.dispatchKeyEvent", type="keyUp", **same)
 
-    def picture(self):
-        said = self.ask("Page.captureScreenshot", captureBeyondViewport=True,
-                        clip={"x": 0, "y": 0, "scale": 1, **self.whole()})
-        return base64.b64decode(said["data"])
-
-    def whole(self):
-        box = self.ask("Page.getLayoutMetrics")["cssContentSize"]
-        return {"width": box["width"], "height": box["height"]}
-
     def end(self):
         self.process.terminate()
         self.process.wait()
@@ -167,13 +155,12 @@ class Chromium:
 class Firefox:
     """Firefox, driven by its own protocol over a socket of this machine."""
 
-    def __init__(self, folder, dark=False):
+    def __init__(self, folder):
         with socket.socket() as any_port:
             any_port.bind(("127.0.0.1", 0))
             port = any_port.getsockname()[1]
-        prefs = {"marionette.port": port, "ui.systemUsesDarkTheme": int(dark),
-                 "layout.css.prefers-color-scheme.content-override": 0 if dark else 1,
-                 "browser.shell.checkDefaultBrowser": False, "app.update.enabled": False}
+        prefs = {"marionette.port": port, "browser.shell.checkDefaultBrowser": False,
+                 "app.update.enabled": False}
         lines = [f"user_pref({json.dumps(k)}, {json.dumps(v)});\n" for k, v in prefs.items()]
         pathlib.Path(folder, "user.js").write_text("".join(lines))
         words = ["firefox-esr", "--headless", "--marionette", "--no-remote", "--profile",
@@ -212,7 +199,7 @@ class Firefox:
             raise RuntimeError(f"{method}: {error.get('message')}")
         return result
 
-    def size(self, width, height, dark):
+    def size(self, width, height):
         self.ask("WebDriver:SetWindowRect", width=width, height=height + 90)
 
     def go(self, address):
@@ -239,9 +226,6 @@ class Firefox:
                  + [{"type": "keyUp", "value": key} for key in reversed(keys)])
         self.ask("WebDriver:PerformActions",
                  actions=[{"type": "key", "id": "keyboard", "actions": steps}])
-
-    def picture(self):
-        return base64.b64decode(self.ask("WebDriver:TakeScreenshot", full=True)["value"])
 
     def end(self):
         self.socket.close()
@@ -866,7 +850,7 @@ class Checks(Cases):
         tree = json.dumps({"capacity": 1, "labels": 4, "items": [7], "tree": [
             {"name": "r"}, {"name": "a", "parent": "r"}], "schedule": [["a", "offer"]]})
         for width, height in SCREENS:
-            self.browser.size(width, height, False)
+            self.browser.size(width, height)
             for address, names in ((f"#job={packed(job)}", ["h-link", "lanes"]),
                                    (f"#tree={packed(tree)}&at=1", ["h-tree", "t-drawn"]),
                                    ("#proof=19", ["proof", "lanes"])):
@@ -918,7 +902,7 @@ class Checks(Cases):
             said = self.run(view + moves, f"{prefix}lanes", controls)
             self.see(f"the circle and what moves it after {view}",
                      len(said) == count and all(is_seen for _, is_seen in said), said)
-        self.browser.size(*WIDE, False)
+        self.browser.size(*WIDE)
 
     def announced(self):
         """A step of a run is announced once, and not again when it is drawn again."""
@@ -1031,7 +1015,7 @@ class Checks(Cases):
         said = [re.findall(r"<text[^>]*>([^<]*)</text>", svg)
                 for svg in re.findall(r'<svg class="run".*?</svg>', slides.read_text(), re.S)]
         self.see("the runs on the slides", said == drawn, f"{said} and not {drawn}")
-        self.browser.size(1024, 768, False)
+        self.browser.size(1024, 768)
         self.browser.go(slides.as_uri())
         time.sleep(0.5)
         said = self.run("""const slides = all('section'), over = e => Math.max(
@@ -1040,7 +1024,7 @@ class Checks(Cases):
                 key => (press(key), slides.findIndex(e => e.getBoundingClientRect().top > -2)))];
             """, "ArrowLeft", "ArrowRight", "PageDown", "PageUp", *["ArrowRight"] * 11, "ArrowLeft")
         self.see("the slides", said == [12, 0, 0, 1, 2, 1, *range(2, 12), 11, 10])
-        self.browser.size(*WIDE, False)
+        self.browser.size(*WIDE)
         self.go(PAGE.as_uri())
 
     def time(self):
@@ -1056,7 +1040,7 @@ class Checks(Cases):
 
     def narrow(self):
         """At 360 pixels, if the browser can be so narrow, and in print."""
-        self.browser.size(360, 800, False)
+        self.browser.size(360, 800)
         for view in ("show(RUNS['The worst start of capacity two'], 'x', 8);",
                      "$('tasks').children[4].click();", "$('see-tree').click();",
                      "showTree(TREES['Backlogs at two nodes'], 'x', 10);",
@@ -1065,7 +1049,7 @@ class Checks(Cases):
             said = self.run("return [document.documentElement.scrollWidth, innerWidth]")
             self.see("nothing is cut off at 360 pixels",
                      said[0] <= max(360, said[1] if self.name == "firefox" else 0))
-        self.browser.size(*WIDE, False)
+        self.browser.size(*WIDE)
         if self.name == "chromium":
             self.run("show(RUNS['The worst start'], 'x', 9);")
             self.browser.ask("Emulation.setEmulatedMedia", media="print")
@@ -1205,17 +1189,6 @@ class Checks(Cases):
                      [none, some, [1, 2, 4, 4, 0, 6], [1, 3, 4, 4, 0, 9]],
                      ["Strays of links at c: 1 of at most C = 3",
                       "Strays of backlogs: 4 of at most E = 4", "Missing: 0 of at most M = 9"]])
-        for job, why in (({"h": 2, "openings": [[], [1, 2, 3], []]}, "3 items are more than h"),
-                         ({"h": 2, "openings": [[], [], [1]]}, "b is no inner node"),
-                         ({"h": 9, "openings": [[], [*range(9)], []]},
-                          "this page takes at most 8 items"),
-                         ({"h": 2, "openings": [[], [1]]}, "there are 3 nodes, and 2 entries")):
-            text = json.dumps({**saved, **job})
-            said = self.run("tryJob(args[0]); return texts('fault')[0]", text)
-            self.see(f"the openings {job} are refused", why in said)
-            self.see("by the program too",
-                     (program(text.encode(), "tree") is None) == ("page takes" not in why))
-
     def exercises(self):
         for i, events in enumerate(SOLVED):
             body = "return checkTask(args[0], { ...TASKS[args[0]].job, events: args[1] });"
@@ -1281,30 +1254,11 @@ class Checks(Cases):
             !(e.textContent.trim() || e.getAttribute('aria-label') || e.closest('label'))
             ).length;""")
 
-    def pictures(self, folder, dark):
-        """Keeps pictures of a link and of trees, in which nothing may be cut off."""
-        for width, height in (WIDE, NARROW):
-            self.browser.size(width, height, dark)
-            kind = f"{'dark' if dark else 'light'}-{'narrow' if width == NARROW[0] else 'wide'}"
-            for show, title, at in (
-                    ("RUNS", "The worst start of capacity two", 20),
-                    ("TREES", "Two links under one schedule", 40), ("TREES", "A clean tree", 30),
-                    ("TREES", "Backlogs at two nodes", 9)):
-                call = "show(RUNS" if show == "RUNS" else "showTree(TREES"
-                self.run(call + "[args[0]], args[0], args[1]);", title, at)
-                time.sleep(0.6)
-                more = "" if show == "RUNS" else f"-{title.split()[0].lower()}-tree"
-                pathlib.Path(folder, f"{self.name}-{kind}{more}.png").write_bytes(
-                    self.browser.picture())
-                wider = self.run("return document.documentElement.scrollWidth - innerWidth")
-                self.see(f"{kind}, {title}: nothing is cut off", wider <= 0, wider)
-
 
 def main():
     words = argparse.ArgumentParser(description=__doc__.splitlines()[0])
     words.add_argument("--jobs", type=int, default=1000)
     words.add_argument("--seed", type=int, default=1)
-    words.add_argument("--pictures")
     words.add_argument("browsers", nargs="*", default=["chromium", "firefox"])
     words = words.parse_args()
     checks, draw = Checks(), random.Random(words.seed)
@@ -1331,25 +1285,18 @@ def main():
     accepted = sum(want is not None for _, _, want in checks.jobs)
     print(f"{len(jobs)} jobs, of which the program takes {accepted}")
     for name in words.browsers:
-        for dark in (False, True) if words.pictures else (False,):
-            with tempfile.TemporaryDirectory(ignore_cleanup_errors=True) as folder:
-                checks.name = name
-                browser = checks.browser = (
-                    Chromium(folder) if name == "chromium" else Firefox(folder, dark))
-                try:
-                    browser.size(*WIDE, dark)
-                    for part in () if dark else (
-                            "ready", "texts", "exercises", "labels", "hands", "drawn_rows",
-                            "lesson", "proof", "keys", "seen", "announced",
-                            *["spoken"] * (name == "chromium"), "lab", "slides", "time", "trees",
-                            "tree_exercises", "tree_hands", "faults", "backlogs", "narrow"):
-                        getattr(checks, part)()
-                    if words.pictures:
-                        os.makedirs(words.pictures, exist_ok=True)
-                        checks.go()
-                        checks.pictures(words.pictures, dark)
-                finally:
-                    browser.end()
+        with tempfile.TemporaryDirectory(ignore_cleanup_errors=True) as folder:
+            checks.name = name
+            browser = checks.browser = (Chromium if name == "chromium" else Firefox)(folder)
+            try:
+                browser.size(*WIDE)
+                for part in ("ready", "texts", "exercises", "labels", "hands", "drawn_rows",
+                             "lesson", "proof", "keys", "seen", "announced",
+                             *["spoken"] * (name == "chromium"), "lab", "slides", "time", "trees",
+                             "tree_exercises", "tree_hands", "faults", "backlogs", "narrow"):
+                    getattr(checks, part)()
+            finally:
+                browser.end()
     sys.exit(checks.sum_up())
 
 

@@ -129,7 +129,8 @@ holds("and is one", sorted(it.name for it in release.iterdir()) == ["MANIFEST", 
 linked = house.read("linked")
 holds("whose program can be placed anywhere, needs nothing, and has its object's digest inside",
       all(f" {it} " in f" {linked}" for it in (
-          "-static", "-pie", "--no-dynamic-linker", "--wrap=main", f"--build-id=0x{digest(program)}")))
+          "-static", "-pie", "--no-dynamic-linker", "--wrap=main",
+          f"--build-id=0x{digest(program)}")))
 keep()
 write("release/notes", "more\n")
 released("a second one takes what was built", 0)
@@ -314,7 +315,8 @@ holds("the page of claims is written into the archive", said.stdout == b"claims\
 holds("the archive has all of it", [
     it for it in names_in(archive) if not re.search(r"/$|^$|^examples|^[A-Z]|\.md$", it)] == [
         "agents/agent.c", "docs/schema/job.json", "include/rignolda.h", "lib/librignolda.a",
-        "lib/librignolda_settings.a", "man/stab.1", "page/index.html", "page/rignolda.wasm", "rust/rignolda/Cargo.toml",
+        "lib/librignolda_settings.a", "man/stab.1", "page/index.html", "page/rignolda.wasm",
+        "rust/rignolda/Cargo.toml",
         "rust/rignolda/lib/x86_64-linux-settings.a", "rust/rignolda/lib/x86_64-linux.a",
         "rust/rignolda/src/lib.rs", "stab"])
 
@@ -394,11 +396,6 @@ said("and with another compiler it is not taken for compared", 4,
      "rignoldad is NOT COMPARED: rustc 2.0 built it, not rustc 1.0", "--check")
 restore("rignoldad.gz")
 restore("MANIFEST")
-# A manifest of before, with a line of the compiler.
-write(manifest, "\n".join([*lines[:5], "rustc 1.0", *own, ""]))
-checked("one that has a line of the compiler can be read", 20)
-run()
-holds("and is written anew as it is now", same(work / "release", release))
 write(manifest, re.sub("(?<=rignoldad sha256 ).{64}", "0" * 64, manifest.read_text()))
 said("another digest is found", 1, "rignoldad.gz is not what its MANIFEST says", "--check")
 checked("here too", 19, NAMED[1])

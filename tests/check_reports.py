@@ -6,14 +6,14 @@
 Each job is one of `rignolda random`: a tree with starts, scripts, openings, links of their own and
 few turns; here many items are made equal to one another and to strays. `stab run`, with `--words`,
 `--mixed` or neither, or `stab tree` prints a report of it, which `rignolda check` has to accept.
-Then one item is swapped with the next, doubled, altered or dropped, or a count or an ending is
-altered, and `rignolda check` has to answer what the plain checker below answers: that the report
-obeys, or which part is broken first, at which node; or that the text is no report, with the line.
-The checker is written from docs/FORMATS.md, tries every number of strays, and shares nothing with
-the program. Of reports of runs it is compared with agents/check_report.py as well. One job in five
-is a link job, of which `stab link` prints the text, and in it a line is spoiled in the same way.
+Then one item is swapped with the next, doubled, altered or dropped, or a count, an ending or a byte
+is altered, and `rignolda check` has to answer what agents/check_report.py answers, a plain program
+from docs/FORMATS.md: that the report obeys, or which node is the first one that does not, or that
+the text is no report. One job in five is a link job, of which `stab link` prints the text; there an
+item or the count is altered, and the link is judged as the only one of a tree.
 
-The programs are those of check_tables.py. The last line is 'N passed, M failed'.
+Which part is named, and which line of a text that is no report, is in tables/rignolda_check.py. The
+programs are those of check_tables.py. The last line is 'N passed, M failed'.
 """
 
 import collections
@@ -27,23 +27,16 @@ from pathlib import Path
 ROOT = Path(__file__).resolve().parent.parent
 sys.path[:0] = [str(ROOT / "agents"), str(ROOT / "tools")]
 import check_report  # noqa: E402
-from check_report import depth_of, is_subsequence  # noqa: E402
 from jobs import drawn_link, drawn_tree  # noqa: E402
 from programs import Cases, answered, run_with  # noqa: E402
 
-LINK_LINES = ["delivered", "offered", "acked", "send label", "recv label", "frames", "acks",
-    "closed"]
-SAID = {
-    "published": "its items are not the published ones",
-    "root count": "it has a count of acknowledged items, and no link leads into the root",
-    "no count": "it has no count of acknowledged items",
-    "opening": "its items do not begin with its opening",
-    "link law": "what it has after its opening is not what the link law allows",
-}
-SAID_OF_LINKS = {
-    "offers": "the offered items are not among those that the job offers, in its order",
-    "law": "the link law of capacity ",
-}
+# How the plain program ends where a text is no report.
+NO_REPORT = "another form", "another way", "number of items", "each node", "not end", "have an end"
+# Long runs of a chain that begins clean: the words, the number of items, that of the turns, and how
+# long its links lose and repeat.
+LONG = [(["run"], 1_000, 4_000, 200), (["run", "--words"], 10_000, 25_000, 20_000)]
+CHAIN = [{"name": "r"}, {"name": "a", "parent": "r"}, {"name": "b", "parent": "a"}]
+WAYS = ["swap", "double", "alter", "drop"] * 3 + ["count", "end", "byte"]
 
 
 def drawn_job(draw, words, rignolda):
@@ -64,187 +57,93 @@ def drawn_job(draw, words, rignolda):
     return made
 
 
-def link_law(above, acked, capacity, frames, delivered):
-    """Whether the delivered list can be cut into strays, early items, sure items and one more."""
-    if acked > len(above):
-        return False
-    for strays in range(min(capacity, len(delivered)) + 1):
-        first, tail = capacity + 1 + strays, delivered[strays:]
-        if not is_subsequence(delivered[:strays], frames):
-            break
-        for more in (above[acked:acked + 1], []):
-            sure = above[first:acked] + more
-            if sure and tail[-len(sure):] != sure:
-                continue
-            if is_subsequence(tail[:len(tail) - len(sure)], above[:min(first, acked)]):
-                return True
-    return False
-
-
-def ended(found, rest, last):
-    """What was found, if the text ends with its last line; or the line that is wrong: the last one,
-    where it has no end, or the one after it."""
-    if rest == [""]:
-        return found
-    return last + 1 if rest else last
-
-
-def read(job, text, with_ends):
-    """What a text says of each node, or the first line that is not as it has to be."""
-    parents = {node["name"]: node.get("parent") for node in job["tree"]}
-    lines = text.split("\n")
-    found, at = {}, 0
-    for name in parents:
-        at += 1
-        counts = lines[at - 1] if at <= len(lines) else ""
-        items = lines[at] if at < len(lines) else ""
-        number = r"(0|[1-9][0-9]*)"
-        end = r" ended (upstream|turns)" if with_ends else "()"
-        form = re.fullmatch(f"{re.escape(name)} depth {depth_of(name, parents)} received {number} "
-                            f"acked (-|{number}){end}", counts)
-        listed = re.fullmatch(f"items:(?: {number})*", items)
-        numbers = [int(word) for word in items.split(" ")[1:]] if listed else None
-        if not form or (numbers is not None and int(form[1]) != len(numbers)) \
-                or (form[3] is not None and int(form[3]) >= 2 ** 64):
-            return at
-        at += 1
-        if numbers is None or max(numbers, default=0) >= 2 ** 32:
-            return at
-        found[name] = (numbers, None if form[3] is None else int(form[3]), form[4] == "upstream")
-    return ended(found, lines[at:], at)
-
-
-def judged(job, text):
-    """What is broken of a text first: the line that is no line of a report, a part and its node, or
-    nothing."""
-    parents = {node["name"]: node.get("parent") for node in job["tree"]}
-    said = read(job, text, re.search(" ended (upstream|turns)$", text.split("\n")[0]) is not None)
-    if isinstance(said, int):
-        return said
-    links = [name for name in parents if parents[name] is not None]
-    for at, (name, parent) in enumerate(parents.items()):
-        items, acked, _ = said[name]
-        if parent is None:
-            if items != job["items"]:
-                return "published", name
-            if acked is not None:
-                return "root count", name
-            continue
-        link = links.index(name)
-        opening = job.get("openings", [[]] * len(parents))[at]
-        own = job["links"][link] if "links" in job else None
-        capacity = (own or job)["capacity"]
-        frames = [item for _, item in job["starts"][link]["frames"]] if "starts" in job else []
-        above, _, ended = said[parent]
-        if acked is None:
-            return "no count", name
-        if items[:len(opening)] != opening:
-            return "opening", name
-        if not link_law(above, acked, capacity, frames, items[len(opening):]):
-            return "link law", name
-        if ended and acked != len(above):
-            return "handed on", name
-    return None
-
-
-def read_link(text):
-    """The entries of each line of a link's text, or the first line that is not as it has to be."""
-    lines, found = text.split("\n"), {}
-    number = r"(?:0|[1-9][0-9]*)"
-    forms = {"delivered": f"(?: {number})*", "frames": f"(?: {number}={number})*",
-             "acked": f" {number}", "closed": " (?:yes|no)"}
-    forms.update(offered=forms["delivered"], acks=forms["delivered"])
-    forms.update({"send label": forms["acked"], "recv label": forms["acked"]})
-    most = {"delivered": 2 ** 32, "offered": 2 ** 32, "acked": 2 ** 64}
-    for at, name in enumerate(LINK_LINES):
-        line = lines[at] if at < len(lines) else ""
-        if not re.fullmatch(f"{name}:{forms[name]}", line):
-            return at + 1
-        words = line[len(name) + 1:].split(" ")[1:]
-        if name == "frames":
-            pairs = [word.split("=") for word in words]
-            if any(int(label) >= 2 ** 16 or int(item) >= 2 ** 32 for label, item in pairs):
-                return at + 1
-        elif name != "closed":
-            found[name] = [int(word) for word in words]
-            if max(found[name], default=0) >= most.get(name, 2 ** 16):
-                return at + 1
-    return ended(found, lines[len(LINK_LINES):], len(LINK_LINES))
-
-
-def judged_link(job, text):
-    """What is broken of a link's text first: a line, a part, or nothing."""
-    said = read_link(text)
-    if isinstance(said, int):
-        return said
-    offers = [event[1] for event in job["events"] if event[0] == "offer"]
-    offered, acked = said["offered"], said["acked"][0]
-    if not is_subsequence(offered, offers):
-        return "offers", None
-    frames = [item for _, item in job["start"]["frames"]]
-    if len(offered) > acked + 1 or not link_law(offered, acked, job["capacity"], frames,
-                                                said["delivered"]):
-        return "law", None
-    return None
-
-
-def spoiled_link(draw, text):
-    """The text of a link with one entry of a line altered, or one byte."""
-    lines = text.split("\n")[:-1]
-    way = draw.choice(["swap", "double", "alter", "drop"] * 3 + ["count", "byte", "line"])
-    if way == "byte":
-        at = draw.randrange(len(text))
-        return way, text[:at] + draw.choice(["", " ", "0", "\n", "7"]) + text[at + 1:]
-    if way == "line":
-        return way, text + draw.choice(["origins:\n", "\n", " "])
-    if way == "count":
-        lines[2] = f"acked: {draw.choice([0, 1, 2, 5, 9])}"
-    else:
-        at = draw.choice([0, 0, 0, 1, 1, 1, 5, 6])
-        name, *words = lines[at].split(" ")
-        if words:
-            place = draw.randrange(len(words))
-            if way == "swap":
-                words[place:place + 2] = words[place:place + 2][::-1]
-            elif way == "double":
-                words.insert(place, words[place])
-            elif way == "alter":
-                words[place] = str(draw.randrange(20))
-            else:
-                del words[place]
-        lines[at] = " ".join([name, *words])
-    return way, "\n".join(lines) + "\n"
+def spoil_items(draw, way, words):
+    """Spoils the words of one line in this way."""
+    at = draw.randrange(len(words)) if words else 0
+    if way == "swap":
+        words[at:at + 2] = words[at:at + 2][::-1]
+    elif way == "double":
+        words[at:at] = words[at:at + 1]
+    elif way == "alter":
+        words[at:at + 1] = [str(draw.choice([int(it) ^ 1, draw.randrange(20)]))
+                            for it in words[at:at + 1]]
+    elif way == "drop":
+        del words[at:at + 1]
 
 
 def spoiled(draw, text):
-    """The text with one item, count or ending altered. Mostly the number of items is counted again,
-    so that the text is still that of a report."""
+    """The text with one item, count or ending altered, or one byte. Mostly the number of items is
+    counted again, so that the text is still that of a report."""
     lines = text.split("\n")[:-1]
     node = draw.randrange(len(lines) // 2)
     counts, items = lines[2 * node], lines[2 * node + 1].split(" ")[1:]
-    way = draw.choice(["swap", "double", "alter", "drop"] * 3 + ["count", "end", "byte"])
+    way = draw.choice(WAYS)
+    if way == "byte":
+        at = draw.randrange(len(text))
+        return way, text[:at] + draw.choice(["", " ", "0", "\n", "7"]) + text[at + 1:]
     if way == "count":
         counts = re.sub("acked (-|[0-9]+)", lambda _: f"acked {draw.choice(['-', 0, 1, 2, 5, 9])}",
                         counts)
     elif way == "end":
         counts = re.sub(" ended .*", draw.choice([" ended upstream", " ended turns", ""]), counts)
-    elif way == "byte":
-        at = draw.randrange(len(text))
-        return way, text[:at] + draw.choice(["", " ", "0", "\n", "7"]) + text[at + 1:]
-    elif items:
-        at = draw.randrange(len(items))
-        if way == "swap":
-            items[at:at + 2] = items[at:at + 2][::-1]
-        elif way == "double":
-            items.insert(at, items[at])
-        elif way == "alter":
-            items[at] = str(draw.choice([int(items[at]) ^ 1, draw.randrange(20)]))
-        else:
-            del items[at]
+    else:
+        spoil_items(draw, way, items)
         if draw.random() < 0.95:
             counts = re.sub("received [0-9]+", f"received {len(items)}", counts)
     lines[2 * node:2 * node + 2] = [counts, " ".join(["items:", *items])]
     return way, "\n".join(lines) + "\n"
+
+
+def spoiled_link(draw, text):
+    """The text of a link with one delivered or offered item altered, or the count."""
+    lines = text.split("\n")
+    way = draw.choice(WAYS[:-2])
+    at = 2 if way == "count" else draw.randrange(2)
+    name, *words = lines[at].split(" ")
+    if way == "count":
+        words = [str(draw.choice([0, 1, 2, 5, 9]))]
+    spoil_items(draw, way, words)
+    lines[at] = " ".join([name, *words])
+    return way, "\n".join(lines)
+
+
+def fault_of(job, text):
+    """What the plain program says of a report of a run or of a tree, or None."""
+    if not re.search(" ended (upstream|turns)$", text.split("\n")[0]):
+        # (the text of a tree says of no node how it ended)
+        if " ended" in text:
+            return "not all lines have an end"
+        text = re.sub("(acked (-|[0-9]+))$", r"\1 ended turns", text, flags=re.M)
+    return check_report.fault(job, text)
+
+
+def fault_of_link(job, text):
+    """What it says of the text of a link, as of a tree with this link alone, or None."""
+    said = dict(line.split(":") for line in text.splitlines())
+    delivered, offered = (list(map(int, said[name].split())) for name in ("delivered", "offered"))
+    offers = [event[1] for event in job["events"] if event[0] == "offer"]
+    acked = int(said["acked"])
+    if not check_report.is_subsequence(offered, offers) or len(offered) > acked + 1:
+        return "it was offered otherwise"
+    tree = {"tree": [{"name": "r"}, {"name": "a", "parent": "r"}], "items": offered,
+            "capacity": job["capacity"], "starts": [job["start"]]}
+    return check_report.fault(tree, "".join(
+        f"{name} received {len(has)} acked {count} ended turns\n{' '.join(['items:', *has])}\n"
+        for name, count, has in (("r depth 0", "-", list(map(str, offered))),
+                                 ("a depth 1", acked, list(map(str, delivered))))))
+
+
+def fault_of_long(stab, words, count, turns, length):
+    """What is wrong with the report of a long run, or None. How far it comes is up to its threads,
+    but a link behind a lock loses no item where it begins clean."""
+    script = {"seed": [42, 54], "length": length, "loss": 300, "repeat": 300}
+    job = {"capacity": 1, "labels": 4, "turns": turns, "tree": CHAIN, "scripts": [script, script],
+           "items": list(range(1, count + 1))}
+    status, text, err = answered(stab, *words, given=job)
+    lists = [line.split()[1:] for line in text.splitlines()[1::2]]
+    if words == ["run"] and any(has != lists[0][:len(has)] for has in lists):
+        return "an item is missing"
+    return err if status else check_report.fault(job, text)
 
 
 def answer_of(rignolda, folder, job, text, swapped):
@@ -256,43 +155,27 @@ def answer_of(rignolda, folder, job, text, swapped):
     return status, (out or err).split("\n")[0]
 
 
-def expected(found, is_link):
-    """The status and the beginning of the first line for what the plain checker found."""
-    if found is None:
-        return 0, "obeys"
-    if isinstance(found, int):
-        form = "the text of a link" if is_link else "a report of this tree"
-        return 1, f"rignolda: not a report: line {found} is not as {form} has it"
-    part, node = found
-    if is_link:
-        return 1, SAID_OF_LINKS[part]
-    return 1, f"{node}: " + SAID.get(part, "")
-
-
-def agrees(job, report, kind, found, status, line):
-    """Whether `rignolda check` answers what the plain checker has found."""
-    is_link = "events" in job
-    answers = [expected(found, is_link)]
-    if kind == "true" and found is not None:
-        return False
-    if kind == "byte" and not is_link and isinstance(found, int) and found % 2 == 0:
-        # (numbers are counted first, so that what is wrong may be their count above)
-        answers.append(expected(found - 1, is_link))
-    if isinstance(found, tuple) and found[0] == "handed on" and " ended upstream with " not in line:
-        return False
-    if not is_link and re.search(r" ended [a-z]+\n", report) and not isinstance(found, int):
-        if (check_report.fault(job, report) is None) != (found is None):
-            return False
-    return any(status == wanted and line.startswith(begin) for wanted, begin in answers)
+def agrees(fault, status, line):
+    """Whether `rignolda check` answers what the plain program has found."""
+    if fault is None or (status, line) == (0, "obeys"):
+        return fault is None and (status, line) == (0, "obeys")
+    if line.startswith("rignolda: not a report: "):
+        return status == 1 and fault.endswith(NO_REPORT)
+    node = re.match(r"[a-z0-9_-]+: ", line)
+    return status == 1 and not fault.endswith(NO_REPORT) and (
+        line.startswith(("the link law", "the offered"))
+        or bool(node) and fault.startswith(node[0]))
 
 
 def main(stab, rignolda):
     """Draws jobs, and compares."""
     count = int(sys.argv[1]) if len(sys.argv) > 1 else 500
     draw = random.Random(int(sys.argv[2]) if len(sys.argv) > 2 else 1)
-    cases, found_parts = Cases(), collections.Counter()
+    cases, found = Cases(), collections.Counter()
+    for run in LONG:
+        fault = fault_of_long(stab, *run)
+        cases.holds(f"{run[1]} items, by {' '.join(run[0])}", fault is None, fault)
     with tempfile.TemporaryDirectory() as folder:
-        folder = Path(folder)
         for case in range(count):
             is_link = draw.random() < 0.2
             command = ["link"] if is_link else draw.choice(
@@ -306,14 +189,15 @@ def main(stab, rignolda):
                 continue
             way, other = (spoiled_link if is_link else spoiled)(draw, text)
             for kind, report in (("true", text), (way, other)):
-                found = (judged_link if is_link else judged)(job, report)
-                status, line = answer_of(rignolda, folder, whole, report, draw.random() < 0.5)
-                found_parts[kind, "no report" if isinstance(found, int) else
-                            found[0] if found else "obeys"] += 1
-                cases.holds(f"{case}, {kind}", agrees(job, report, kind, found, status, line),
-                            f"{found}, and the answer is {status} {line}\n{whole}\n{report}", True)
-    for (kind, part), times in sorted(found_parts.items()):
-        print(f"{kind}: {part} {times}")
+                fault = (fault_of_link if is_link else fault_of)(job, report)
+                status, line = answer_of(rignolda, Path(folder), whole, report,
+                                         draw.random() < 0.5)
+                found[kind, "broken" if fault else "obeys"] += 1
+                cases.holds(f"{case}, {kind}", agrees(fault, status, line)
+                            and (kind != "true" or fault is None),
+                            f"{fault}, and the answer is {status} {line}\n{whole}\n{report}", True)
+    for (kind, what), times in sorted(found.items()):
+        print(f"{kind}: {what} {times}")
     return cases.sum_up()
 
 

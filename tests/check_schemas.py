@@ -15,9 +15,8 @@ import sys
 
 ROOT = pathlib.Path(__file__).resolve().parent.parent
 sys.path.insert(0, str(ROOT / "tools"))
+from examples import DATA, example  # noqa: E402
 from programs import counted  # noqa: E402
-
-DATA = ROOT / "crates" / "gate_checks" / "data"
 
 # the faults that a schema finds as well, wherever they are found
 FOUND = {
@@ -54,10 +53,10 @@ NOT_FOUND = {"number_with_a_point"}
 
 def fault_of(job):
     """The text of the fault that is expected of a job, or nothing where it is accepted."""
-    expected = job.with_suffix(".err")
-    if not expected.exists():
+    if not job.with_suffix(".err").exists():
         return None
-    return expected.read_text().splitlines()[0].removeprefix("stab: ")
+    err = example(job.relative_to(DATA).with_suffix("")).err.decode()
+    return err.splitlines()[0].removeprefix("stab: ")
 
 
 def read(job):

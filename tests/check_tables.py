@@ -7,11 +7,13 @@ it reads, and the status and the texts that it has to end with. There rows.py sa
 A program is the one that ./rignolda or ./stab starts. Where none was released or built of these
 sources, it is the one that the gate has left in crates/rignolda/out or crates/stab_cli/out;
 PROGRAM_RIGNOLDA and PROGRAM_STAB in the environment name others. The examples run by the build of
-LLVM as well, where the gate has just made it. Some rows run at the same time. The
-last line is 'N passed, M failed'.
+LLVM as well, where the gate has just made it. Some rows run at the same time. The faults of the
+rows of stab, with their statuses, have to be those of the tables of docs/FORMATS.md, but for a few
+that no row brings about. The last line is 'N passed, M failed'.
 """
 
 import os
+import re
 import subprocess
 import sys
 import tempfile
@@ -23,19 +25,24 @@ sys.path.insert(0, str(Path(__file__).resolve().parent.parent / "tools"))
 from programs import BUILT, TOP, counted, run_with
 from tables import rignolda_bounds, rignolda_check, rignolda_draw, rignolda_explain
 from tables import rignolda_files, rignolda_jobs, rignolda_lines, rignolda_moment
-from tables import rignolda_read, rignolda_runs, rignolda_scenario
-from tables import stab_examples, stab_jobs, stab_limits, stab_lines, stab_links, stab_openings
-from tables import stab_parts, stab_plain, stab_runs, stab_steps, stab_trees
+from tables import rignolda_scenario, stab_examples, stab_limits, stab_lines, stab_links
+from tables import stab_trees
 from tables.rows import Printed, Repeated
 
 TABLES = [
     rignolda_lines, rignolda_explain, rignolda_bounds, rignolda_check, rignolda_draw,
-    rignolda_files,
-    rignolda_jobs, rignolda_moment, rignolda_read, rignolda_runs, rignolda_scenario,
-    stab_examples, stab_lines, stab_jobs, stab_trees, stab_parts, stab_plain, stab_steps,
-    stab_links, stab_openings, stab_limits, stab_runs,
+    rignolda_files, rignolda_jobs, rignolda_moment, rignolda_scenario,
+    stab_examples, stab_lines, stab_links, stab_trees, stab_limits,
 ]
 PROGRAMS = sorted({table.PROGRAM for table in TABLES})
+# The faults of docs/FORMATS.md that no row brings about: those of reading, writing, memory and
+# threads, and the differences of links behind locks, which never come.
+WITHOUT_ROW = {
+    ("file: cannot be read", 1), ("output: cannot be written", 3), ("out of memory", 3),
+    ("run: a worker could not be started", 3), ("run: offered lists differ", 3),
+    ("run: acknowledged counts differ", 3), ("run: delivered lists differ", 3),
+    ("run: closes differ", 3),
+}
 # No run takes longer, in seconds.
 LONGEST = 60
 # How many rows run at the same time.
@@ -105,6 +112,28 @@ def by_llvm(called):
     return [other] if os.environ.get("GATE_HAS_BUILT") and other.is_file() else []
 
 
+def faults_of_the_page():
+    """The faults of the tables of docs/FORMATS.md, each with its status: the last table says it,
+    and a fault beside the checks of a job has 1 where the job is refused, and else 3."""
+    checks, section = (TOP / "docs/FORMATS.md").read_text().split("\n## Faults\n")
+    found = {(text, 1 if text.startswith(("job:", "tree:")) else 3)
+             for text in re.findall(r"^\| .* \| `([a-z]+: [^`]*)` \|$", checks, re.M)}
+    rows = re.findall(r"^\| .* \| `(.*)` \| ([123]) \|$", section, re.M)
+    return found | {(text, int(status)) for text, status in rows}
+
+
+def faults_otherwise(file):
+    """How the faults that the program stab answers differ from those of the page, or None. A fault
+    without a row has at least to be a text of the program."""
+    rows = [row for table in TABLES if table.PROGRAM == "stab" for row in table.ROWS]
+    answered = {(row.err.removeprefix("stab: ").rstrip("\n"), row.status)
+                for row in rows if isinstance(row.err, str) and row.err}
+    code = Path(file).read_bytes()
+    answered |= {fault for fault in WITHOUT_ROW if fault[0].encode() in code}
+    differ = sorted(faults_of_the_page() ^ answered)
+    return f"these are on the page or answered, and not both: {differ}" if differ else None
+
+
 def main(*files):
     """Tries all rows with these programs."""
     files = dict(zip(PROGRAMS, files))
@@ -114,7 +143,8 @@ def main(*files):
     with ThreadPoolExecutor(THREADS) as threads:
         faults = threads.map(lambda of: tried(*of), runs)
         names = (f"{called}: {row.name}, by {Path(file).name}" for called, file, row in runs)
-        lists = [("the list of the examples", stab_examples.listed_otherwise())]
+        lists = [("the list of the examples", stab_examples.listed_otherwise()),
+                 ("the faults of docs/FORMATS.md", faults_otherwise(files["stab"]))]
         return counted([*lists, *zip(names, faults)], quiet=True)
 
 

@@ -11,36 +11,22 @@ architecture that need not be that of this machine.
 apt-get fetches them by what this machine's lists of sources name, with a state of its own in out/
 where the architecture is another one. Nothing of the system is changed, and no rights are needed.
 """
-import contextlib
 import fcntl
 import os
 import platform
 import re
 import shutil
-import subprocess
 import sys
 import tempfile
 from pathlib import Path
+
+from programs import ran
 
 OUT = Path(__file__).resolve().parent.parent / "out"
 # Of the emulators of this package one is taken.
 EMULATORS, EMULATOR = "qemu-user-static", "usr/bin/qemu-aarch64-static"
 # What programs for arm64 load where they run.
 LOADED = "libc6", "libgcc-s1", "libssl3"
-
-
-def quietly(words, **options):
-    """Whether a command is there and ends well."""
-    with contextlib.suppress(OSError):
-        return subprocess.run(words, stdin=subprocess.DEVNULL, stdout=subprocess.DEVNULL,
-                              stderr=subprocess.DEVNULL, **options).returncode == 0
-    return False
-
-
-def said(*words, **options):
-    """What a command writes."""
-    return subprocess.run(words, stdin=subprocess.DEVNULL, stdout=subprocess.PIPE,
-                          stderr=subprocess.DEVNULL, text=True, **options).stdout
 
 
 def own_state(architecture, room):
@@ -56,8 +42,8 @@ def own_state(architecture, room):
 
 def below(packages, env):
     """These packages, and those that they depend on and that are not installed."""
-    files = said("apt-get", "-q", "-y", "--no-install-recommends", "--print-uris", "install",
-                 *packages, env=env)
+    files = ran("apt-get", "-q", "-y", "--no-install-recommends", "--print-uris", "install",
+                *packages, env=env)[1]
     return [*{*packages, *re.findall(r"^'\S+' ([a-z0-9.+-]+)_\S+\.deb ", files, re.M)}]
 
 
@@ -65,20 +51,21 @@ def fetch(architecture, packages, to, with_needed):
     """Fetches packages into a folder, and answers whether all of them came."""
     def comes(env):
         more = below(packages, env) if with_needed else packages
-        return quietly(["apt-get", "-q", "download", *more], env=env, cwd=to)
+        return ran("apt-get", "-q", "download", *more, env=env, cwd=to)[0] == 0
 
-    if said("dpkg", "--print-architecture").strip() == architecture and comes(os.environ):
+    if ran("dpkg", "--print-architecture")[1].strip() == architecture and comes(os.environ):
         return True
     env = own_state(architecture, to / "apt")
-    return quietly(["apt-get", "-q", "update"], env=env) and comes(env)
+    return ran("apt-get", "-q", "update", env=env)[0] == 0 and comes(env)
 
 
 def unpack(package, home, only):
     """Unpacks a package into a folder, or one file of it, and answers whether it does."""
-    if not only:
-        return quietly(["dpkg-deb", "-x", package, home])
-    return quietly(["sh", "-c", 'dpkg-deb --fsys-tarfile "$1" | tar -x -C "$2" "./$3"', "sh",
-                    package, home, only])
+    words = ["dpkg-deb", "-x", package, home]
+    if only:
+        words = ["sh", "-c", 'dpkg-deb --fsys-tarfile "$1" | tar -x -C "$2" "./$3"', "sh", package,
+                 home, only]
+    return ran(*words)[0] == 0
 
 
 def unpacked(architecture, *packages, with_needed=False, only=None):

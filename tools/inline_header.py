@@ -15,9 +15,7 @@ proof covers this translation, as none covers clang; tests/library/both.c compar
 the archive. The build is over the libraries that checks have left. It needs the kit, and Python
 3.8.
 """
-import os
 import re
-import shutil
 import subprocess
 import sys
 import tempfile

@@ -36,7 +36,6 @@ import contextlib
 import fcntl
 import functools
 import glob
-import hashlib
 import os
 import re
 import shutil
@@ -55,6 +54,7 @@ import static
 from crates import anew, below, compiler, kit, listed, read, tasks
 from programs import Cases
 from running import Commands, Interrupted
+from static import digest_of
 
 TOP = Path(__file__).resolve().parent.parent
 RELEASE, KEPT = TOP / "release", TOP / "out"
@@ -75,10 +75,6 @@ LOADER = b"/lib64/ld-linux-x86-64.so.2\0"
 # What release/ has: its kind, its crate, the digest of its sources, the beginning of the name of
 # what is built of them, and the file that was built, or an empty text.
 Artefact = namedtuple("Artefact", "kind crate sources kept_as built")
-
-
-def digest_of(data):
-    return hashlib.sha256(data).hexdigest()
 
 
 def processor_of(name):

@@ -1,24 +1,18 @@
-#!/usr/bin/env python3
 """What an agent must not wait for: a standard error that nobody reads, a disk, a pipe, a hook, a
 store; and files that are not its own.
-
-    tests/daemon/blocked.py [WORD..]     by itself; check.py runs it with all others
 """
-import contextlib
 import os
 import re
 import shutil
 import signal
 import socket
 import subprocess
-import sys
 import threading
 import time
 
-from daemons import (PATIENCE, USUAL, Tree, during, flips, free_port, meanwhile, memory, running,
-                     took, until)
+from daemons import PATIENCE, USUAL, Tree, during, memory, running, took, until
 from protocol import Parent, body, hello
-from runner import main, sure, test
+from runner import sure, test
 
 # (a call that takes so many seconds, or none, as a file says)
 SLOW = r"""
@@ -229,83 +223,6 @@ def a_disk_that_hangs_stops_nobody():
 
 
 @test
-def links_and_pipes_in_the_roots_folder_are_named_and_not_read():
-    with running({"left": "root"}) as tree:
-        truth, secret = tree.root.truth, tree.home / "secret"
-        secret.write_text("of the agent alone")
-        (truth / "link").symlink_to(secret)
-        (truth / "zero").symlink_to("/dev/zero")
-        os.mkfifo(truth / "pipe")
-        tree.write("after", "that")
-        sure(until(lambda: "after" in tree["left"].files()), tree["left"].files())
-        found = {"link", "pipe", "zero"} & set(tree["left"].files())
-        sure(not found, "these were published:", found)
-        sure(until(lambda: tree.root.status()["unpublished"] == 3), tree.root.status())
-        faults = tree.root.status()["faults"]
-        sure([it.split(":")[0] for it in faults] == ["link", "pipe", "zero"], faults)
-        with meanwhile(*2 * [lambda: flips(truth)]):
-            for _ in range(30):
-                tree.reaches("left")
-        for name in ("link", "zero", "pipe", "flips", "after"):
-            (truth / name).unlink(missing_ok=True)
-        sure(until(lambda: tree.root.status()["unpublished"] == 0), tree.root.status())
-        sure(tree.right(), tree.wrong())
-        sure(not any("alone" in agent.text() for agent in tree), "the secret is in the journal")
-
-
-@test
-def a_file_that_cannot_be_read_is_named_and_unsets_nothing():
-    """As another user than root, to whom all files are open."""
-    if os.geteuid() != 0 or not shutil.which("setpriv"):
-        print("a file that cannot be read is not tried: only root may be another user")
-        return
-    with Tree({"left": "root"}) as tree:
-        tree.home.chmod(0o755)
-        root, left = tree.root, tree["left"]
-        root.prefix = ["setpriv", "--reuid=65534", "--regid=65534", "--clear-groups"]
-        subprocess.run(["chown", "-R", "65534:65534", root.home], check=True)
-        tree.begin()
-        before = left.files()
-        os.chown(root.truth / "key1", 0, 0)
-        (root.truth / "key1").chmod(0o600)
-        tree.root.ask("round")
-        sure(until(lambda: root.status()["unpublished"] == 1), root.status())
-        sure("key1: Permission denied" in root.status()["faults"][0], root.status())
-        # the others change, and after a restart too; and nothing is unset
-        for turn in range(2):
-            tree.write("key2", f"changed {turn}")
-            sure(until(lambda: left.files().get("key2") == b"changed %d" % turn), left.files())
-            sure({**before, "key2": b""} == {**left.files(), "key2": b""}, left.files())
-            if turn == 0:
-                root.restart()
-                sure(until(lambda: answers(root) and root.status()["unpublished"] == 1),
-                     root.text()[-300:])
-                sure(until(lambda: root.status()["children"][0]["connected"]), root.status())
-        # (by a table alone it is known that all is there)
-        sure(not left.status()["whole"] and not root.status()["whole"], left.status())
-        os.chown(root.truth / "key1", 65534, 65534)
-        sure(until(lambda: root.status()["unpublished"] == 0 and left.status()["whole"]),
-             root.status())
-        sure(tree.right(agents=[left]), tree.wrong([left]))
-
-
-@test
-def a_first_setting_may_be_published_and_is_for_its_group_alone():
-    with Tree({"left": "root"}) as tree:
-        (tree.root.truth / ".empty").unlink()
-        tree.start()
-        sure(until(lambda: answers(tree["left"]) and tree["left"].status()["parent"]),
-             "it is not connected")
-        sure("is a mount missing" in tree.root.status()["faults"][0], tree.root.status())
-        mask = os.umask(0o022)
-        os.umask(mask)
-        number = tree.root.ask("publish", "first", "1")["sequence"]
-        tree["left"].ask("wait", number)
-        sure(tree["left"].files() == {"first": b"1"}, tree["left"].files())
-        sure((tree.root.truth / "first").stat().st_mode & 0o777 == 0o640 & ~mask, "its mode")
-
-
-@test
 def a_file_where_a_socket_is_to_be_is_kept():
     with Tree({}) as tree:
         for kind, make in (("file", lambda path: path.write_text("mine")),
@@ -321,97 +238,14 @@ def a_file_where_a_socket_is_to_be_is_kept():
         sure((tree.home / "file").read_text() == "mine")
 
 
-@test
-def a_folder_of_somebody_else_is_not_taken():
-    with Tree({"left": "root", "leaf": "left"}) as tree:
-        left, leaf = tree["left"], tree["leaf"]
-        left.settings.mkdir()
-        (left.settings / "app.conf").write_text("mine")
-        tree.write("key", "value")
-        tree.start()
-        # (it hands everything on, and says once why it applies nothing)
-        sure(tree.right(agents=[leaf]), tree.wrong([leaf]))
-        sure(until(lambda: left.status()["failing"] == 1), left.status())
-        round = left.status()["round"]
-        sure(until(lambda: left.status()["round"] > round), "there is no round")
-        sure(left.said("app.conf") == 1, left.text())
-        sure(sorted(os.listdir(left.settings)) == ["app.conf"], os.listdir(left.settings))
-        sure((left.settings / "app.conf").read_text() == "mine", "it is gone")
-        done = subprocess.run([tree.bin / "rignoldad", "--check", left.file], capture_output=True)
-        sure(done.returncode == 1 and b"app.conf" in done.stderr, done.stderr)
-        left.tables["apply"]["take"] = True
-        left.restart()
-        sure(until(lambda: left.up() and tree.right()), tree.wrong())
-        sure(left.status()["failing"] == 0, left.status())
-        # (from now on it is the agent's own)
-        del left.tables["apply"]["take"]
-        left.kill()
-        tree.write("after", "that")
-        left.start()
-        sure(tree.right(), tree.wrong())
-
-
-@test(begins=True)
-def a_store_that_drips_holds_its_child_up_for_a_while_alone():
-    """The child goes to its next parent, which it reaches by a connection."""
-    done = threading.Event()
-    listener = socket.create_server(("127.0.0.1", free_port()))
-
-    def serve(sock):
-        text = b""
-        with contextlib.suppress(OSError), sock:
-            while piece := sock.recv(1 << 16):
-                text += piece
-                # (what is set is said to be done, and each get gets a byte in four seconds)
-                for command in re.findall(rb"(SET|WATCH|MULTI|EXEC|GETRANGE)\r\n", text):
-                    if command == b"GETRANGE":
-                        sock.sendall(b"$30\r\n")
-                        while not done.wait(4):
-                            sock.sendall(b"x")
-                        return
-                    sock.sendall(b"*1\r\n+OK\r\n" if command == b"EXEC" else b"+OK\r\n")
-                text = b""
-
-    def accept():
-        with contextlib.suppress(OSError):
-            while True:
-                threading.Thread(target=serve, args=(listener.accept()[0],), daemon=True).start()
-    threading.Thread(target=accept, daemon=True).start()
-    with Tree({"left": "root", "right": "root"}) as tree:
-        right = tree["right"]
-        at = f"redis://127.0.0.1:{listener.getsockname()[1]}/tree"
-        right.top["parents"] = [f"other@{at}", *right.top["parents"]]
-        tree.start()
-        try:
-            sure(until(lambda: answers(right) and right.status()["parent"] == "root"),
-                 right.text()[-300:])
-            tree.write("after", "that")
-            sure(tree.right(), tree.wrong())
-        finally:
-            done.set()
-            listener.close()
-
-
-@test
-def a_hook_gets_no_descriptor_of_the_agent():
-    with Tree({"left": "root"}) as tree:
-        left = tree["left"]
-        left.hook(f"ls -l /proc/self/fd >{left.home}/said\nenv >>{left.home}/said")
-        # (the socket's folder is not there, so nothing is sent)
-        left.env = {**left.env, "NOTIFY_SOCKET": str(left.home / "none")}
-        tree.begin()
-        tree.root.ask("wait", "--everywhere")
-        said = (left.home / "said").read_text()
-        sure("socket:" not in said and "NOTIFY_SOCKET" not in said, said)
-
-
 @test(needs=lacking)
 def a_hooks_mark_that_cannot_go_yet_stops_nobody():
-    """The disk of the applied settings hangs where a hook has ended: the agent answers."""
+    """The disk of the applied settings hangs where a hook has ended: the agent answers. And no
+    descriptor of the agent is the hook's."""
     with Tree({"left": "root"}) as tree:
         left = tree["left"]
         slow = preload(left, SLOW_UNLINK)
-        left.hook("exit 0")
+        left.hook(f"ls -l /proc/self/fd >{left.home}/said")
         tree.begin()
         slow.touch()
         tree.write("late", "1")
@@ -420,6 +254,9 @@ def a_hooks_mark_that_cannot_go_yet_stops_nobody():
         slow.unlink()
         sure(is_answered, "it waits for the disk")
         sure(tree.right(), tree.wrong())
+        tree.root.ask("wait", "--everywhere")
+        said = (left.home / "said").read_text()
+        sure(said.count(" -> ") == 4 and "socket:" not in said, said)
 
 
 @test
@@ -474,7 +311,3 @@ def what_a_peer_does_at_any_rate_is_said_once_in_a_second():
         lines = left.said("garbage ") + left.said("stray ")
         sure(1 <= lines <= seconds + 2, lines, "lines in", seconds, "s")
         parent.close()
-
-
-if __name__ == "__main__":
-    sys.exit(main())

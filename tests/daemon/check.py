@@ -2,7 +2,7 @@
 """The daemon in trees of processes on this machine: kills, losses, garbage, and what holds then.
 
     tests/daemon/check.py            all of it, in a minute at most
-    tests/daemon/check.py NAME..     the tests whose names contain a word
+    tests/daemon/check.py WORD..     those of a file, as hostile, or whose names contain a word
 """
 import concurrent.futures
 import contextlib
@@ -16,7 +16,6 @@ import re
 import shlex
 import shutil
 import signal
-import socket
 import struct
 import subprocess
 import sys
@@ -25,7 +24,7 @@ import time
 import runner
 import trial
 from daemons import (Tree, by_tls, certify, certify_foreign, chain, counted, memory, patient,
-                     root_has, running, until, very_patient)
+                     root_has, running, until)
 from memory import write_over
 from protocol import Child, Parent, body, closed, entry, frame, hello, report
 from relay import Relay
@@ -33,7 +32,7 @@ from runner import sure, test
 
 # (each of them tells its tests)
 for name in ("blocked", "floods", "groups", "hooks", "hostile", "memory_faults", "older",
-             "operating", "paged", "parents", "roots", "rounds", "store", "watching"):
+             "operating", "paged", "parents", "roots", "rounds", "store", "trial", "watching"):
     importlib.import_module(name)
 
 PACKAGING = pathlib.Path(__file__).resolve().parents[2] / "rust/rignoldad/packaging"
@@ -47,6 +46,10 @@ def settings_reach_all_and_what_is_removed_is_gone():
         tree.publish("by_command", "two")
         # (what wait says is so at once)
         sure(not tree.wrong(), tree.wrong())
+        mask = os.umask(0o022)
+        os.umask(mask)
+        mode = (tree.root.truth / "by_command").stat().st_mode & 0o777
+        sure(mode == 0o640 & ~mask, oct(mode))
         sure(tree["left1"].files()["by_command"] == b"two")
         number = tree.root.ask("publish", "raw", value=bytes(range(256)))["sequence"]
         tree["right2"].ask("wait", number)
@@ -60,25 +63,6 @@ def settings_reach_all_and_what_is_removed_is_gone():
         tree.publish("big", value=big)
         sure(tree["right2"].files()["big"] == big)
         sure(not any(agent.said("panicked") for agent in tree))
-
-
-@test(begins=True)
-def kills_do_no_lasting_harm():
-    draw = random.Random(7)
-    with running() as tree:
-        for turn in range(12):
-            count = 7 if turn == 6 else draw.choice([1, 1, 2, 3])
-            victims = draw.sample(list(tree), count)
-            for at in range(5):
-                tree.write(f"key{draw.randrange(12)}", f"{turn} {at}")
-            for victim in victims:
-                victim.kill()
-            tree.write(f"while_down{turn % 3}", turn)
-            time.sleep(draw.choice([0, 0.05, 0.2]))
-            tree.start(victims)
-            time.sleep(draw.choice([0, 0.05, 0.2]))
-        sure(tree.right(), tree.wrong())
-        sure(tree.ready(), "the tree is not ready")
 
 
 @test(begins=True)
@@ -181,20 +165,6 @@ def a_dead_leaf_harms_nobody_and_is_served_when_it_is_back():
             sure(until(lambda: all(child["connected"] for child in children())), children())
 
 
-@test
-def a_stopped_agent_harms_nobody():
-    with running() as tree:
-        stopped = [tree["right1"], tree["left"]]
-        for agent in stopped:
-            agent.signal(signal.SIGSTOP)
-        others = [tree["right"], tree["right2"], tree.root]
-        tree.write("while", "stopped")
-        sure(tree.right(agents=others), tree.wrong(others))
-        for agent in stopped:
-            agent.signal(signal.SIGCONT)
-        sure(tree.right(), tree.wrong())
-
-
 # ---- Security
 
 @test(begins=True)
@@ -233,11 +203,6 @@ def only_the_right_certificate_is_let_in():
         false.start()
         tree.write("last", "one")
         sure(tree.right(agents=good), tree.wrong(good))
-        # nothing under TLS 1.2, whatever the client offers
-        old = subprocess.run(["openssl", "s_client", "-connect", f"127.0.0.1:{tree.root.port}",
-                              "-tls1_1", "-cipher", "DEFAULT:@SECLEVEL=0"], capture_output=True,
-                             input=b"", timeout=60)
-        sure(b"Cipher is (NONE)" in old.stdout or old.returncode, old.stdout)
 
 
 # ---- What a stranger sends
@@ -256,8 +221,16 @@ def a_hello_of_garbage_is_refused():
             with connect() as sock:
                 sock.sendall(greeting)
                 sure(closed(sock), "it was kept:", greeting[:40])
-        # of two connections by one name the older one is closed
+        # nor what no child may say behind its hello, of which nothing that comes is read here
         tree["left"].kill()
+        for text in (b"A\x00\x00" * 200_000, b"R" + struct.pack(">I", 2) + b"[]",
+                     b"R" + struct.pack(">I", 0xffff_ffff), b"F" * 100):
+            with connect() as sock:
+                sock.sendall(hello("left", "root", life=9))
+                with contextlib.suppress(OSError):
+                    sock.sendall(text)
+                sure(closed(sock), "it was kept:", text[:10])
+        # of two connections by one name the older one is closed
         first = connect()
         first.sendall(hello("left", "root"))
         sure(first.recv(4), "it is not greeted")
@@ -280,7 +253,7 @@ def a_hello_of_garbage_is_refused():
             sock.close()
         sure(tree.root.status()["refused"] >= 150)
         grew = memory(tree.root, "VmRSS") - before
-        sure(grew < 3.9, "its memory grew by", grew, "MiB")
+        sure(grew < 7.8, "its memory grew by", grew, "MiB")
         sure(tree.right() and tree.root.alive() and tree.ready())
 
 
@@ -291,10 +264,19 @@ def what_a_false_parent_sends_is_bounded_and_checked():
         parent = Parent(leaf)
         send, before = parent.send, memory(leaf, "VmRSS")
         for bad in (frame(0, b"", length=0xffff_ffff), frame(0, b"", length=(16 << 20) + 1),
-                    b"X" * 50, b"R" + struct.pack(">I", 5) + b"[...]"):
+                    frame(0, b"x" * 1_000, length=0x7fff_ffff), b"X" * 50, b"W" * 5_000,
+                    b"R" + struct.pack(">I", 5) + b"[...]", b"A\0\0" * 1_000,
+                    hello("root", "leaf") * 3):
             parent.meet().sock.sendall(bad)
             sure(closed(parent.sock), "it was kept:", bad[:20])
         sure(memory(leaf, "VmRSS") < before + 3.9, "its memory grew")
+        # nobody waits for acknowledgements
+        parent.meet()
+        with contextlib.suppress(OSError):
+            for label in range(100_000):
+                parent.sock.sendall(frame(label % 255, body(b"H", label)))
+        sure(memory(leaf, "VmRSS") < before + 64, "its memory grew")
+        leaf.restart()
         parent.meet()
         draw = random.Random(9)
         entries = lambda *all: struct.pack(">I", len(all)) + b"".join(entry(*it) for it in all)
@@ -347,7 +329,11 @@ def what_a_false_parent_sends_is_bounded_and_checked():
         for _ in range(3):
             label = send(body(b"C", 2, entries((b"a", b"3"))), label=label)
         sure(leaf.status()["received"] == received + 1, leaf.status())
-        sure(not leaf.said("panicked"))
+        for kind in (b"T", b"C", b"H"):
+            for number in (2**64 - 1, 2**64 - 2, 2**63, 0):
+                send(body(kind, number, b"" if kind == b"H" else [entry(b"bad", b"1")]))
+        sure(until(lambda: "bad" in leaf.files()), leaf.files())
+        sure(leaf.alive() and not leaf.said("panicked"))
         parent.gives_way()
 
 
@@ -370,41 +356,6 @@ def what_a_child_reports_of_others_harms_nobody():
         expected = sorted((agent.name, agent.parent.name if agent.parent else "",
                            77 if agent.name == "left1" else 0) for agent in tree)
         sure(until(lambda: seen() == expected), seen())
-
-
-@test
-def who_acknowledges_without_end_is_closed():
-    with running({"left": "root"}) as tree:
-        tree["left"].kill()
-        before = memory(tree.root, "VmRSS")
-        for text in (b"A\x00\x00" * 200_000, b"R" + struct.pack(">I", 2) + b"[]",
-                     b"R" + struct.pack(">I", 0xffff_ffff), b"F" * 100):
-            with tree.root.connect() as sock:
-                sock.sendall(hello("left", "root", life=9))
-                # (nothing of what comes is read)
-                with contextlib.suppress(OSError):
-                    sock.sendall(text)
-                sure(closed(sock), "it was kept:", text[:10])
-        sure(memory(tree.root, "VmRSS") < before + 7.8, before, memory(tree.root, "VmRSS"))
-        tree["left"].start()
-        tree.write("after", "that")
-        sure(tree.right(), tree.wrong())
-
-
-@test
-def two_agents_of_one_name_do_not_connect_without_end():
-    with running({"left": "root"}) as tree:
-        twin = tree.twin("left")
-        twin.start()
-        before = tree.root.said("connected left")
-        begun = time.monotonic()
-        time.sleep(2)
-        times = (tree.root.said("connected left") - before) / (time.monotonic() - begun)
-        sure(times < 20, "they connect", times, "times a second")
-        twin.kill()
-        del tree.agents["twin"]
-        tree.write("after", "that")
-        sure(tree.right(), tree.wrong())
 
 
 @test
@@ -432,32 +383,6 @@ def the_control_socket_is_bounded():
             sock.close()
         sure(until(lambda: tree.root.ask("status", check=False).get("name") == "root"))
         sure(memory(tree.root, "VmRSS") < before + 7.8, before, memory(tree.root, "VmRSS"))
-
-
-@test
-def a_client_that_waits_or_has_gone_costs_nothing():
-    def busy():
-        # (for so many nanoseconds it had a processor, or waited for one)
-        stat = pathlib.Path(f"/proc/{tree.root.process.pid}/schedstat").read_text().split()
-        return int(stat[0]) + int(stat[1])
-
-    def behind():
-        tree.write("a", time.monotonic())
-        return tree.root.status()["children"][0]["backlog"] > 1
-
-    with running({"left": "root"}, very_patient) as tree, tree.root.client() as sock:
-        tree["left"].signal(signal.SIGSTOP)
-        sure(until(behind), "the root does not wait for the child")
-        sock.sendall(b'{"do":"publish","key":"b","value":"00"}\n{"do":"status"}\n')
-        time.sleep(0.2)
-        sock.shutdown(socket.SHUT_WR)
-        before = busy()
-        time.sleep(1)
-        sure(busy() < before + 500_000_000, "the root is busy with nothing")
-        tree["left"].signal(signal.SIGCONT)
-        lines = sock.makefile("rb")
-        said = lines.readline(), lines.readline()
-        sure(b"published" in said[0] and b"status" in said[1], said)
 
 
 @test
@@ -612,42 +537,6 @@ def a_root_with_too_few_harmless_items_is_told():
 
 
 @test
-def a_reload_changes_children_and_parents():
-    shape = {"left": "root", "right": "root", "leaf": "left"}
-    with running(shape) as tree:
-        # a leaf moves to another parent
-        leaf, right = tree["leaf"], tree["right"]
-        right.top.update(children=["leaf"], listen=f"127.0.0.1:{right.port}")
-        right.restart()
-        leaf.top["parents"] = [f"right@127.0.0.1:{right.port}"]
-        leaf.reload()
-        sure(until(lambda: leaf.status()["parent"] == "right"), leaf.status())
-        tree["left"].children.clear()
-        # a child is added, and one removed
-        new = tree.add("new", "root")
-        tree.root.children.remove(tree["left"])
-        tree.root.reload()
-        new.start()
-        tree.write("moved", "1")
-        here = [tree.root, right, leaf, new]
-        sure(tree.right(agents=here), tree.wrong(here))
-        sure(until(lambda: tree["left"].status()["parent"] is None), "it kept a removed child")
-        # a wrong file changes nothing, and says so
-        tree.root.file.write_text(tree.root.file.read_text().replace("round =", "rund ="))
-        tree.root.signal(signal.SIGHUP)
-        sure(until(lambda: tree.root.said("root.rund")), "it says nothing of a wrong file")
-        tree.write("moved", "2")
-        sure(tree.right(agents=here), tree.wrong(here))
-        # a child by command
-        extra = tree.add("extra", "root")
-        extra.start()
-        tree.root.ask("child", "add", "extra")
-        sure(tree.right(agents=[extra]), tree.wrong([extra]))
-        tree.root.ask("child", "remove", "extra")
-        sure(until(lambda: extra.status()["parent"] is None))
-
-
-@test
 def a_reload_that_is_not_taken_is_shown():
     unit = PACKAGING / "rignoldad.service"
     lines = re.findall("^ExecReload=(.*)$", unit.read_text(), re.M)
@@ -692,27 +581,6 @@ def a_reload_that_is_not_taken_is_shown():
         root.file.write_text(good)
         sure(reload() == (0, "") and until(lambda: root.status()["reload_failed"] == ""))
         sure(shows(""), "the metric stays")
-
-
-@test
-def the_next_parent_is_tried():
-    with Tree({"left": "root", "right": "root"}) as tree:
-        leaf = tree.add("leaf", "left")
-        # (one that is late is left, and then the next one is tried too)
-        for agent in tree:
-            agent.tables["link"] = {"ack_timeout": "20s", "evict": "10m"}
-        tree["right"].children.append(leaf)
-        leaf.top["parents"].append(f"right@127.0.0.1:{tree['right'].port}")
-        # (where the first one does not listen yet, the next one is its parent)
-        tree.begin(without=["leaf"])
-        leaf.start()
-        sure(tree.ready() and tree.right(), tree.wrong())
-        sure(leaf.status()["parent"] == "left", leaf.status())
-        tree["left"].kill()
-        sure(until(lambda: leaf.status()["parent"] == "right"), leaf.status())
-        tree.write("moved", "1")
-        here = [leaf, tree["right"]]
-        sure(tree.right(agents=here), tree.wrong(here))
 
 
 @test(begins=True)
@@ -783,31 +651,19 @@ def counts_are_there_for_prometheus():
         sure(values["rignolda_connected", None] == 1, values)
         sure(values["rignolda_settings", None] == 8, values)
         sure(values["rignolda_child_connected", "left"] == 1, values)
+        sure(values["rignolda_unpublished", None] == 0, values)
+        tree.write("long", b"x" * ((1 << 20) + 1))
+        sure(until(lambda: "\nrignolda_unpublished 1\n" in counts()[1]), counts())
+        (tree.root.truth / "long").unlink()
         tree["left"].kill()
         sure(until(lambda: 'rignolda_child_connected{child="left"} 0' in counts()[1]))
         sure("404" in counts("/other")[0] and "404" in counts(method="POST")[0])
         # each name that an alarm uses, or the dashboard, is one that is counted
         texts = [(PACKAGING / file).read_text() for file in ("alarms.yml", "dashboard.json")]
         names = set(re.findall(r"rignolda_[a-z_]+", "".join(texts)))
-        # (there is no TLS here; floods.py looks at that one)
+        # (there is no TLS here; operating.py looks at that one)
         names.discard("rignolda_certificate_expires_timestamp_seconds")
         sure(names and names <= {name for name, _ in values}, names - {n for n, _ in values})
-
-
-@test
-def check_names_the_line_and_the_key():
-    with Tree({}) as tree:
-        tree.root.configure()
-        # (another user may not enter the folder of this test)
-        words = [tree.bin / "rignoldad", "--check", "--user", "root", tree.root.file]
-        check = lambda: subprocess.run(words, capture_output=True, text=True, timeout=60)
-        sure(check().returncode == 0, check().stderr)
-        lines = tree.root.file.read_text().splitlines()
-        at = next(n for n, line in enumerate(lines) if line.startswith("round"))
-        lines[at] = 'round = "5 weeks"'
-        tree.root.file.write_text("\n".join(lines))
-        done = check()
-        sure(done.returncode == 1 and f"line {at + 1}: root.round" in done.stderr, done.stderr)
 
 
 @test
@@ -885,4 +741,4 @@ def manuals_and_completions_name_everything():
 
 
 if __name__ == "__main__":
-    sys.exit(runner.main(of_all=True))
+    sys.exit(runner.main())

@@ -242,6 +242,12 @@ class Agent:
             return False
         return status["whole"] and (status["is_root"] or status["parent"] is not None)
 
+    def write(self, key, value):
+        """Changes the folder of a root as an editor does."""
+        new = self.truth / f".{key}.new"
+        new.write_bytes(value if isinstance(value, bytes) else str(value).encode())
+        new.rename(self.truth / key)
+
     def files(self):
         """The settings that it applied."""
         return read(self.settings)
@@ -347,10 +353,7 @@ class Tree:
         return until(lambda: not self.wrong(agents), seconds)
 
     def write(self, key, value):
-        """Changes the root's folder as an editor does."""
-        new = self.root.truth / f".{key}.new"
-        new.write_bytes(value if isinstance(value, bytes) else str(value).encode())
-        new.rename(self.root.truth / key)
+        self.root.write(key, value)
 
     def publish(self, *words, **given):
         """Has a change published, and come to be everywhere: its number."""
@@ -453,7 +456,7 @@ def descriptors(agent):
 
 # ---- Certificates
 
-def certify(home, name, seconds=86_400, file=None, begins=-3_600, authority="authority"):
+def certify(home, name, seconds=86_400, authority="authority"):
     """A certificate of one authority that ends in so many seconds: the table of a configuration."""
     def run(*words):
         subprocess.run(["openssl", *words], check=True, capture_output=True, cwd=home)
@@ -468,14 +471,13 @@ def certify(home, name, seconds=86_400, file=None, begins=-3_600, authority="aut
             "[ca]\ndefault_ca = d\n[d]\nnew_certs_dir = .\ndatabase = index\ndefault_md = sha256\n"
             "policy = p\nrand_serial = yes\nunique_subject = no\ncopy_extensions = copy\n[p]\n"
             "commonName = supplied\n")
-    file = file or name
     when = lambda add: time.strftime("%Y%m%d%H%M%SZ", time.gmtime(time.time() + add))
     run("req", *key, "-subj", f"/CN={name}", "-addext", f"subjectAltName=DNS:{name}", "-keyout",
-        f"{file}.key", "-out", f"{file}.csr")
+        f"{name}.key", "-out", f"{name}.csr")
     run("ca", "-batch", "-config", "ca.cnf", "-cert", "ca.crt", "-keyfile", "ca.key", "-in",
-        f"{file}.csr", "-out", f"{file}.crt", "-startdate", when(begins), "-enddate", when(seconds),
+        f"{name}.csr", "-out", f"{name}.crt", "-startdate", when(-3_600), "-enddate", when(seconds),
         "-notext")
-    return {"certificate": str(home / f"{file}.crt"), "key": str(home / f"{file}.key"),
+    return {"certificate": str(home / f"{name}.crt"), "key": str(home / f"{name}.key"),
             "authority": str(home / "ca.crt")}
 
 

@@ -1,14 +1,10 @@
-#!/usr/bin/env python3
 """Settings that have another value for some groups of agents, and how such a value becomes all's.
-
-    tests/daemon/groups.py [WORD..]     by itself; check.py runs it with all others
 """
 import shutil
-import sys
 
 from daemons import Tree, patient, read, until
 from operating import digest, holders
-from runner import main, sure, test
+from runner import sure, test
 
 OF = {"root": [], "left": ["canary", "eu"], "leaf": [], "right": ["eu"]}
 SHAPE = {"left": "root", "leaf": "left", "right": "root"}
@@ -148,7 +144,3 @@ def a_group_has_its_own_value_until_it_is_that_of_all():
         root.ask("round")
         root.ask("wait", "--everywhere", "--timeout", "60s")
         sure(left.files() == counting(tree.truth(), ["us"]), left.files())
-
-
-if __name__ == "__main__":
-    sys.exit(main())

@@ -1,12 +1,7 @@
-#!/usr/bin/env python3
 """Hooks that have one run for all of their keys that changed together.
-
-    tests/daemon/hooks.py [WORD..]     by itself; check.py runs it with all others
 """
-import sys
-
 from daemons import Tree, patient, until
-from runner import main, sure, test
+from runner import sure, test
 
 # (what it is told, and the files as it finds them; it ends when `go` is there, or fails)
 NOTES = """
@@ -99,7 +94,3 @@ def keys_that_changed_together_have_one_run():
         for key in ("app.b", "other"):
             tree.publish(key, "5")
         sure(runs(leaf, "new") == [["app.b=5"]] and len(runs(leaf, "all")) == told)
-
-
-if __name__ == "__main__":
-    sys.exit(main())

@@ -1,8 +1,4 @@
-#!/usr/bin/env python3
 """Children, parents, clients and writers that mean harm, over the real protocol and real files.
-
-    tests/daemon/hostile.py [WORD..]          what check.py runs too, each in seconds
-    tests/daemon/hostile.py --long [WORD..]   and what takes longer, or needs root
 
 While one agent is attacked, a change has to reach an honest one, memory stays below a bound that is
 said here, and afterwards all is right.
@@ -18,16 +14,14 @@ import select
 import socket
 import string
 import struct
-import subprocess
-import sys
 import time
 
 import store
 from daemons import (PATIENCE, USUAL, Tree, certify, counted, descriptors, during, flips, forget,
-                     meanwhile, memory, patient, running, secure, tls, took, until)
+                     meanwhile, memory, patient, running, secure, took, until)
 from protocol import (Child, Parent, body, closed, entry, exactly, frame, hello, look, report,
                       take_hello, the_root_comes, way)
-from runner import main, sure, test
+from runner import sure, test
 
 # The most memory that a hostile peer may cost an agent, in MiB: four bodies of 16, twice what all
 # settings may have, and what an allocator keeps.
@@ -83,25 +77,6 @@ def reports_of_all_kinds_are_bounded_and_harm_nobody():
         sure(tree.right() and tree.ready(), tree.wrong())
 
 
-@test
-def hellos_by_the_thousand_leave_nothing_behind():
-    with running({"evil": "root", "left": "root"}, patient, without=["evil"]) as tree:
-        tree.reaches("left")
-        most = forget(tree.root) + 32
-        for at in range(2_000):
-            # (another life each time, and then names, versions and labels that are none)
-            text = bytearray(hello("evil", "root", life=at, label=at % 256))
-            if at % 3 == 1:
-                text[at % len(text)] ^= 1 << at % 8
-            with contextlib.suppress(ConnectionError), tree.root.connect() as sock:
-                sock.sendall(text + b"A\x00\x00" * (at % 5))
-            if at % 200 == 0:
-                tree.reaches("left")
-        sure(memory(tree.root) < most, "its memory is", memory(tree.root), "of", most)
-        tree["evil"].start()
-        sure(tree.right() and tree.ready(), tree.wrong())
-
-
 def fill(tree):
     """Large settings come to an honest child."""
     for at in range(15):
@@ -110,7 +85,7 @@ def fill(tree):
 
 
 @test
-def a_child_that_changes_its_life_costs_its_own_line_alone():
+def a_child_that_changes_its_life_or_never_reads_costs_its_own_line_alone():
     """Each new life is served the whole table, of 15 MiB here."""
     with running({"evil": "root", "left": "root"}, patient, without=["evil"]) as tree:
         fill(tree)
@@ -123,14 +98,6 @@ def a_child_that_changes_its_life_costs_its_own_line_alone():
                     exactly(sock, 100_000)
             if at % 10 == 0:
                 tree.reaches("left")
-        sure(memory(tree.root) < most, "its memory is", memory(tree.root), "of", most)
-
-
-@test
-def a_child_that_never_reads_holds_nobody_up():
-    with running({"evil": "root", "left": "root"}, patient, without=["evil"]) as tree:
-        fill(tree)
-        most = forget(tree.root) + MOST
         with tree.root.connect() as sock:
             sock.sendall(hello("evil", "root"))
             for _ in range(20):
@@ -159,22 +126,13 @@ def millions(bodies, count=1_270_000):
 
 @test
 def a_parent_that_sends_millions_of_settings_is_bounded():
-    send_millions(3)
-
-
-@test(by_hand=True)
-def a_parent_that_sends_12_millions_of_settings_is_bounded():
-    send_millions(10)
-
-
-def send_millions(bodies):
     with Tree({"left": "root"}) as tree:
         left = tree["left"]
         del left.tables["apply"]
         parent = Parent(left)
         parent.send(body(b"T", 999, [entry(b"a", b"1")]))
         before = forget(left)
-        for text in millions(bodies):
+        for text in millions(3):
             parent.send(text)
             sure(memory(left) < before + MOST, "its memory is", memory(left), "and was", before)
             sure(left.alive(), "it ended")
@@ -187,6 +145,22 @@ def send_millions(bodies):
         tree.write("one", "1")
         tree.root.start()
         sure(until(left.up) and left.status()["settings"] == 1, left.status())
+
+
+@test(begins=True)
+def files_that_a_parent_makes_by_the_thousand_are_removed_again():
+    with Tree({"left": "root"}) as tree:
+        left = tree["left"]
+        parent = Parent(left)
+        most = forget(left) + MOST
+        for at in range(2):
+            text = many_keys(bytes([97 + at]), 10_000)
+            parent.send(b"C" + struct.pack(">QI", 1_000 + at, 10_000) + text)
+        sure(until(lambda: len(os.listdir(left.settings)) > 1_000), "it makes no files")
+        sure(memory(left) < most, "its memory is", memory(left), "of", most)
+        sure(took(left.status) < 2 * PATIENCE, "it answers late")
+        parent.close()
+        the_root_comes(tree)
 
 
 @test
@@ -211,47 +185,9 @@ def a_parent_that_sends_tables_without_end_holds_nobody_up():
 
 
 @test
-def the_largest_number_does_no_lasting_harm():
-    with Tree({"left": "root", "leaf": "left"}) as tree:
-        left, leaf = tree["left"], tree["leaf"]
-        leaf.start()
-        parent = Parent(left)
-        for kind in (b"T", b"C", b"H"):
-            for number in (2**64 - 1, 2**64 - 2, 2**63, 0):
-                parent.send(body(kind, number, b"" if kind == b"H" else [entry(b"bad", b"1")]))
-        sure(until(lambda: "bad" in leaf.files()), leaf.files())
-        sure(left.alive() and leaf.alive() and not left.said("panicked"))
-        left.status(), leaf.status()
-        parent.gives_way()
-        tree.reaches("leaf")
-
-
-@test
-def frames_that_lie_are_refused_at_their_head():
-    """A length that is too great, labels by the thousand without a wait, items that do not fit."""
-    with Tree({"left": "root", "leaf": "left"}, before=patient) as tree:
-        left = tree["left"]
-        tree["leaf"].start()
-        parent = Parent(left)
-        before = forget(left)
-        for length in ((16 << 20) + 1, 0x7fff_ffff, 0xffff_ffff):
-            parent.meet().sock.sendall(b"F" + struct.pack(">HII", 1, 0, length) + b"x" * 1_000)
-            sure(closed(parent.sock), "a body of", length, "bytes is waited for")
-        for text in (b"A\0\0" * 1_000, hello("root", "left") * 3, b"R\0\0\0\2[]", b"W" * 5_000):
-            parent.meet().sock.sendall(text)
-            sure(closed(parent.sock), "it was kept:", text[:20])
-        parent.meet()
-        with contextlib.suppress(OSError):
-            for label in range(100_000):
-                parent.sock.sendall(frame(label % 255, body(b"H", label)))
-        sure(memory(left) < before + 64, "its memory is", memory(left), "and was", before)
-        sure(left.alive() and left.status()["name"] == "left")
-        parent.gives_way()
-
-
-@test
-def looks_and_ways_by_the_thousand_harm_nobody():
-    """Of a child: what asks for ways, says ways where none belongs, says goodbye, and stays."""
+def hellos_and_looks_by_the_thousand_harm_nobody():
+    """Of a child: another life each time, spoilt hellos, and what asks for ways, says ways where
+    none belongs, says goodbye, and stays."""
     with running({"evil": "root", "left": "root"}, patient, without=["evil"]) as tree:
         tree.reaches("left")
         most = forget(tree.root) + 32
@@ -260,10 +196,14 @@ def looks_and_ways_by_the_thousand_harm_nobody():
                  look("evil", "other"), b"RGNL\x01" + hello("evil", "root")[5:],
                  greeting + b"G", greeting + b"G" * 5_000, greeting + way(0, ["evil"]) * 500,
                  greeting + way(0xffff, ["root"] * 128), look("evil", "root") + greeting]
-        for at in range(1_500):
+        for at in range(3_000):
+            spoilt = bytearray(hello("evil", "root", life=at, label=at % 256))
+            if at % 6 == 2:
+                spoilt[at % len(spoilt)] ^= 1 << at % 8
+            text = kinds[at // 2 % len(kinds)] if at % 2 else spoilt + b"A\x00\x00" * (at % 5)
             with contextlib.suppress(OSError), tree.root.connect() as sock:
-                sock.sendall(kinds[at % len(kinds)])
-                if at % 10 == 0:
+                sock.sendall(text)
+                if at % 20 == 1:
                     sock.settimeout(0.01)
                     sock.recv(100)
             if at % 150 == 0:
@@ -472,27 +412,6 @@ def link_ended(seconds):
         return True
 
 
-@test
-def a_child_with_another_certificate_each_time_harms_nobody():
-    with running({"evil": "root", "left": "root"}, secure) as tree:
-        evil, left = tree["evil"], tree["left"]
-        most = forget(tree.root) + 32
-        for at in range(6):
-            evil.tables["tls"] = certify(tree.home, "evil", file=f"evil{at}")
-            evil.reload()
-            tree.reaches("left")
-        evil.kill()
-        # (a hello of TLS and one of the protocol with each of them, as fast as it goes)
-        contexts = itertools.cycle([tls(tree.home, f"evil{at}") for at in range(6)])
-        for _ in during(3):
-            with contextlib.suppress(OSError):
-                Child(tree.root, "evil", next(contexts)).close()
-        tree.reaches("left")
-        sure(memory(tree.root) < most, "its memory is", memory(tree.root), "of", most)
-        evil.start()
-        sure(tree.right(), tree.wrong())
-
-
 # ---- Stores
 
 @test(needs=store.lacking)
@@ -527,87 +446,3 @@ def who_writes_to_a_store_harms_its_own_link_alone():
                 time.sleep(0.3)
                 tree.reaches("left")
             sure(memory(tree.root) < most, "its memory is", memory(tree.root), "of", most)
-
-
-# ---- Longer ones, by hand
-
-@contextlib.contextmanager
-def small(place, size):
-    """A file system of so many MiB, as root."""
-    place.mkdir(parents=True, exist_ok=True)
-    subprocess.run(["mount", "-t", "tmpfs", "-o", f"size={size}m", "small", place], check=True)
-    try:
-        yield place
-    finally:
-        subprocess.run(["umount", "-l", place], check=True)
-
-
-@test(by_hand=True)
-def a_full_disk_is_said_and_mended():
-    """At a child, and at the root's folder while it publishes."""
-    with Tree({"full": "root", "left": "root"}, before=patient) as tree:
-        full, left = tree["full"], tree["left"]
-        with small(full.home / "small", 2) as place:
-            full.settings = place / "deep" / "settings"
-            full.tables["apply"]["folder"] = str(full.settings)
-            tree.begin()
-            for at in range(4):
-                tree.write(f"big{at}", bytes([65 + at]) * (1 << 20))
-            sure(until(lambda: full.status()["failing"] > 0), full.status())
-            tree.reaches("left")
-            for at in range(4):
-                (tree.root.truth / f"big{at}").unlink()
-            sure(tree.right(), tree.wrong())
-            sure(until(lambda: full.status()["failing"] == 0), full.status())
-            full.kill()
-        with small(tree.home / "truth", 1) as place:
-            tree.root.kill()
-            for path in tree.root.truth.iterdir():
-                (place / path.name).write_bytes(path.read_bytes())
-            tree.root.truth = place
-            tree.root.tables["root"]["settings"] = str(place)
-            tree.root.start()
-            sure(until(tree.root.up) and tree.right(agents=[left]), tree.wrong())
-            answers = [tree.root.ask("publish", f"fill{at}", value=b"x" * 200_000, check=False)
-                       for at in range(8)]
-            refused = sum("error" in it for it in answers)
-            sure(0 < refused < 8, answers)
-            sure(tree.right(agents=[left]), tree.wrong([left]))
-            (tree.root.truth / "fill0").unlink()
-            tree.root.ask("publish", "small", "1")
-            sure(tree.right(agents=[left]), tree.wrong([left]))
-            tree.root.kill()
-
-
-@test(by_hand=True)
-def files_that_a_parent_makes_by_the_thousand_are_removed_again():
-    with Tree({"left": "root"}) as tree:
-        left = tree["left"]
-        parent = Parent(left)
-        before = forget(left)
-        for at in range(2):
-            text = many_keys(bytes([97 + at]), 30_000)
-            parent.send(b"C" + struct.pack(">QI", 1_000 + at, 30_000) + text)
-        sure(memory(left) < before + MOST, "its memory is", memory(left))
-        sure(took(left.status) < 2 * PATIENCE, "it does not answer")
-        parent.close()
-        tree.write("one", "1")
-        tree.root.start()
-        sure(until(lambda: left.files() == tree.truth(), 120, 0.5), len(left.files()))
-
-
-@test(by_hand=True)
-def a_child_under_little_memory_ends_alone():
-    """15 MiB of settings where 120 MB of addresses are allowed: the others are served."""
-    with Tree({"little": "root", "left": "root"}, before=patient) as tree:
-        tree["little"].prefix = ["prlimit", "--as=140000000"]
-        tree.begin()
-        for at in range(15):
-            tree.write(f"big{at}", bytes([65 + at]) * (1 << 20))
-        for _ in range(10):
-            tree.reaches("left")
-        sure(tree.right(agents=[tree["left"]]), tree.wrong([tree["left"]]))
-
-
-if __name__ == "__main__":
-    sys.exit(main())

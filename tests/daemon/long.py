@@ -2,18 +2,21 @@
 """A long trial by hand: a tree of daemons, kills, stops, broken connections, and each count judged.
 
     tests/daemon/long.py [--runs 1] [--kills 50] [--nodes 15] [--seed 1] [--stops] [--relays]
-        [--loss PERCENT]
+        [--loss PERCENT] [--store]
 
 With --loss the agents have a network of their own (unshare), where nft drops PERCENT percent of
-the packets; that needs root. Each agent's log says what it received. Between two moments at
-which all processes were stopped at once, of each agent whose links were begun before the first
-one, this must hold: it received at most C + E bodies of before, and then published ones in their
-order, each once, and of those before its last one only some among the first M are missing. At the
-end, two rounds later, every agent has the settings of the root's folder. With --runs each run has
-the next seed. What a run that failed has judged is kept in a file that it names. The last line is
-'N passed, M failed'.
+the packets; that needs root. With --store seven agents have some of their links in a store of
+Redis, and two thirds of the faults are the store's. Each agent's log says what it received. What
+stands between two moments at which all processes were stopped at once is a job for `rignolda
+judge`, of each agent whose links were begun before the first one: it received at most C + E bodies
+of before, and then published ones in their order, each once, and of those before its last one only
+some of the first are missing. At the end, two rounds later, every agent has the settings of the
+root's folder. With --runs each run has the next seed. What a run that failed has judged is kept in
+a file that it names. The last line is 'N passed, M failed'.
 """
 import argparse
+import contextlib
+import itertools
 import json
 import os
 import pathlib
@@ -25,11 +28,16 @@ import tempfile
 import threading
 import time
 
-from daemons import Tree, fan, until
+sys.path.append(str(pathlib.Path(__file__).resolve().parents[2] / "tools"))
+import store
+from daemons import Tree, during, fan, until
 from memory import stands_still
+from programs import answered, run_with
 from relay import Relay, lose
+from runner import sure
 
-LIMIT = 60
+LIMIT = 60                  # of a backlog
+GARBAGE = 2 ** 32 - 1       # an item that nobody publishes
 
 
 class Trial:
@@ -88,15 +96,15 @@ class Trial:
             relay.calm = False
         return found
 
-    def judge(self):
+    def judge(self, file):
         logs = {agent.name: agent.text() for agent in self.tree}
         above = {agent.name: agent.parent.name for agent in self.tree if agent.parent}
-        verdict = judge(self.cuts, logs, above)
+        verdict = judge(file, self.cuts, logs, above)
         if verdict[0]:
             with tempfile.NamedTemporaryFile("w", prefix="rignolda-judged-", suffix=".json",
-                                             delete=False) as file:
-                json.dump({"cuts": self.cuts, "logs": logs, "above": above}, file)
-            print(f"what was judged is in {file.name}")
+                                             delete=False) as kept:
+                json.dump({"cuts": self.cuts, "logs": logs, "above": above}, kept)
+            print(f"what was judged is in {kept.name}")
         return verdict
 
 
@@ -110,8 +118,8 @@ def lines_of(text):
 
 def counts_of(cuts, texts, above):
     """Each count of an agent between two moments: which, the agent, and what is to be judged. That
-    is the agents of its path, what the root published, the number with which the root's list
-    begins, and what the agent received; or nothing, where a link of the path began anew."""
+    is what the root published, the place in it where the count begins, and what the agent received;
+    or nothing, where a link of the path began anew."""
     logs = {name: lines_of(text) for name, text in texts.items()}
     root = logs["root"]
     for at, (start, end) in enumerate(zip(cuts, cuts[1:])):
@@ -128,27 +136,60 @@ def counts_of(cuts, texts, above):
                 continue
             first = first_offered(root[begun:start["root"]], logs[path[0]][:start[path[0]]],
                                   part[path[0]], path[0])
-            yield at, name, (path, published, first, numbers(part[name], "received"))
+            place = len(published) if first is None else sum(it < first for it in published)
+            yield at, name, (published, place, numbers(part[name], "received"))
 
 
-def judge(cuts, texts, above):
+def job_of(above, published, counts):
+    """A job with logs: what the root published, and for each agent that is judged the place in that
+    where its count begins and what it received since. A node may have had LIMIT numbers for each of
+    its children. An item of the job is a number in the order in which it is met here, since numbers
+    of agents may be larger."""
+    names, known = ["root", *above], {}
+    item = lambda number: GARBAGE if number is None else known.setdefault(number, len(known))
+    first = min([place for place, _ in counts.values()], default=len(published))
+    return {
+        "version": 2, "h": LIMIT, "capacity": 1, "labels": 4,
+        "tree": [{"name": "root"}] + [{"name": name, "parent": parent}
+                                      for name, parent in above.items()],
+        "items": [item(number) for number in published[first:]],
+        "received": [[item(number) for number in counts.get(name, (0, []))[1]] for name in names],
+        "from": [counts[name][0] - first if name in counts else 0 for name in names],
+    }
+
+
+def broken_in(file, above, published, counts):
+    """What is wrong between two moments, by the agent's name. The list of the root begins for its
+    child with what the child had last or, where that was acknowledged, with the next number: so an
+    agent is wrong where both are refused."""
+    counts, moved, wrong = dict(counts), set(), {}
+    while True:
+        status, text, fault = answered(file, "judge", given=job_of(above, published, counts))
+        if (status, text) == (0, "obeys\n"):
+            return wrong
+        sure(status == 1 and text, "status", status, fault)
+        name = text.split(":", 1)[0]
+        place, received = counts.pop(name)
+        if name in moved:
+            wrong[name] = text.splitlines()[0]
+        else:
+            moved.add(name)
+            counts[name] = (min(place + 1, len(published)), received)
+
+
+def judge(file, cuts, texts, above):
     """Judges logs: the moments as `Trial.cuts` has them, the text of each log by its agent's name,
-    and the parent of each agent but the root. It returns what is wrong, how many counts of agents
-    were judged, their strays, what is missing in them, and how many counts were left out."""
-    wrong, judged, strays, missing, left_out = [], 0, 0, 0, 0
-    for at, name, count in counts_of(cuts, texts, above):
-        if count is None:
-            left_out += 1
-            continue
-        path, published, first, got = count
-        new = [number for number in published if first is not None and number >= first]
-        place = {number: at for at, number in enumerate(new)}
-        inner = [step for step in path if step in above.values()]
-        fault, front, gaps = judge_one(got, place, len(path), LIMIT * len(inner))
-        judged, strays, missing = judged + 1, strays + front, missing + gaps
-        if fault:
-            wrong.append((at, name, fault))
-    return wrong, judged, strays, missing, left_out
+    and the parent of each agent but the root. It returns what is wrong, as (part, agent, text), and
+    how many counts of agents were judged and left out."""
+    wrong, judged, left_out = [], 0, 0
+    for at, group in itertools.groupby(counts_of(cuts, texts, above), lambda it: it[0]):
+        group = list(group)
+        counts = {name: count[1:] for _, name, count in group if count}
+        judged, left_out = judged + len(counts), left_out + len(group) - len(counts)
+        if counts:
+            published = next(count[0] for _, _, count in group if count)
+            wrong += [(at, *it) for it in broken_in(file, above, published, counts).items()]
+    return wrong, judged, left_out
 
 
 def first_offered(root, before, since, name):
@@ -187,108 +228,199 @@ def began_anew(part, child, parent):
             or any(re.match(r"start |connected the parent.*a new count", line) for line in own))
 
 
-def judge_one(got, place, depth, backlogs):
-    """What is wrong with what an agent received; its strays; how many are missing."""
-    # (a number that is published may also have lain in a backlog: then it is a stray)
-    front = len(got)
-    after = len(place)
-    while front > 0 and place.get(got[front - 1], after) < after:
-        front -= 1
-        after = place[got[front]]
-    places = [place[number] for number in got[front:]]
-    lost = sorted(set(range(places[-1])) - set(places)) if places else []
-    # (the list begins with the body that the first agent of the path had last, or the next one)
-    lost = [at for at in lost if at > 0]
-    if front > depth + backlogs:
-        return f"{front} strays", front, 0
-    late = [at for at in lost if at > 3 * depth]
-    return (f"{late[:4]} are missing" if late else None), front, len(lost)
+# ---- Its test, by logs that were made by hand, which tests/check_logs.py runs
+
+ABOVE = {"inner": "root", "leaf": "inner"}
 
 
-def run(chosen, seed):
+def start(name, life):
+    return [f"start {name} life {life:016x}"]
+
+
+def lines(fact, *numbers):
+    return [f"{fact} {number}" for number in numbers]
+
+
+def received(*numbers):
+    return lines("received", *numbers)
+
+
+# All have begun, and have received what was published.
+BEGUN = {
+    "root": start("root", 1) + ["connected inner, a new count"] + lines("published", 10, 11, 12),
+    "inner": start("inner", 2) + ["connected the parent root, a new count",
+                                  "connected leaf, a new count"] + received(10, 11, 12),
+    "leaf": start("leaf", 3) + ["connected the parent inner, a new count"] + received(10, 11, 12)}
+
+
+def part(published, inner, leaf):
+    return {"root": lines("published", *published), "inner": received(*inner),
+            "leaf": received(*leaf)}
+
+
+def judged(file, *parts, broken=()):
+    """The verdict on logs of these parts. At the moments after those of `broken`, the last line
+    of an agent's log has no end, since its process was killed while it wrote it."""
+    texts = {name: "" for name in BEGUN}
+    lengths = {name: 0 for name in BEGUN}
+    cuts = []
+    for at, phase in enumerate(parts):
+        for name, found in phase.items():
+            texts[name] += "".join(line + "\n" for line in found)
+            lengths[name] += len(found)
+            if (at, name) in broken:
+                texts[name] = texts[name].removesuffix("\n")
+        cuts.append(dict(lengths))
+    wrong, count, left_out = judge(file, cuts, texts, ABOVE)
+    return [name for _, name, _ in wrong], count, left_out
+
+
+MANY = list(range(13, 113))
+OLD = list(range(1000, 1000 + 1 + LIMIT))
+# The child begins anew at the whole table 10, and has what was published up to 30; the leaf lacks
+# the last 10 of them.
+ANEW = {"root": ["connected inner, a new count"],
+        "inner": start("inner", 4) + ["connected the parent root, a new count",
+                                      "connected leaf, a new count"] + received(*range(10, 31)),
+        "leaf": ["connected the parent inner, a new count"] + received(*range(10, 21))}
+LATER = list(range(31, 113))
+# The law allows the leaf 1 + 60 strays where its parent has none, and 4 missing ones.
+CASES = [
+    ("all arrives", [BEGUN, part(MANY, MANY, MANY)], ([], 2, 0)),
+    ("the leaf lacks the last ones", [BEGUN, part(MANY, MANY, MANY[:-9])], ([], 2, 0)),
+    ("its first 4 are missing", [BEGUN, part(MANY, MANY, MANY[4:])], ([], 2, 0)),
+    ("so are 5", [BEGUN, part(MANY, MANY, MANY[5:])], (["leaf"], 2, 0)),
+    ("a late one is missing", [BEGUN, part(MANY, MANY, MANY[:50] + MANY[51:])],
+     (["leaf"], 2, 0)),
+    ("one is missing at both", [BEGUN, part(MANY, MANY[:50] + MANY[51:], MANY[:50] + MANY[51:])],
+     (["inner", "leaf"], 2, 0)),
+    ("as many strays as may be", [BEGUN, part(MANY, MANY, OLD + MANY)], ([], 2, 0)),
+    ("one more", [BEGUN, part(MANY, MANY, [999] + OLD + MANY)], (["leaf"], 2, 0)),
+    ("one of the last comes twice", [BEGUN, part(MANY, MANY, MANY + MANY[-1:])],
+     (["leaf"], 2, 0)),
+    ("two are exchanged", [BEGUN, part(MANY, MANY, MANY[:70] + [84, 83] + MANY[72:])],
+     (["leaf"], 2, 0)),
+    ("a link begins anew", [BEGUN, part(MANY, MANY, MANY), ANEW], ([], 2, 2)),
+    ("nothing comes to the child, which then begins anew at an older table",
+     [BEGUN, part(MANY, [], []), ANEW, part([], [], range(21, 31)), ANEW,
+      part([], LATER, [*range(21, 31), *LATER])], ([], 6, 4)),
+    ("nothing comes to the child any more, and the leaf has a backlog",
+     [BEGUN, part(MANY, [], []), ANEW, part([], [], range(21, 31))], ([], 4, 2)),
+    ("a process is killed while it writes a line, and begins anew",
+     [BEGUN, part([13], [13], [13]),
+      {"root": start("root", 5) + ["connected inner, a new count"] + lines("published", 90),
+       "inner": received(90), "leaf": received(90)}], ([], 2, 2), {(1, "root")}),
+]
+
+
+# ---- Trials
+
+def run(file, chosen, seed):
     """One trial: whether nothing was wrong."""
     draw = random.Random(seed)
     relays = []
 
     def before(tree):
+        if chosen.store:
+            store.in_store(redis)(tree)
         for agent in tree:
             agent.tables["link"] = {"ack_timeout": "500ms", "evict": "30s", "backlog": LIMIT}
         tree.root.tables["root"]["harmless"] = 11
-        if chosen.relays:
-            for at, agent in enumerate(tree):
-                if agent.parent and at % 2:
-                    relay = Relay(agent.parent.port, cuts=(0.05, 1.5), delay=0.002 * (at % 5),
-                                  seed=at)
-                    relays.append(relay)
-                    agent.top["parents"] = [f"{agent.parent.name}@127.0.0.1:{relay.port}"]
+        for at, agent in enumerate(tree):
+            if chosen.relays and agent.parent and at % 2:
+                relay = Relay(agent.parent.port, cuts=(0.05, 1.5), delay=0.002 * (at % 5), seed=at)
+                relays.append(relay)
+                agent.top["parents"] = [f"{agent.parent.name}@127.0.0.1:{relay.port}"]
 
-    try:
-        with Tree(fan(chosen.nodes), before=before) as tree:
-            return try_tree(tree, chosen, Trial(tree, draw, relays))
-    finally:
+    with contextlib.ExitStack() as ends:
+        redis = ends.enter_context(store.Redis()) if chosen.store else None
+        tree = ends.enter_context(Tree(None if chosen.store else fan(chosen.nodes), before))
         for relay in relays:
-            relay.close()
+            ends.callback(relay.close)
+        return try_tree(file, chosen, Trial(tree, draw, relays), redis)
 
 
-def try_tree(tree, chosen, trial):
+def strike(redis, trial):
+    """One fault of a store. It ends first, so that no agent has anything in hand that it got."""
+    how = trial.draw.randrange(4)
+    if how == 0:
+        redis.backup()
+        redis.age()
+    redis.kill()
+    time.sleep(0.1)
+    living = trial.stop_all()
+    redis.file.unlink(missing_ok=True)
+    if how > 1 and (redis.home / "backup").exists():
+        redis.restore()
+    redis.start()
+    if how == 3:
+        redis.make_old()
+        redis.spoil(trial.draw)
+        redis.make_old()
+    trial.cut()
+    for agent in living:
+        agent.signal(signal.SIGCONT)
+
+
+def kill(trial):
+    """Some agents end at one moment, or all of them, and begin anew."""
+    draw, agents = trial.draw, list(trial.tree)
+    victims = agents if draw.random() < 0.06 else draw.sample(agents, draw.choice([1, 1, 1, 2, 3]))
+    trial.cut(victims)
+    time.sleep(draw.choice([0, 0, 0.05, 0.3]))
+    for victim in victims:
+        victim.start()
+
+
+def wait(trial, stops):
+    """Waits for a while, in which some may stand still."""
+    for _ in during(trial.draw.uniform(0.3, 1.0)):
+        frozen = trial.draw.sample(list(trial.tree), 2 if stops else 0)
+        for agent in frozen:
+            agent.signal(signal.SIGSTOP)
+        time.sleep(trial.draw.uniform(0.05, 0.7) if stops else 0)
+        for agent in frozen:
+            agent.signal(signal.SIGCONT)
+        time.sleep(0.1)
+
+
+def try_tree(file, chosen, trial, redis):
     """The trial itself, with a tree that is not started yet."""
-    draw = trial.draw
+    tree = trial.tree
     tree.start()
-    if not trial.connected():
-        print("the tree is not ready")
-        return False
+    sure(trial.connected(), "the tree is not ready")
     publisher = threading.Thread(target=trial.publish)
     publisher.start()
-    for turn in range(chosen.kills):
-        trial.cut()
-        end = time.monotonic() + draw.uniform(0.3, 1.0)
-        while time.monotonic() < end:
-            if chosen.stops:
-                frozen = draw.sample(list(tree), 2)
-                for agent in frozen:
-                    agent.signal(signal.SIGSTOP)
-                time.sleep(draw.uniform(0.05, 0.7))
-                for agent in frozen:
-                    agent.signal(signal.SIGCONT)
-            time.sleep(0.1)
-        victims = list(tree) if draw.random() < 0.06 else \
-            draw.sample(list(tree), draw.choice([1, 1, 1, 2, 3]))
-        trial.cut(victims)
-        time.sleep(draw.choice([0, 0, 0.05, 0.3]))
-        for victim in victims:
-            victim.start()
-        if not trial.connected():
-            print(f"after kill {turn} not all are connected again")
-            trial.done.set()
-            return False
+    try:
+        for turn in range(chosen.kills):
+            trial.cut()
+            wait(trial, chosen.stops)
+            if redis and trial.draw.randrange(3):
+                strike(redis, trial)
+            else:
+                kill(trial)
+            sure(trial.connected(), "after fault", turn, "not all are connected again")
+    finally:
+        trial.done.set()
+        publisher.join()
     trial.cut()
-    trial.done.set()
-    publisher.join()
-    begun = time.monotonic()
     good = tree.right()
-    took = time.monotonic() - begun
     time.sleep(0.5)
     trial.cut()
-    wrong, judged, strays, missing, left_out = trial.judge()
-    gaps = sum(agent.status()["gaps"] for agent in tree)
+    wrong, judged, left_out = trial.judge(file)
     panics = [agent.name for agent in tree if agent.said("panicked")]
-    print(f"{chosen.kills} kills of {chosen.nodes}, {trial.changes} changes: {judged} counts "
-          f"of agents judged, {left_out} left out since a link began anew in them")
-    print(f"strays {strays}, missing among the first M {missing}, gaps counted since starts "
-          f"{gaps}, outside the bounds {len(wrong)} {wrong[:5]}")
-    print(f"settings right at all: {good}, after {took:.1f} s {tree.wrong()}; "
-          f"panics: {panics}")
+    print(f"{chosen.kills} faults, {trial.changes} changes: {judged} counts of agents judged, "
+          f"{left_out} left out since a link began anew in them; not as the laws say: {wrong[:5]}; "
+          f"settings right: {good} {tree.wrong()}; panics: {panics}", flush=True)
     return good and not wrong and not panics
 
 
-def main():
+def main(file):
     words = argparse.ArgumentParser(description=__doc__.splitlines()[0])
-    words.add_argument("--runs", type=int, default=1)
-    words.add_argument("--kills", type=int, default=50)
-    words.add_argument("--nodes", type=int, default=15)
-    words.add_argument("--seed", type=int, default=1)
-    words.add_argument("--stops", action="store_true")
-    words.add_argument("--relays", action="store_true")
+    for name, usual in ("runs", 1), ("kills", 50), ("nodes", 15), ("seed", 1):
+        words.add_argument(f"--{name}", type=int, default=usual)
+    for name in "stops", "relays", "store":
+        words.add_argument(f"--{name}", action="store_true")
     words.add_argument("--loss", type=float, default=0)
     chosen = words.parse_args()
     if chosen.loss:
@@ -299,12 +431,11 @@ def main():
     passed = 0
     for seed in range(chosen.seed, chosen.seed + chosen.runs):
         print(f"seed {seed}:", flush=True)
-        passed += run(chosen, seed)
-        sys.stdout.flush()
+        passed += run(file, chosen, seed)
     print(f"{passed} passed, {chosen.runs - passed} failed")
     return 0 if passed == chosen.runs else 1
 
 
 if __name__ == "__main__":
     os.chdir(pathlib.Path(__file__).resolve().parent)
-    sys.exit(main())
+    sys.exit(run_with(main, "rignolda"))

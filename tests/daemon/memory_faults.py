@@ -8,8 +8,7 @@ one of them is stopped, something is written into its memory; then the root's fo
 agent that ends, or hangs, is started again as systemd would. Two rounds later, and for 40 rounds at
 most, it is asked for: whether each agent has applied what the root's folder has, also after one
 more change, and whether `tree` and `wait` say so. What never comes to be so is stuck, or, where
-the folders alone are right, wrong that lasts. A file whose name is no key is litter: a spoiled
-path may leave one, and an agent names it and leaves it alone.
+the folders alone are right, wrong that lasts.
 
 A fault is a bit, a byte, a word or 64 bytes anywhere in the heap, something in the data or on a
 stack, or it is aimed: at the agent itself, at what lies about an end of a link, about a name, at a
@@ -18,12 +17,10 @@ time or a number.
 import argparse
 import collections
 import concurrent.futures
-import json
 import os
 import pathlib
 import random
 import re
-import shutil
 import signal
 import socket
 import struct
@@ -35,11 +32,10 @@ from daemons import Tree, running
 from groups import counting
 from memory import stopped, writable
 from runner import sure, test
+from trial import KEY
 
 ROUND = 0.5
 PATIENCE = 40 * ROUND
-# What may be the name of a setting.
-KEY = re.compile(r"[A-Za-z0-9_][A-Za-z0-9._-]{0,127}")
 # An agent that says no sign for so long hangs.
 HANGS = 6.0
 SHAPE = {"hub": "root", "one": "hub", "two": "hub"}
@@ -226,7 +222,7 @@ class Unit:
             pass
         if not self.agent.alive():
             how = "ended" if self.agent.process.returncode == 1 else "crashed"
-            said = [line for line in self.agent.text().splitlines() if line.startswith("rignoldad: ")]
+            said = re.findall("^rignoldad: .*", self.agent.text(), re.M)
             self.whys.update(said[-1:] if how == "ended" else [])
         elif now > self.seen + HANGS:
             self.agent.kill()
@@ -240,8 +236,8 @@ class Unit:
 class Trials:
     """A tree, and faults in it one after the other."""
 
-    def __init__(self, seed, keep):
-        self.seed, self.keep = seed, keep
+    def __init__(self, seed):
+        self.seed = seed
         self.tree, self.made = None, 0
         self.counts = collections.defaultdict(collections.Counter)
         self.whys = collections.Counter()
@@ -249,7 +245,7 @@ class Trials:
     def make(self):
         """A new tree that is right."""
         self.end()
-        self.tree, self.what, self.litter = Tree(SHAPE), [], set()
+        self.tree, self.what = Tree(SHAPE), []
         self.units = [Unit(agent) for agent in self.tree]
         self.tree.root.tables["root"].update(round=f"{int(ROUND * 1_000)}ms", harmless=7)
         for at in range(6):
@@ -284,21 +280,9 @@ class Trials:
 
     ends = []
 
-    def asked(self, agent, what):
-        """What an agent answers, if it does."""
-        try:
-            with socket.socket(socket.AF_UNIX) as sock:
-                sock.settimeout(2)
-                sock.connect(str(agent.socket))
-                sock.sendall(json.dumps({"do": what}).encode() + b"\n")
-                with sock.makefile("rb") as file:
-                    return json.loads(file.readline())[what]
-        except (OSError, ValueError, KeyError):
-            return None
-
     def says_right(self):
         """Whether `tree` shows four agents that are up, each below its parent."""
-        seen = self.asked(self.tree.root, "tree") or []
+        seen = self.tree.root.request(2, do="tree").get("tree", [])
         shape = {it["name"]: it["parent"] for it in seen}
         is_up = all(it["connected"] and it["whole"] and not it["failing"] and not it["draining"]
                     and it["applied"] >= seen[0]["changed"] and it["compared"] == "same"
@@ -306,16 +290,14 @@ class Trials:
         return is_up and shape == {"root": "", **SHAPE}
 
     def wrong(self):
-        """The agents whose settings are wrong. A file that has no key for its name, as a spoiled path
-        may make one, is no setting: an agent says that it is there, and leaves it alone."""
+        """The agents whose settings are wrong. A file that has no key for its name, as a spoiled
+        path may make one, is no setting: an agent says that it is there, and leaves it alone."""
         truth, wrong = self.tree.truth(), []
         for agent in self.tree:
-            files = agent.files()
-            settings = {name: value for name, value in files.items() if KEY.fullmatch(name)}
+            files = agent.files().items()
+            settings = {name: value for name, value in files if KEY.fullmatch(name)}
             right = counting(truth, agent.top.get("groups", []))
             wrong += [agent.name] if settings != right else []
-            if len(settings) < len(files):
-                self.litter.add(agent.name)
         return wrong
 
     def waits(self, seconds):
@@ -340,7 +322,7 @@ class Trials:
         agent = self.draw.choice(list(self.tree))
         if kind in EACH:
             number, agent = number // 2, self.tree[("hub", "root")[number % 2]]
-        status = self.asked(agent, "status") or self.tree.root.status()
+        status = agent.request(2, do="status").get("status") or self.tree.root.status()
         with stopped(agent.process.pid) as memory:
             pieces = Memory(agent.process.pid, memory)
             if kind in EACH:
@@ -351,8 +333,8 @@ class Trials:
             if not old or old == new:
                 return None
             os.pwrite(memory, new, place)
-        self.what.append(f"{kind} {number}: {agent.name} at {place:x}: {old.hex()} is {new.hex()} now")
-        begun, self.ends, litter = time.monotonic(), [], len(self.litter)
+        self.what.append(f"{kind} {number}: {agent.name} at {place:x}: {old.hex()} is {new.hex()}")
+        begun, self.ends = time.monotonic(), []
         self.change()
         self.holds(lambda: time.monotonic() >= begun + 2 * ROUND, PATIENCE)
         self.holds(lambda: not self.wrong(), 0.1)
@@ -372,7 +354,6 @@ class Trials:
         count = self.counts[kind]
         count["trials"] += 1
         count["late"] += late
-        count["litter"] += len(self.litter) - litter
         for how in set(self.ends):
             count[how] += 1
         if not is_right:
@@ -394,27 +375,16 @@ class Trials:
                 self.counts[kind][end] += 1
                 wrong = self.wrong()
                 print(f"{end}: {self.what[-1]}; {wrong}; {self.ends}", flush=True)
-                if self.keep:
-                    self.store(end)
             if end in ("stuck", "wrong", "again"):
                 self.end()
         self.end()
 
-    def store(self, end):
-        """Keeps the logs and what agents say of themselves."""
-        home = pathlib.Path(self.keep) / f"{end}-{self.tree.home.name}-{self.made}"
-        home.mkdir(parents=True)
-        lines = [*self.what, str(self.ends), str(self.wrong())]
-        (home / "what").write_text("\n".join(lines) + "\n")
-        for agent in self.tree:
-            (home / f"{agent.name}.json").write_text(json.dumps(self.asked(agent, "status")))
-            shutil.copy(agent.log, home / f"{agent.name}.log")
 
-
-KINDS = ["bit", "byte", "word", "run", "data", "stack", "agent", "links", "names", "times", "numbers"]
+KINDS = ["bit", "byte", "word", "run", "data", "stack", "agent", "links", "names", "times",
+         "numbers"]
 # Those that take all places in their turn, of the hub and of the root.
 EACH = {"each-link": each_link, "each-time": each_time}
-COLUMNS = ["trials", "late", "ended", "crashed", "hung", "litter", "wrong", "lied", "stuck"]
+COLUMNS = ["trials", "late", "ended", "crashed", "hung", "wrong", "lied", "stuck"]
 
 
 def table(counts):
@@ -425,9 +395,9 @@ def table(counts):
     return "\n".join(" ".join(f"{word:>8}" for word in line) for line in lines)
 
 
-def run(faults, seed, trees, keep=None):
+def run(faults, seed, trees):
     """Faults in several trees at once: the counts of each kind, and why agents ended."""
-    all_trees = [Trials(seed, keep) for _ in range(trees)]
+    all_trees = [Trials(seed) for _ in range(trees)]
     kinds, faults = dict.fromkeys(kind for kind, _ in faults), collections.deque(faults)
     with concurrent.futures.ThreadPoolExecutor(trees) as pool:
         list(pool.map(lambda it: it.run(faults), all_trees))
@@ -470,7 +440,8 @@ def who_finds_its_configuration_spoiled_ends_and_says_so():
                 unit.tend()
             sure(tree.ready() and tree.right(), tree.wrong())
         whys = sum((unit.whys for unit in units), collections.Counter())
-        sure(whys and all(why.startswith("rignoldad: its memory is spoiled: ") for why in whys), whys)
+        begins = "rignoldad: its memory is spoiled: "
+        sure(whys and all(why.startswith(begins) for why in whys), whys)
 
 
 def main():
@@ -479,11 +450,10 @@ def main():
     words.add_argument("--seed", default="1")
     words.add_argument("--trees", type=int, default=4)
     words.add_argument("--kinds", nargs="+", choices=[*KINDS, *EACH], default=KINDS)
-    words.add_argument("--keep", help="where what stays wrong is kept")
     words = words.parse_args()
     kinds = words.kinds
     faults = [(kinds[at % len(kinds)], at // len(kinds)) for at in range(words.trials)]
-    counts, whys = run(faults, words.seed, words.trees, words.keep)
+    counts, whys = run(faults, words.seed, words.trees)
     print(table(counts))
     for why, count in whys.most_common():
         print(f"{count} times {why}")

@@ -1,7 +1,4 @@
-#!/usr/bin/env python3
 """What an operator asks, and is told: who has what, what waits, and who is missing.
-
-    tests/daemon/operating.py [WORD..]     by itself; check.py runs it with all others
 """
 import contextlib
 import hashlib
@@ -10,12 +7,10 @@ import pty
 import shutil
 import signal
 import subprocess
-import sys
-import threading
 import time
 
 from daemons import Tree, certify, counted, patient, root_has, running, until
-from runner import main, sure, test
+from runner import sure, test
 
 
 def digest(key, value):
@@ -283,8 +278,11 @@ def a_folder_under_git_goes_back():
 
 @test
 def versions_and_certificates_are_in_the_tree():
+    ends = time.time() + 40 * 86_400 + 43_200
+
     def secure(tree):
         patient(tree)
+        counted(tree)
         # (half a day more, so that the whole days are the same however long this takes)
         for agent, days in zip(tree, (40, 40, 5)):
             agent.tables["tls"] = certify(tree.home, agent.name, days * 86_400 + 43_200)
@@ -305,6 +303,10 @@ def versions_and_certificates_are_in_the_tree():
         sure(until(is_up, pause=0.1), lines())
         sure(until(lambda: lines()[2].endswith(f"{version}  up"), pause=0.1), lines())
         sure(f"version        {version}" in tree.root.run("status").stdout)
+        end = tree.root.status()["certificate_expires"]
+        sure(0 <= end - int(ends) < 60, end, ends)
+        text = tree.root.counts()[1]
+        sure(f"\nrignolda_certificate_expires_timestamp_seconds {end}\n" in text, text)
 
 
 @test
@@ -316,30 +318,18 @@ def a_terminal_sees_who_is_missing():
                  "--timeout", "90s", str(number)]
         ours, theirs = pty.openpty()
         waits = subprocess.Popen(words, stdin=theirs, stdout=theirs, stderr=theirs)
+        os.close(theirs)
         said = b""
-        # (what is read waits for what is written)
+        # (what is read waits for what is written, and at the end nobody has the other end)
         while b"2 of 3 agents have it: leaf is not connected" not in said:
             said += os.read(ours, 4_096)
         tree["leaf"].start()
-        reads = threading.Thread(target=drain, args=(ours, said := bytearray(said)))
-        reads.start()
-        sure(waits.wait(timeout=100) == 0, bytes(said)[-300:])
-        os.close(theirs)
-        reads.join()
+        with contextlib.suppress(OSError):
+            while more := os.read(ours, 4_096):
+                said += more
+        os.close(ours)
         # (at the end the line is gone)
-        sure(b"\r\x1b[K3 of 3 agents have it\r\x1b[K" in said[-60:], bytes(said)[-300:])
-        sure(said.count(b"\n") == 0, bytes(said)[-300:])
+        sure(waits.wait() == 0 and said.endswith(b"\r\x1b[K3 of 3 agents have it\r\x1b[K"), said)
+        sure(b"\n" not in said, said)
         done = tree.root.run("wait", "--everywhere", number)
         sure((done.returncode, done.stdout, done.stderr) == (0, "", ""), done)
-
-
-def drain(file, said):
-    """Reads a terminal until it is closed at its other end."""
-    with contextlib.suppress(OSError):
-        while more := os.read(file, 4_096):
-            said += more
-    os.close(file)
-
-
-if __name__ == "__main__":
-    sys.exit(main())

@@ -1,16 +1,10 @@
-#!/usr/bin/env python3
-"""The page at the address of the metrics: it says what `rignoldactl tree` says.
-
-    tests/daemon/paged.py [WORD..]     by itself; check.py runs it with all others
-    tests/daemon/paged.py --serve N    serves the page of a tree of N agents until it is ended
-"""
+"""The page at the address of the metrics: it says what `rignoldactl tree` says."""
 import html.parser
 import socket
-import sys
 
-from daemons import Tree, counted, running, until, very_patient
+from daemons import Tree, counted, until, very_patient
 from protocol import Child, report
-from runner import main, sure, test
+from runner import sure, test
 from watching import also_below
 
 MOST = 40_000
@@ -134,21 +128,3 @@ def the_page_says_what_the_tree_is():
             head = b"".join(iter(lambda: sock.recv(1 << 16), b"")).partition(b"\r\n\r\n")[0]
         sure(b"Content-Security-Policy: default-src 'none';" in head, head)
         child.close()
-
-
-def serve(count):
-    def before(tree):
-        very_patient(tree)
-        counted(tree)
-
-    with running({"left": "root", "rack": "root"}, before, without=["rack"]) as tree:
-        child = many(tree, count)
-        print(f"http://127.0.0.1:{tree.root.metrics}/", flush=True)
-        sys.stdin.read()
-        child.close()
-
-
-if __name__ == "__main__":
-    if sys.argv[1:2] == ["--serve"]:
-        sys.exit(serve(int(sys.argv[2])))
-    sys.exit(main())

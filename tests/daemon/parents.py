@@ -1,19 +1,15 @@
-#!/usr/bin/env python3
 """The choice of parents in trees of processes: restarts in every order, who is cut off, and parents
 that connect to their children.
-
-    tests/daemon/parents.py [WORD..]     by itself; check.py runs it with all others
 """
 import random
 import signal
 import ssl
-import sys
 import time
 
 from daemons import Tree, by_tls, running, tls, until
 from protocol import hello
 from relay import Relay
-from runner import main, sure, test
+from runner import sure, test
 
 
 def parents(agent, *names):
@@ -47,46 +43,10 @@ def racks(count, further=1, leaf=()):
     return shape, before
 
 
-def below_root(tree):
-    """Whether each rack comes to have the root as its parent, and all have its settings."""
-    agents = [agent for agent in tree if agent.name.startswith("rack")]
-    at_root = lambda: all(agent.up() and agent.status()["parent"] == "root" for agent in agents)
-    sure(until(at_root, pause=0.1), [(agent.name, agent.status()["parent"]) for agent in agents])
-    sure(tree.right(), tree.wrong())
-
-
 def at_first(name, tree):
     """Waits until the leaf has its first parent, which may have begun after the other one."""
     leaf = tree["leaf"]
     sure(until(lambda: leaf.status()["parent"] == name, pause=0.1), leaf.status())
-
-
-@test(begins=True)
-def racks_that_start_before_the_root_come_to_it():
-    with Tree(*racks(3)) as tree:
-        tree.write("one", "1")
-        for agent in tree:
-            if agent is not tree.root:
-                agent.start()
-        time.sleep(0.3)
-        tree.root.start()
-        below_root(tree)
-        way = tree["rack1"].status()
-        sure((way["cost"], way["way"]) == (1, ["root", "rack1"]), way)
-
-
-@test(begins=True)
-def a_root_that_restarts_leaves_no_ring():
-    with running(*racks(3)) as tree:
-        below_root(tree)
-        for away in (0.2, 1.5):
-            tree.root.kill(signal.SIGTERM)
-            time.sleep(away)
-            tree.root.start()
-            tree.write("away", away)
-            below_root(tree)
-        strays = [agent.status()["strays"] for agent in tree]
-        sure(sum(strays) < 50, "items went round:", strays)
 
 
 @test(begins=True)
@@ -110,28 +70,6 @@ def who_has_another_parent_leaves_one_that_lost_the_root():
 
 
 @test(begins=True)
-def nobody_moves_while_the_root_is_away():
-    with running(*racks(3, leaf=("rack0", "rack1"))) as tree:
-        below_root(tree)
-        tree.root.kill()
-        below = [agent for agent in tree if agent is not tree.root]
-        lost = lambda: all(agent.status()["cost"] >= 128 for agent in below)
-        sure(until(lost, pause=0.1), [agent.status()["way"] for agent in below])
-        moves = lambda: [agent.status()["reconnects"] for agent in below]
-        before, lines = moves(), [agent.text().count("\n") for agent in below]
-        time.sleep(3)
-        sure(moves() == before, "they moved:", before, moves())
-        more = [agent.text().count("\n") for agent in below]
-        sure(sum(more) - sum(lines) < 4, "the journal grows:", lines, more)
-        tree.root.start()
-        tree.write("back", "1")
-        below_root(tree)
-        # (it takes the first one that has the root, and then comes back to its own first one)
-        way = lambda: tree["leaf"].status()["way"]
-        sure(until(lambda: way() == ["root", "rack0", "leaf"], pause=0.1), tree["leaf"].status())
-
-
-@test(begins=True)
 def a_parent_that_stands_still_is_left():
     with running(*racks(2, further=0, leaf=("rack0", "rack1"))) as tree:
         at_first("rack0", tree)
@@ -143,57 +81,59 @@ def a_parent_that_stands_still_is_left():
         sure(tree.right(), tree.wrong())
 
 
-@test(begins=True)
-def a_ring_of_single_parents_says_so_once():
-    def ring(tree):
-        for agent in tree:
-            agent.top["children"] = []
-        for at in range(3):
-            parents(tree[f"a{at}"], f"a{(at + 1) % 3}")
+def rests(agents):
+    """Whether agents stay where they are for a while, and their journals as long as they are."""
+    moves = lambda: [agent.status()["reconnects"] for agent in agents]
+    lines = lambda: sum(agent.text().count("\n") for agent in agents)
+    before, length = moves(), lines()
+    time.sleep(3)
+    # (somebody may say late what was so before)
+    return moves() == before and lines() - length < 4
 
-    with Tree({f"a{at}": "root" for at in range(3)}, before=ring) as tree:
-        agents = [tree[f"a{at}"] for at in range(3)]
-        for agent in agents:
-            agent.start()
-        sure(until(lambda: all(agent.socket.exists() for agent in agents), pause=0.05))
-        why = "its way leads over this agent"
-        heads = lambda: [agent for agent in agents if agent.status()["parent"] is None]
-        broken = lambda: len(heads()) == 1 and heads()[0].said(why)
-        sure(until(broken, pause=0.1), [agent.text() for agent in agents])
-        lines = [agent.text().count("\n") for agent in agents]
-        time.sleep(3)
-        more = [agent.text().count("\n") for agent in agents]
-        sure(broken() and more == lines, "the journal grows:", lines, more)
-        # (one of them is mended)
-        head = heads()[0]
-        parents(head, "root")
+
+@test(begins=True)
+def agents_without_a_root_rest_and_come_back_to_it():
+    """What goes round in a ring while the root is away would be strays."""
+    with running(*racks(3, leaf=("rack0", "rack1"))) as tree:
+        below = [agent for agent in tree if agent is not tree.root]
+        ring = [agent for agent in below if agent.name != "leaf"]
+
+        def come_back():
+            tree.root.start()
+            tree.write("back", time.monotonic())
+            at_root = lambda: all(agent.status()["parent"] == "root" for agent in ring)
+            sure(until(at_root, pause=0.1), [agent.status()["way"] for agent in ring])
+            sure(tree.right(), tree.wrong())
+
+        tree.root.kill(signal.SIGTERM)
+        time.sleep(0.2)
+        come_back()
+        tree.root.kill()
+        lost = lambda: all(agent.status()["cost"] >= 128 for agent in below)
+        sure(until(lost, pause=0.1), [agent.status()["way"] for agent in below])
+        sure(rests(below), [agent.text()[-500:] for agent in below])
+        come_back()
+        # (it takes the first one that has the root, and then comes back to its own first one)
+        way = lambda: tree["leaf"].status()["way"]
+        sure(until(lambda: way() == ["root", "rack0", "leaf"], pause=0.1), way())
+        strays = [agent.status()["strays"] for agent in tree]
+        sure(sum(strays) < 50, "items went round:", strays)
+        # of a ring of single parents one says why it has none
+        tree.root.kill()
+        for agent in ring:
+            agent.kill()
+            del agent.top["parents"][0]
+        tree.start(ring)
+        heads = lambda: [agent for agent in ring
+                         if agent.request(do="status").get("status", {}).get("parent") is None]
+        broken = lambda: len(heads()) == 1 and heads()[0].said("its way leads over this agent")
+        sure(until(broken, pause=0.1), [agent.text()[-500:] for agent in ring])
+        sure(rests(ring) and broken(), [agent.text()[-500:] for agent in ring])
+        parents(heads()[0], "root")
         tree.root.start()
-        head.reload()
-        tree.write("one", "1")
+        heads()[0].reload()
+        tree.write("mended", "1")
         sure(tree.right(), tree.wrong())
-
-
-@test(begins=True)
-def faults_end_in_a_tree():
-    draw = random.Random(5)
-    with running(*racks(5, further=2)) as tree:
-        below_root(tree)
-        for turn in range(10):
-            names = [["root"], ["rack"], ["root", "rack"]][draw.randrange(3)]
-            hit = [tree.root if it == "root" else tree[f"rack{draw.randrange(5)}"] for it in names]
-            stops = draw.randrange(3) == 0
-            for agent in hit:
-                agent.signal(signal.SIGSTOP) if stops else agent.kill()
-            tree.write(f"key{turn % 3}", turn)
-            time.sleep(draw.random())
-            for agent in hit:
-                agent.signal(signal.SIGCONT) if stops else agent.start()
-            time.sleep(draw.random() / 2)
-        below_root(tree)
-        moves = lambda: [tree[f"rack{at}"].status()["reconnects"] for at in range(5)]
-        before = moves()
-        time.sleep(1)
-        sure(moves() == before, "they move on:", before, moves())
 
 
 # ---- Parents that connect to their children
@@ -289,7 +229,3 @@ def parents_may_connect_to_their_children():
         sure(tree.right(agents=[leaf, right]), tree.wrong([leaf, right]))
         sure(not any(agent.said("panicked") for agent in tree))
         relays[0].close()
-
-
-if __name__ == "__main__":
-    sys.exit(main())

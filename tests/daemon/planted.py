@@ -5,9 +5,9 @@
     tests/daemon/planted.py --fits [NAME..]  whether each fits the code and names a test, at once
 
 A file has the lines `file:`, `old:`, `new:`, as the planted bugs of the crates, and `by:`, the test
-that finds it: one of check.py, or of the library or the daemon's crate, as FILE::TEST. Before that, the daemon as it is
-has to pass each of these tests. The copy is built in a folder of its own: PLANTED_TARGET, or one
-beside other temporary files.
+that finds it: one of check.py, or of the library or the daemon's crate, as FILE::TEST. Before that,
+the daemon as it is has to pass each of these tests. The copy is built in a folder of its own:
+PLANTED_TARGET, or one beside other temporary files.
 """
 import argparse
 import os

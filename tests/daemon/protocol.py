@@ -19,9 +19,9 @@ def hello(sender, to, life=None, label=255, version=1):
     return b"RGND" + struct.pack(">BQH", version, life, label) + name(sender) + name(to)
 
 
-def look(sender, to):
-    """A hello of version 2 that begins no count: it asks for the way."""
-    return b"RGNL" + hello(sender, to, label=0, version=2)[4:]
+def look(sender, to, versions=0):
+    """A hello of version 2 that begins no count: it asks for the way, and may name versions."""
+    return b"RGNL" + hello(sender, to, label=versions, version=2)[4:]
 
 
 def way(cost, names, length=None):

@@ -4,9 +4,9 @@
     tests/daemon/publisher.py > rust/rignolda/tests/publisher.txt
 
 A row is a line of steps and a line of the bodies that they publish, each its kind, number and
-checksum. Steps: `a=7` sets the key a, `a*900` sets it to so many letters x, `a-` unsets it, `all=5000`
-sets so many keys, `round3` begins a round with three harmless bodies, `hold` and `go` hold tables
-back or no more, `above9` goes on above 9, and `?8` asks for a body where eight may
+checksum. Steps: `a=7` sets the key a, `a*900` sets it to so many letters x, `a-` unsets it,
+`all=5000` sets so many keys, `round3` begins a round with three harmless bodies, `hold` and `go`
+hold tables back or no more, `above9` goes on above 9, and `?8` asks for a body where eight may
 follow a table.
 """
 import random

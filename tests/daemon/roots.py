@@ -1,23 +1,10 @@
-#!/usr/bin/env python3
-"""A second root: it is promoted when the first one is gone, and of two roots one goes on.
-
-    tests/daemon/roots.py [WORD..]                 by itself; check.py runs it with all others
-    tests/daemon/roots.py --trials 100 --seed 1    kills, by hand
-
-In a trial two agents that may be the root, and four others, are changed and killed all the time.
-At a drawn moment the root is killed for ever, or cut off from the other one and goes on; the other
-one is promoted, and may be killed meanwhile. Two rounds later all have to have what its folder has.
-Then the old root is back, with a folder that somebody has changed, and has to change nothing.
-"""
-import argparse
+"""A second root: it is promoted when the first one is gone, and of two roots one goes on."""
 import concurrent.futures
-import random
 import subprocess
-import sys
 import time
 
 from daemons import Tree, by_tls, counted, free_port, read, until
-from runner import main, sure, test
+from runner import sure, test
 
 ROUND = 0.5
 SHAPE = {"second": "root", "left": "root", "right": "root", "leaf": "left", "deep": "leaf"}
@@ -50,13 +37,6 @@ def begin(tree):
     sure(until(root.socket.exists), root.text())
     root.ask("promote", "--as-is")
     sure(tree.ready() and tree.right(), [agent.text()[-300:] for agent in tree])
-
-
-def change(agent, key, value):
-    """Changes the folder of a root as an editor does."""
-    new = agent.truth / f".{key}.new"
-    new.write_bytes(value if isinstance(value, bytes) else str(value).encode())
-    new.rename(agent.truth / key)
 
 
 def wrong(tree, truth, agents=None):
@@ -94,8 +74,8 @@ def an_agent_that_is_promoted_goes_on_and_the_old_root_stands_by():
         root, second, others = tree.root, tree["second"], ["left", "right", "leaf", "deep"]
         begin(tree)
         # what lies in the folder of one that is not promoted is nobody's
-        change(second, "key0", "of long ago")
-        change(second, "stale", "1")
+        second.write("key0", "of long ago")
+        second.write("stale", "1")
         second.restart()
         sure(is_now(second, "below"), second.text())
         goes_on()
@@ -130,7 +110,7 @@ def an_agent_that_is_promoted_goes_on_and_the_old_root_stands_by():
         # (nothing that it published was older than what they had)
         sure(strays(tree) == {**before, "second": 0}, before, strays(tree))
         sure(second.status()["sequence"] > number, second.status(), number)
-        change(second, "key1", "of the second")
+        second.write("key1", "of the second")
         second.ask("publish", "key2", "of the second too")
         sure(right(tree, second), wrong(tree, read(second.truth)))
         # it stays the root, and nothing is held of what it has applied
@@ -138,15 +118,15 @@ def an_agent_that_is_promoted_goes_on_and_the_old_root_stands_by():
         second.restart()
         sure(is_now(second, "root") and right(tree, second), second.text())
         sure(second.status()["held"] == 0, second.status())
-        change(second, "key3", "looked at")
+        second.write("key3", "looked at")
         diff = lambda: second.ask("diff")["changes"]
         sure(until(lambda: diff() == [{"key": "key3", "bytes": 9}]), diff())
         second.ask("confirm")
         sure(right(tree, second), wrong(tree, read(second.truth)))
         # the old root is back, with a folder of its own
         truth = read(second.truth)
-        change(root, "key1", "of the old root")
-        change(root, "mine", "1")
+        root.write("key1", "of the old root")
+        root.write("mine", "1")
         begun = root.said("this is the root now")
         root.start()
         sure(is_now(root, "stands-by", "second"), root.text())
@@ -179,7 +159,7 @@ def an_agent_that_is_promoted_goes_on_and_the_old_root_stands_by():
         root.ask("promote")
         sure(is_now(root, "root"), root.text())
         sure(is_now(second, "stands-by", "root"), second.text())
-        change(root, "key1", "of the first one again")
+        root.write("key1", "of the first one again")
         sure(right(tree, root) and tree["deep"].files()["key1"] == b"of the first one again",
              wrong(tree, read(root.truth)))
         second.ask("demote")
@@ -211,8 +191,8 @@ def of_two_roots_that_find_each_other_one_goes_on():
             cut(tree, True)
             sure(until(lambda: second.status()["parent"] is None), second.text())
             second.ask("promote")
-            change(second, "who", "second")
-            change(root, "who", "root")
+            second.write("who", "second")
+            root.write("who", "root")
             sure(right(tree, root, agents=[root, left, tree["leaf"]]), root.text())
             sure(right(tree, second, agents=[second]), second.text())
             goes_on(2)
@@ -241,14 +221,14 @@ def a_spoiled_mark_of_a_root_is_harmless_or_refused():
         for spoiled in (b"", b"\xff" * 9, b"12", mark.read_bytes()[:7] + b"x\n", b"0" * 5_000):
             root.kill()
             mark.write_bytes(spoiled)
-            change(root, "key0", spoiled[:9])
+            root.write("key0", spoiled[:9])
             root.start()
             sure(is_now(root, "root") and tree.right(), spoiled, root.text())
         sure(root.said(".root has no number: any other root goes on"), root.text())
         root.kill()
         mark.unlink()
         mark.mkdir()
-        change(root, "key0", "never")
+        root.write("key0", "never")
         root.start()
         sure(is_now(root, "stands-by") and root.said(".root is no plain file"), root.text())
         goes_on()
@@ -295,153 +275,31 @@ def the_files_of_two_roots_are_checked():
         second.tables["apply"] = apply
 
 
-# ---- Kills, by hand
-
-class Trial:
-    """One tree, in which roots are killed for ever one after the other."""
-
-    def __init__(self, seed):
-        self.draw = random.Random(seed)
-        self.tree = Tree(SHAPE, two)
-        self.root, self.other = self.tree.root, self.tree["second"]
-        begin(self.tree)
-        self.turn = 0
-
-    def changes(self, agent, count):
-        """Some changes of a root's folder, and some kills of others."""
-        for _ in range(count):
-            self.turn += 1
-            key = f"key{self.draw.randrange(40)}"
-            kind = self.draw.random()
-            if kind < 0.15:
-                (agent.truth / key).unlink(missing_ok=True)
-            elif kind < 0.3:
-                agent.request(1, do="publish", key=key, value=self.draw.randbytes(40).hex())
-            else:
-                size = self.draw.choice([0, 10, 300, 3_000, 100_000])
-                change(agent, key, self.draw.randbytes(size))
-            if self.draw.random() < 0.1:
-                others = [it for it in self.tree if it.alive() and it is not agent]
-                self.draw.choice(others).restart()
-            time.sleep(self.draw.choice([0, 0, 0.01, 0.05]))
-
-    def promote(self, agent):
-        """Has it promoted, also where it is killed meanwhile; else it is told what to publish."""
-        if self.draw.random() < 0.3:
-            with concurrent.futures.ThreadPoolExecutor(1) as pool:
-                asked = pool.submit(agent.request, 20, do="promote")
-                time.sleep(self.draw.choice([0, 0.001, 0.003, 0.01, 0.03]))
-                agent.restart()
-                asked.result()
-        applied = None
-
-        def is_root():
-            nonlocal applied
-            sure(agent.alive(), agent.text()[-500:])
-            found = agent.request(do="status").get("status", {})
-            if found.get("standby") == "root":
-                return True
-            applied = agent.files()
-            said = agent.request(20, do="promote")
-            return said == "done" or said
-        # (whoever was killed while it applied a table has none that is whole)
-        said = None
-        for _ in range(200):
-            said = is_root()
-            if said is True:
-                return "promoted"
-            if "not a whole table" in str(said):
-                break
-            time.sleep(0.05)
-        sure("not a whole table" in str(said), said, agent.text()[-500:])
-        for path in agent.truth.iterdir():
-            if not path.name.startswith("."):
-                path.unlink()
-        for key, value in agent.files().items():
-            change(agent, key, value)
-        sure(agent.request(20, do="promote", as_is=True) == "done", agent.text()[-500:])
-        return "by hand"
-
-    def two_rounds(self, agent):
-        """Whether two rounds later all have what its folder has; else for how long it took."""
-        start = None
-        rounds = lambda: agent.request(do="status").get("status", {}).get("round")
-        sure(until(lambda: rounds(), pause=0.02), agent.text()[-500:])
-        for _ in range(2):
-            start = rounds()
-            sure(until(lambda: rounds() not in (None, start), pause=0.02), agent.text()[-500:])
-        # (the last one has to come down)
-        begun = time.monotonic()
-        sure(right(self.tree, agent), "not right:", wrong(self.tree, read(agent.truth)))
-        return time.monotonic() - begun
-
-    def go(self):
-        """One kill, and what follows: what was done, and how long the last round took."""
-        root, other, draw = self.root, self.other, self.draw
-        self.changes(root, draw.randrange(1, 30))
-        is_cut = draw.random() < 0.3
-        if is_cut:
-            cut(self.tree, True)
-            parent = lambda: other.request(do="status").get("status", {}).get("parent", 1)
-            sure(until(lambda: parent() is None, pause=0.05), other.text()[-500:])
-            self.changes(root, draw.randrange(1, 10))
-        else:
+@test
+def who_is_killed_while_it_is_promoted_may_be_promoted_again():
+    with Tree({"second": "root", "left": "root"}, two) as tree:
+        root, second = tree.root, tree["second"]
+        begin(tree)
+        for turn, pause in enumerate((0, 0.001, 0.01, 0.03)):
+            root.write("turn", turn)
+            sure(right(tree, root), wrong(tree, read(root.truth)))
             root.kill()
-        how = self.promote(other)
-        self.changes(other, draw.randrange(0, 20))
-        if is_cut:
-            self.changes(root, draw.randrange(0, 20))
-            if draw.random() < 0.5:
-                sure(root.request(20, do="demote") == "done", root.text()[-500:])
-            cut(self.tree, False)
-            sure(is_now(root, "below") or is_now(root, "stands-by", other.name), root.text()[-500:])
-            late = self.two_rounds(other)
-        else:
-            late = self.two_rounds(other)
-            truth = read(other.truth)
-            change(root, f"old{self.turn}", "of the old root")
+            with concurrent.futures.ThreadPoolExecutor(1) as pool:
+                asked = pool.submit(second.request, 20, do="promote")
+                time.sleep(pause)
+                second.restart()
+                asked.result()
+            sure(until(lambda: second.request(do="status")), second.text()[-500:])
+            said = second.request(20, do="promote")
+            if said != "done" and not is_now(second, "root"):
+                # (it has its files, but has heard no whole table since it began)
+                sure("not a whole table" in str(said), said, second.text()[-500:])
+                for key, value in second.files().items():
+                    second.write(key, value)
+                sure(second.request(20, do="promote", as_is=True) == "done", second.text()[-500:])
+            sure(is_now(second, "root") and right(tree, second), second.text()[-500:])
+            sure(tree["left"].files()["turn"] == str(turn).encode(), tree["left"].files())
             root.start()
-            sure(is_now(root, "stands-by", other.name), root.text()[-500:])
-            goes_on(2)
-            others = [agent for agent in self.tree if agent is not root]
-            sure(not wrong(self.tree, truth, others), "changed:", wrong(self.tree, truth, others))
-            sure(right(self.tree, other), "the old root:", wrong(self.tree, truth))
-        if root.request(do="status")["status"]["standby"] == "stands-by":
-            sure(root.request(20, do="demote") == "done", root.text()[-500:])
-        self.root, self.other = other, root
-        return ("both" if is_cut else "killed"), how, late
-
-
-def trials(count, seed, trees):
-    """So many kills, in several trees at once."""
-    def work(which):
-        done, trial = [], Trial(f"{seed} {which}")
-        with trial.tree:
-            for _ in range(which, count, trees):
-                try:
-                    done.append(trial.go())
-                except Exception as error:
-                    done.append(("FAILED", repr(error)[:600], 0))
-                    print(seed, which, len(done), done[-1], flush=True)
-                    break
-        return done
-
-    with concurrent.futures.ThreadPoolExecutor(trees) as pool:
-        done = sum(pool.map(work, range(trees)), [])
-    for kind in sorted({it[:2] for it in done}):
-        late = [it[2] for it in done if it[:2] == kind]
-        print(*kind, len(late), "the last round came down within", f"{max(late):.2f} s")
-    failed = sum(it[0] == "FAILED" for it in done)
-    print(f"{len(done) - failed} passed, {failed} failed")
-    return 1 if failed else 0
-
-
-if __name__ == "__main__":
-    words = argparse.ArgumentParser(add_help=False)
-    words.add_argument("--trials", type=int)
-    words.add_argument("--seed", default="1")
-    words.add_argument("--trees", type=int, default=4)
-    chosen, rest = words.parse_known_args()
-    if chosen.trials:
-        sys.exit(trials(chosen.trials, chosen.seed, chosen.trees))
-    sys.exit(main())
+            sure(is_now(root, "stands-by", second.name), root.text()[-500:])
+            root.ask("demote")
+            root, second = second, root

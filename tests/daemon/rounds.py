@@ -1,7 +1,4 @@
-#!/usr/bin/env python3
 """What rounds send while nothing changes, and daemons of two releases in one tree.
-
-    tests/daemon/rounds.py [WORD..]     by itself; check.py runs it with all others
 
 A whole table goes by a reference to those that have all that is in it. It is counted, byte for
 byte, what comes by the lines of a tree: of what is right, of what was changed there, of an agent
@@ -15,23 +12,19 @@ import random
 import socket
 import struct
 import subprocess
-import sys
 import tempfile
 
-from daemons import HOME, PATIENCE, USUAL, Tree, chain, free_port, root_has, running, until
+from daemons import HOME, PATIENCE, USUAL, Tree, chain, root_has, running, until, very_patient
 from memory import write_over
-from protocol import hello, take_hello, way
+from protocol import look, take_hello
 from relay import Relay
-from runner import main, sure, test
+from runner import sure, test
 
 # The commit of the last release, and the digest of its daemon.
 LAST = ("91ab645429d198624dab46bcf44db430281548a9",
         "64136812135c4e20a02987f218cddffa45dd29dbc7cc537c5e55779e3f5ce46a")
 # How many bytes the settings of a test have, and how many a round may come to, on each line.
 BULK, FEW = 1 << 18, 4_000
-OWN = 1, 3      # the versions of the protocol that the daemon speaks
-
-
 @functools.cache
 def last_release():
     """The daemon of the last release, as the history of this clone has it, if it does."""
@@ -140,44 +133,35 @@ def a_round_of_what_is_right_sends_no_table():
             relay.close()
 
 
-def range_of(versions):
-    return struct.unpack(">H", bytes(versions))[0]
-
-
 @test
 def versions_that_do_not_meet_are_named_by_both_ends():
-    theirs = 7, 9
+    """The crates show how versions are chosen: here it is seen what an operator is told."""
+    theirs = struct.unpack(">H", bytes([7, 9]))[0]
     words = "it speaks versions 7 to 9 of the protocol, and this agent 1 to 3"
-
-    def look(sender, to):
-        return b"RGNL" + hello(sender, to, label=range_of(theirs), version=2)[4:]
-
-    with socket.create_server(("127.0.0.1", free_port())) as future:
-        future.settimeout(USUAL * PATIENCE)
-        with Tree({"leaf": "root"}) as tree:
-            leaf = tree["leaf"]
-            leaf.top["parents"] = [f"root@127.0.0.1:{future.getsockname()[1]}"]
-            tree.start()
-            # a parent of a later release
-            line, _ = future.accept()
-            line.settimeout(USUAL * PATIENCE)
-            head = line.recv(15, socket.MSG_PEEK | socket.MSG_WAITALL)
-            sure(head[:5] == b"RGNL\x02" and head[13:] == bytes(OWN), head)
-            line.sendall(look("root", "leaf") + way(0, ["root"]))
-            sure(until(lambda: words in leaf.status()["no_parent"]), leaf.status())
-            sure(leaf.said(words) and words in leaf.run("status").stdout)
-            line.close()
-            # and a child
-            sure(until(lambda: "sequence" in tree.root.request(do="status").get("status", {})))
-            with tree.root.connect() as line:
-                line.sendall(look("leaf", "root"))
-                answer = line.recv(15, socket.MSG_PEEK | socket.MSG_WAITALL)
-                sure(answer[13:] == bytes(OWN), answer)
+    # (what is said of the first look stands as long as another one waits)
+    with Tree({"leaf": "root"}, very_patient) as tree:
+        leaf = tree["leaf"]
+        # a parent of a later release
+        with socket.create_server(("127.0.0.1", tree.root.port)) as later:
+            later.settimeout(USUAL * PATIENCE)
+            leaf.start()
+            line, _ = later.accept()
+            with line:
+                line.settimeout(USUAL * PATIENCE)
                 take_hello(line, b"RGNL\x02")
-            refused = lambda: tree.root.status()["last_refused"]
-            sure(until(lambda: words in refused()) and "calls itself leaf" in refused(), refused())
-            sure(tree.root.said(words) and words in tree.root.run("status").stdout)
-
-
-if __name__ == "__main__":
-    sys.exit(main())
+                line.sendall(look("root", "leaf", theirs))
+                why = lambda: leaf.request(do="status").get("status", {}).get("no_parent", "")
+                sure(until(lambda: words in why()), leaf.text())
+                sure(until(lambda: leaf.said(words)), leaf.text())
+                sure(words in leaf.run("status").stdout, leaf.run("status"))
+        # and a child of one
+        leaf.kill()
+        tree.root.start()
+        sure(until(tree.root.up), tree.root.text())
+        with tree.root.connect() as line:
+            line.sendall(look("leaf", "root", theirs))
+            take_hello(line, b"RGNL\x02")
+            why = lambda: tree.root.status()["last_refused"]
+            sure(until(lambda: words in why()) and "calls itself leaf" in why(), why())
+            sure(until(lambda: tree.root.said(words)), tree.root.text())
+            sure(words in tree.root.run("status").stdout, tree.root.run("status"))

@@ -1,4 +1,4 @@
-"""Runs the tests of trees of agents: those of the file that is called, or of all files."""
+"""Runs the tests of trees of agents."""
 import argparse
 import concurrent.futures
 import os
@@ -13,12 +13,12 @@ HERE = pathlib.Path(__file__).resolve().parent
 TESTS = []
 
 
-def test(function=None, *, begins=False, by_hand=False, needs=None):
-    """Makes a function a test. One that takes long begins; one by hand is not run with all others;
-    and one is tried only where `needs` names nothing that is not there."""
+def test(function=None, *, begins=False, needs=None):
+    """Makes a function a test. One that takes long begins, and one is tried only where `needs` says
+    nothing that lacks."""
     if function is None:
-        return lambda function: test(function, begins=begins, by_hand=by_hand, needs=needs)
-    function.begins, function.by_hand, function.needs = begins, by_hand, needs
+        return lambda function: test(function, begins=begins, needs=needs)
+    function.begins, function.needs = begins, needs
     TESTS.append(function)
     return function
 
@@ -41,24 +41,23 @@ def run(function):
     return result == "ok"
 
 
-def main(of_all=False):
+def main():
     """Runs what the command line says; the last line is 'N passed, M failed'."""
     words = argparse.ArgumentParser(description=sys.modules["__main__"].__doc__,
                                     formatter_class=argparse.RawDescriptionHelpFormatter)
-    words.add_argument("--long", action="store_true", help="also what is for a run by hand alone")
-    words.add_argument("names", metavar="WORD", nargs="*", help="a part of the names of tests")
-    asked = words.parse_args()
+    words.add_argument("names", metavar="WORD", nargs="*",
+                       help="a file here without its ending, or a part of the names of tests")
+    names = words.parse_args().names
     os.chdir(HERE)
     begun = time.monotonic()
-    chosen = [it for it in TESTS if (of_all or it.__module__ == "__main__")
-              and (asked.long or not it.by_hand)
-              and (not asked.names or any(word in it.__name__ for word in asked.names))]
+    chosen = [it for it in TESTS if not names
+              or any(word == it.__module__ or word in it.__name__ for word in names)]
     lacks = {needs: needs() for needs in dict.fromkeys(it.needs for it in chosen if it.needs)}
     for lacking in filter(None, lacks.values()):
         print("not tried:", lacking)
     chosen = sorted((it for it in chosen if not lacks.get(it.needs)), key=lambda it: not it.begins)
     # (most of them wait most of the time)
-    with concurrent.futures.ThreadPoolExecutor(1 if asked.long else 4) as pool:
+    with concurrent.futures.ThreadPoolExecutor(4) as pool:
         results = list(pool.map(run, chosen))
     print(f"in {time.monotonic() - begun:.0f} s")
     print(f"{results.count(True)} passed, {results.count(False)} failed")

@@ -1,15 +1,4 @@
-#!/usr/bin/env python3
-"""Links that lie in a store of Redis, in a tree of processes on this machine.
-
-    tests/daemon/store.py [WORD..]    the trials that check.py runs too, where Redis is there
-    tests/daemon/store.py --judged [--faults 30] [--seed 1]
-                                      by hand: faults in the store and kills, each count judged
-                                      as long.py does
-
-It needs Debian's redis-server, and by hand installs it where it may; where that cannot be had it
-says so. The last line is 'N passed, M failed'.
-"""
-import argparse
+"""Links that lie in a store of Redis, in a tree of processes on this machine."""
 import functools
 import os
 import pathlib
@@ -17,35 +6,22 @@ import random
 import re
 import shutil
 import subprocess
-import sys
 import tempfile
-import threading
 import time
 
 import runner
-from daemons import Tree, free_port, until
+from daemons import Tree, free_port, root_has, until
 from runner import sure
 
-PACKAGES = ["redis-server"]
 IN_STORE = ["left", "left1", "left2", "right2"]      # the others have connections
 
 
 def lacking():
     is_there = shutil.which("redis-server")
-    return None if is_there else "links in a store: by hand tests/daemon/store.py installs it"
+    return None if is_there else "links in a store: apt-get install redis-server"
 
 
 test = functools.partial(runner.test, begins=True, needs=lacking)
-
-
-def install():
-    """Installs the server where that may be done: what is not there then."""
-    if lacking() and os.geteuid() == 0 and shutil.which("apt-get"):
-        command = ["apt-get", "install", "-y", "-q", "--no-install-recommends", *PACKAGES]
-        # (its own service is not what is tried here)
-        environment = {**os.environ, "DEBIAN_FRONTEND": "noninteractive", "RUNLEVEL": "1"}
-        subprocess.run(command, capture_output=True, env=environment)
-    return lacking()
 
 
 class Redis:
@@ -177,12 +153,9 @@ def losses_in_a_store_lose_nothing():
     """Words that are gone or spoiled, a store that is away or back empty: no round mends that."""
     draw = random.Random(3)
 
-    def before(tree):
-        tree.root.tables["root"]["round"] = "1h"
-
     with Redis() as redis:
-        place = in_store(redis)
-        with Tree(before=lambda tree: (place(tree), before(tree))) as tree:
+        before = in_store(redis), root_has(round="1h")
+        with Tree(before=lambda tree: [act(tree) for act in before]) as tree:
             tree.begin()
             for turn in range(6):
                 tree.write("key1", f"before {turn}")
@@ -240,93 +213,3 @@ def faults_of_a_store_are_mended_by_rounds():
             sure(tree.right(), turn, tree.wrong())
         sure(tree.ready(), "the tree is not ready")
         sure(not any(agent.said("panicked") for agent in tree))
-
-
-# ---- By hand: each count judged
-
-def judged(faults, seed):
-    """Faults in the store and kills of agents, at moments when all are stopped."""
-    import long
-
-    def before(tree):
-        for agent in tree:
-            agent.tables["link"] = {"ack_timeout": "500ms", "evict": "30s", "backlog": long.LIMIT}
-        tree.root.tables["root"]["harmless"] = 11
-
-    draw = random.Random(seed)
-    with Redis() as redis:
-        place = in_store(redis)
-        with Tree(before=lambda tree: (place(tree), before(tree))) as tree:
-            trial = long.Trial(tree, draw)
-            tree.start()
-            sure(trial.connected(), "the tree is not ready")
-            publisher = threading.Thread(target=trial.publish)
-            publisher.start()
-            try:
-                for turn in range(faults):
-                    trial.cut()
-                    time.sleep(draw.uniform(0.3, 1.0))
-                    strike(redis, tree, trial, draw)
-                    sure(trial.connected(), "not all are connected again after", turn)
-            finally:
-                trial.done.set()
-                publisher.join()
-            trial.cut()
-            good = tree.right()
-            time.sleep(0.5)
-            trial.cut()
-            wrong, counts, strays, missing, left_out = trial.judge()
-            print(f"seed {seed}: {faults} faults, {trial.changes} changes: {counts} counts judged, "
-                  f"{left_out} left out; strays {strays}, missing among the first M {missing}, "
-                  f"outside the bounds {wrong[:5]}; right {good} {tree.wrong()}", flush=True)
-            return good and not wrong
-
-
-def strike(redis, tree, trial, draw):
-    """One fault. The store ends first, so that no agent has anything in hand that it has got."""
-    how = draw.randrange(6)
-    if how < 2:
-        victims = draw.sample(list(tree), draw.choice([1, 1, 2]))
-        trial.cut(victims)
-        for victim in victims:
-            victim.start()
-        return
-    if how == 2:
-        redis.backup()
-        redis.age()
-    redis.kill()
-    time.sleep(0.1)
-    living = trial.stop_all()
-    redis.file.unlink(missing_ok=True)
-    if how > 3 and (redis.home / "backup").exists():
-        redis.restore()
-    redis.start()
-    if how == 5:
-        redis.make_old()
-        redis.spoil(draw)
-        redis.make_old()
-    trial.cut()
-    for agent in living:
-        agent.signal(18)        # (SIGCONT)
-
-
-def main():
-    lacks = install()
-    if "--judged" not in sys.argv:
-        return runner.main()
-    words = argparse.ArgumentParser(description=__doc__.splitlines()[0])
-    words.add_argument("--judged", action="store_true")
-    words.add_argument("--faults", type=int, default=30)
-    words.add_argument("--seed", type=int, default=1)
-    chosen = words.parse_args()
-    if lacks:
-        print("not tried:", lacks)
-        print("0 passed, 0 failed")
-        return 0
-    good = judged(chosen.faults, chosen.seed)
-    print(f"{int(good)} passed, {int(not good)} failed")
-    return 0 if good else 1
-
-
-if __name__ == "__main__":
-    sys.exit(main())

@@ -1,174 +1,82 @@
 #!/usr/bin/env python3
-"""A kill trial by hand, as a stranger would do it: 15 agents in rings, faults of all kinds, TLS.
+"""Faults of all kinds among 15 agents in rings, drawn, as a stranger would cause them.
 
-    tests/daemon/trial.py [--runs 4] [--jobs 1] [--seed 1] [--faults 20] [--loss 5]
-        [--round 2] [--keep FOLDER] [--old FOLDER]
+    tests/daemon/trial.py [--runs 4] [--seed 1] [--faults 40]    by hand; check.py tries one run
 
 The agents are a hub, four racks whose parents are the hub and the next rack, and ten leaves whose
-parents are their own rack, the next one and the hub; one of them is dialled by its rack alone.
-Some listen on IPv6. All speak TLS. Each job has a network of its own (unshare, as root), where nft
-drops --loss percent of all packets; each link has an address of its own, so links are cut one by
-one. While settings change, faults are drawn: kills, ends, stops, cuts, restarts of the hub of
-0.2 s, folders spoilt in the ways of SPOILS, and old copies of whole folders.
+parents are their own rack, the next one and the hub; one of them is dialled by its rack alone, and
+one rack listens on IPv6. All speak TLS. While settings change, faults are drawn: kills, ends,
+stops, restarts of the hub of 0.2 s, folders spoilt in the ways of SPOILS, and old copies of whole
+folders.
 
-After the last fault all folders are compared with the hub's: the time until they are equal, in
-rounds, and how many differ two rounds later, and how many for ever. Then a change is published,
-`wait --everywhere` has to end well and all folders must have it; no agent may have ended by itself,
-and parents must make no circle. With --runs each run has the next seed; --keep keeps the folders of
-runs that failed. With --old leaves, and in every other run the hub, are at each start drawn to be
-of the programs in another folder, as in an upgrade or on the way back; then what `wait` says is not
-judged. The last line is 'N passed, M failed'.
+After the last one all folders come to be the hub's, and all agents to the hub by their parents.
+Then a change is published, `wait --everywhere` ends well, and all folders have it at once; no agent
+has ended by itself. With --runs each run has the next seed. The last line is 'N passed, M failed'.
 """
 import argparse
 import collections
 import contextlib
-import heapq
-import json
 import os
 import pathlib
 import random
 import re
 import shutil
 import signal
-import stat
-import statistics
-import subprocess
+import socket
 import sys
-import threading
 import time
 
-from daemons import Agent, Tree, certify, memory, read, until
-from relay import lose
+import runner
+from daemons import Tree, by_tls, during, meanwhile, read, until
+from runner import sure, test
 
 RACKS, LEAVES = 4, 10
-NAMES = (["hub"] + [f"rack{at}" for at in range(1, RACKS + 1)]
-         + [f"leaf{at}" for at in range(1, LEAVES + 1)])
 DIALLED = "leaf10"
-IPV6 = ("rack3", DIALLED)
-# How many rounds are waited for before a folder counts as wrong for ever.
-FOR_EVER = 60
-# For how many an agent is looked at again that does not come to the hub by its parents.
-AGAIN = 5
+BY_IPV6 = "rack3"
 
 
 def parents_of(name):
     """The parents of an agent, the first one first."""
-    following = lambda rack: rack % RACKS + 1
-    number = int(name[4:] or 0) if name != "hub" else 0
-    if name == "hub":
-        return []
+    number = int(re.sub("[a-z]+", "", name))
     if name.startswith("rack"):
-        return ["hub", f"rack{following(number)}"]
+        return ["root", f"rack{number % RACKS + 1}"]
     own = (number - 1) % RACKS + 1
-    return [f"rack{own}"] if name == DIALLED else [f"rack{own}", f"rack{following(own)}", "hub"]
+    return [f"rack{own}"] if name == DIALLED else [f"rack{own}", f"rack{own % RACKS + 1}", "root"]
 
 
-class Network:
-    """The network of this process: what is lost in it, and which links are cut."""
-
-    def __init__(self, loss):
-        lose(loss)
-        for child in NAMES:
-            for parent in parents_of(child):
-                if parent in IPV6 or child == DIALLED:
-                    self.run("ip", "-6", "addr", "add", f"{self.address(child, parent)}/128",
-                             "dev", "lo", "nodad")
-        rules = ["add set inet lossy cut4 { type ipv4_addr ; }",
-                 "add set inet lossy cut6 { type ipv6_addr ; }"]
-        rules += [f"add rule inet lossy in {family} {end} @cut{version} drop"
-                  for family, version in (("ip", 4), ("ip6", 6)) for end in ("saddr", "daddr")]
-        self.run("nft", "; ".join(rules))
-
-    def run(self, *words):
-        subprocess.run(words, check=True, capture_output=True)
-
-    def address(self, child, parent):
-        """The address of a link, at the end that listens."""
-        ends = NAMES.index(child) + 1, NAMES.index(parent) + 1
-        if parent in IPV6 or child == DIALLED:
-            return "fd00::%d:%d" % ends
-        return "127.1.%d.%d" % ends
-
-    def cut(self, child, parent, how="add"):
-        address = self.address(child, parent)
-        version = 6 if ":" in address else 4
-        self.run("nft", f"{how} element inet lossy cut{version} {{ {address} }}")
+NAMES = [f"rack{at + 1}" for at in range(RACKS)] + [f"leaf{at + 1}" for at in range(LEAVES)]
 
 
-class Node(Agent):
-    """An agent that may be of older programs at some of its starts."""
-
-    def start(self):
-        programs = self.tree.bin
-        if self.tree.old and self.name in self.tree.mixed and self.tree.draw.random() < 0.5:
-            self.tree.bin = self.tree.old
-            self.tables["apply"].pop("take", None)
-        else:
-            # (also a folder that lost its marker is its own)
-            self.tables["apply"]["take"] = True
-        try:
-            super().start()
-        finally:
-            self.tree.bin = programs
+def has_ipv6():
+    with contextlib.suppress(OSError), socket.create_server(("::1", 0), family=socket.AF_INET6):
+        return True
+    return False
 
 
-class Net(Tree):
-    """The tree of the trial: agents with several parents each."""
-
-    def __init__(self, network, tls, period, draw, old=None):
-        super().__init__(shape={})
-        self.network, self.draw = network, draw
-        self.old = old and pathlib.Path(old)
-        self.mixed = [name for name in NAMES if name.startswith("leaf")]
-        if old and draw.random() < 0.5:
-            self.mixed.append("hub")
-        self.agents = {}
-        for name in NAMES:
-            agent = Node(self, name, None)
-            self.agents[name] = agent
-            agent.env = {}
-            agent.tables["tls"] = tls[name]
-            agent.tables["link"] = {"ack_timeout": "1s", "evict": "8s",
-                                    "backlog": draw.choice([80, 256, 1024])}
-            if name != "hub":
-                shutil.rmtree(agent.truth)
-                del agent.tables["root"]
-        self.root = self.agents["hub"]
-        self.root.tables["root"].update(round=f"{round(period * 1000)}ms", harmless=15)
-        for name in NAMES:
-            parents = parents_of(name)
-            place = {parent: self.place(name, parent) for parent in parents}
-            if name == DIALLED:
-                self[name].top["parents"] = parents
-            elif parents:
-                self[name].top["parents"] = [f"{parent}@{place[parent]}" for parent in parents]
-            children = [f"{child}@{self.place(child, name)}" if child == DIALLED else child
-                        for child in NAMES if name in parents_of(child)]
-            if children:
-                self[name].top["children"] = children
-            if children or name == DIALLED:
-                every = "[::]" if name in IPV6 else "0.0.0.0"
-                self[name].top["listen"] = f"{every}:{self[name].port}"
-
-    def place(self, child, parent):
-        """Where the end of a link listens."""
-        port = self[child if child == DIALLED else parent].port
-        address = self.network.address(child, parent)
-        return f"[{address}]:{port}" if ":" in address else f"{address}:{port}"
+def in_rings(tree):
+    by_tls(tree)
+    six = has_ipv6()
+    host = lambda name: "[::1]" if six and name == BY_IPV6 else "127.0.0.1"
+    at = lambda name: f"{name}@{host(name)}:{tree[name].port}"
+    tree.root.tables["root"]["harmless"] = 15
+    for agent in tree:
+        agent.tables["link"] = {"ack_timeout": "1s", "evict": "8s", "backlog": 80}
+        # (also a folder that lost its marker is its own)
+        agent.tables["apply"]["take"] = True
+        agent.top["listen"] = f"{host(agent.name)}:{agent.port}"
+        agent.top["children"] = [at(name) if name == DIALLED else name for name in NAMES
+                                 if agent.name in parents_of(name)]
+        if not agent.top["children"] and agent.name != DIALLED:
+            del agent.top["children"], agent.top["listen"]
+    for name in NAMES:
+        tree[name].top["parents"] = [it if name == DIALLED else at(it) for it in parents_of(name)]
+    del tree[DIALLED].top["children"]
 
 
 # ---- Folders
 
-def is_key(name):
-    return re.fullmatch(r"[A-Za-z0-9_][A-Za-z0-9._-]{0,127}", name) is not None
-
-
-def differs(agent, truth):
-    """What is wrong with an agent's folder. What is there and is no file is nobody's setting."""
-    own = read(agent.settings)
-    wrong = [key for key, value in truth.items() if own.get(key) != value]
-    return wrong + [key for key, value in own.items()
-                    if key not in truth and value is not None and is_key(key)]
+# What may be the name of a setting.
+KEY = re.compile(r"[A-Za-z0-9_][A-Za-z0-9._-]{0,127}")
 
 
 def some(folder, draw):
@@ -270,333 +178,155 @@ def spoil(agent, how, draw):
 # ---- One run
 
 class Run:
-    def __init__(self, net, draw, period):
-        self.net, self.draw, self.period = net, draw, period
+    """A tree, and what is done to it."""
+
+    def __init__(self, tree, seed):
+        self.tree, self.draw = tree, random.Random(seed)
+        self.below = [agent for agent in tree if agent is not tree.root]
+        self.undo = []          # (when, the agent, what ends its fault)
         self.counts = collections.Counter()
-        self.undo = []          # (when, order, what ends a fault)
-        self.down, self.stopped, self.cuts = set(), set(), set()
-        self.copies = {}
-        self.ended = []
-        self.done = threading.Event()
-        self.changes = 0
 
     def change(self):
-        """Changes settings all the time, by files and by commands."""
-        draw, net = random.Random(self.draw.random()), self.net
-        while not self.done.is_set():
-            burst = draw.random() < 0.05
-            for _ in range(draw.randrange(20, 120) if burst else 1):
-                self.change_one(draw, net.root)
-            time.sleep(draw.choice([0.01, 0.03, 0.1]))
-
-    def change_one(self, draw, root):
-        key = f"key{draw.randrange(400)}"
-        self.changes += 1
-        kind = draw.random()
+        """Changes one setting, by a file or by a command."""
+        draw, root = self.draw, self.tree.root
+        key, kind = f"key{draw.randrange(400)}", draw.random()
         if kind < 0.15:
             (root.truth / key).unlink(missing_ok=True)
-        elif kind < 0.25 and not self.done.is_set():
+        elif kind < 0.25:
             # (it may be being killed, or stand still)
             root.request(1, do="publish", key=key, value=draw.randbytes(40).hex())
         else:
             size = draw.choice([0, 10, 300, 3_000, 40_000 if draw.random() < 0.1 else 50])
-            self.net.write(key, draw.randbytes(size))
+            self.tree.write(key, draw.randbytes(size))
+        time.sleep(draw.choice([0.01, 0.03]))
 
-    def later(self, seconds, what):
-        heapq.heappush(self.undo, (time.monotonic() + seconds, len(self.undo), id(what), what))
+    def settle(self, is_all=False):
+        """Ends the faults that are due, or all of them."""
+        for it in sorted(self.undo, key=lambda it: it[0]):
+            if is_all or it[0] <= time.monotonic():
+                time.sleep(max(0.0, it[0] - time.monotonic()))
+                it[2]()
+                self.undo.remove(it)
+        hit = [agent for _, agent, _ in self.undo]
+        ended = [agent.name for agent in self.tree if agent not in hit and not agent.alive()]
+        sure(not ended, "they ended by themselves:", ended)
 
-    def settle(self, until_when):
-        """Ends the faults that are due, until some time."""
-        while True:
-            now = time.monotonic()
-            while self.undo and self.undo[0][0] <= now:
-                heapq.heappop(self.undo)[-1]()
-            for agent in self.net:
-                if agent.name not in self.down and not agent.alive():
-                    self.ended.append(f"{agent.name}: {agent.process.returncode}")
-                    agent.start()
-            if now >= until_when:
-                return
-            time.sleep(min(0.02, max(0.0, until_when - now)))
-
-    def fault(self):
-        draw, net = self.draw, self.net
-        kind = draw.choices(["kill", "end", "stop", "cut", "hub", "spoil", "copy"],
-                            [20, 10, 9, 11, 6, 36, 8])[0]
-        running = [agent for agent in net
-                   if agent.name not in self.down and agent.name not in self.stopped]
-        victim = draw.choice(running)
-        if kind == "hub":
-            victim = net.root
-            if victim not in running:
-                kind, victim = "kill", draw.choice(running)
-        if kind in ("kill", "end", "hub"):
-            gentle = kind == "end" or kind == "hub" and draw.random() < 0.5
-            self.down.add(victim.name)
-            victim.kill(signal.SIGTERM if gentle else signal.SIGKILL)
-            if draw.random() < 0.3 and victim is not net.root:
-                spoil(victim, draw.choice(SPOILS), draw)
-                self.counts["spoil"] += 1
-
-            def again():
-                victim.start()
-                self.down.discard(victim.name)
-            away = draw.choice([0, 0.1, 0.1, 0.5, 0.5, 2.0, 10.0])
-            self.later(0.2 if kind == "hub" else away, again)
-        elif kind == "stop":
+    def fault(self, draw, copies):
+        hit = [agent for _, agent, _ in self.undo]
+        whole = [agent for agent in self.tree if agent not in hit]
+        kinds = {"kill": 20, "end": 10, "stop": 9, "hub": 6, "spoil": 36, "copy": 8}
+        kind = draw.choices(list(kinds), kinds.values())[0]
+        victim = self.tree.root if kind == "hub" else draw.choice(whole or hit)
+        if victim in hit:
+            return
+        self.counts[kind] += 1
+        if kind == "stop":
             victim.signal(signal.SIGSTOP)
-            self.stopped.add(victim.name)
-
-            def go_on():
-                victim.signal(signal.SIGCONT)
-                self.stopped.discard(victim.name)
-            self.later(draw.choice([0.2, 1.0, 2.5, 5.0]), go_on)
-        elif kind == "cut":
-            links = [(child, parent) for child in NAMES for parent in parents_of(child)]
-            for link in draw.sample(links, draw.choice([1, 1, 2, 5])):
-                if link not in self.cuts:
-                    self.cuts.add(link)
-                    net.network.cut(*link)
-
-                    def mend(link=link):
-                        net.network.cut(*link, how="delete")
-                        self.cuts.discard(link)
-                    self.later(draw.choice([0.3, 1.0, 3.0, 10.0]), mend)
+            ends = lambda: victim.signal(signal.SIGCONT)
+            self.undo.append((time.monotonic() + draw.choice([0.2, 1, 2.5]), victim, ends))
+        elif kind in ("kill", "end", "hub"):
+            is_gentle = kind == "end" or draw.random() < 0.3
+            victim.kill(signal.SIGTERM if is_gentle else signal.SIGKILL)
+            if draw.random() < 0.3 and victim is not self.tree.root:
+                spoil(victim, draw.choice(SPOILS), draw)
+            away = 0.2 if kind == "hub" else draw.choice([0, 0.1, 0.5, 2, 5])
+            self.undo.append((time.monotonic() + away, victim, victim.start))
         else:
-            victim = draw.choice([agent for agent in net if agent is not net.root])
-            if kind == "copy" and self.copies:
-                victim = net[draw.choice(sorted(self.copies))]
+            victim = draw.choice(self.below)
+            copy = copies.get(victim.name)
+            if kind == "copy" and copy:
                 shutil.rmtree(victim.settings, ignore_errors=True)
                 with contextlib.suppress(OSError):
-                    shutil.copytree(self.copies[victim.name], victim.settings, dirs_exist_ok=True)
+                    shutil.copytree(copy, victim.settings, dirs_exist_ok=True)
             else:
-                kind = "spoil"
-                how = draw.choice(SPOILS)
-                self.counts[f"spoil: {how}"] += 1
-                spoil(victim, how, draw)
-        self.counts[kind] += 1
-        # (what will be an old copy)
-        kept = draw.choice([agent for agent in net if agent is not net.root])
-        copy = kept.home / f"copy{draw.randrange(3)}"
-        if not copy.exists():
-            try:
-                copy.mkdir()
-                for name, value in read(kept.settings).items():
-                    if value is not None:
-                        (copy / name).write_bytes(value)
-                self.copies[kept.name] = copy
-            except OSError:
-                pass
+                spoil(victim, draw.choice(SPOILS), draw)
+        kept = draw.choice(self.below)
+        if kept.name not in copies:
+            # (what will be an old copy)
+            copies[kept.name] = kept.home / "copy"
+            copies[kept.name].mkdir()
+            for name, value in read(kept.settings).items():
+                if value is not None:
+                    (copies[kept.name] / name).write_bytes(value)
 
-    def wrong(self):
-        truth = {name: value for name, value in read(self.net.root.truth).items()
-                 if value is not None}
-        return {agent.name: found for agent in self.net
-                if (found := differs(agent, truth))}, len(truth)
+    def differing(self):
+        """Whose settings are others. What lies there and is no file, or has no key for its name, is
+        nobody's setting."""
+        truth, wrong = self.tree.truth(), []
+        for agent in self.tree:
+            own = {key: value for key, value in agent.files().items()
+                   if key in truth or value is not None and KEY.fullmatch(key)}
+            wrong += [agent.name] if own != truth else []
+        return wrong
 
-    def circles(self, parents):
-        """The agents that do not come to the hub by their parents."""
+    def lost(self):
+        """Who does not come to the hub by its parents."""
+        parents = {agent.name: agent.request(do="status").get("status", {}).get("parent")
+                   for agent in self.tree}
         lost = []
-        for name in NAMES[1:]:
+        for name in NAMES:
             at, seen = name, set()
-            while at not in ("hub", None) and at not in seen:
+            while at not in ("root", None) and at not in seen:
                 seen.add(at)
-                at = parents.get(at)
-            if at != "hub":
-                lost.append(name)
+                at = parents[at]
+            lost += [name] if at != "root" else []
         return lost
 
     def go(self, faults):
-        net, period, draw = self.net, self.period, self.draw
+        tree, draw, copies = self.tree, random.Random(self.draw.random()), {}
         for at in range(60):
-            net.write(f"key{at}", draw.randbytes(draw.randrange(300)))
-        if draw.random() < 0.5:
-            net.root.start()
-            time.sleep(draw.choice([0, 0.5]))
-            rest = [agent for agent in net if agent is not net.root]
-        else:
-            # (as after a power cut: the hub is the last)
-            rest = [agent for agent in net if agent is not net.root] + [net.root]
-        for agent in rest:
-            agent.start()
-        begun = time.monotonic()
-        cold = until(lambda: not self.wrong()[0], 15)
-        result = {"cold": round(time.monotonic() - begun, 2) if cold else None}
-        changer = threading.Thread(target=self.change)
-        changer.start()
-        try:
+            tree.write(f"key{at}", draw.randbytes(draw.randrange(300)))
+        # (as after a power cut: the hub is the last)
+        tree.start([*self.below, tree.root])
+        sure(until(lambda: not self.differing()), "a cold start:", self.differing())
+        with meanwhile(self.change):
             for _ in range(faults):
-                self.fault()
-                self.settle(time.monotonic() + draw.choice([0, 0.05, 0.3, 0.6, 1.2]))
-            self.settle(max([time.monotonic()] + [it[0] for it in self.undo]))
-        finally:
-            self.done.set()
-            changer.join()
-        calm = time.monotonic()
-        equal = None
-        while True:
-            wrong, keys = self.wrong()
-            now = time.monotonic() - calm
-            if not wrong:
-                equal = now if equal is None else equal
-            else:
-                equal = None
-            if now >= 2 * period:
-                result.setdefault("then", len(wrong))
-                if not wrong or now >= FOR_EVER * period:
-                    break
-            time.sleep(0.05)
-        self.settle(time.monotonic())
-        result.update(rounds=None if equal is None else round(equal / period, 2), keys=keys,
-                      ever=len(wrong), wrong={name: found[:4] for name, found in wrong.items()})
-        said = {}
+                self.fault(draw, copies)
+                for _ in during(draw.choice([0, 0.05, 0.3, 0.6])):
+                    self.settle()
+                    time.sleep(0.02)
+            self.settle(is_all=True)
+        sure(until(lambda: not self.differing(), pause=0.05), self.counts, self.differing())
+        sure(until(lambda: not self.lost(), pause=0.1), "no way to the hub:", self.lost())
+        tree.publish("final", draw.random())
+        # (what wait says is so at once)
+        lacking = [it.name for it in tree if it.files().get("final") != tree.truth()["final"]]
+        sure(not lacking, "it was not everywhere:", lacking)
+        self.settle()
+        moves = lambda: [agent.status()["reconnects"] for agent in self.below]
 
-        def lost():
-            for agent in net:
-                said[agent.name] = agent.request(do="status").get("status", {})
-            return self.circles({name: it.get("parent") for name, it in said.items()})
-
-        # (one that is between two parents when it is looked at is no fault: it is looked at again)
-        until(lambda: not lost(), AGAIN * period, 0.05)
-        parents = {name: it.get("parent") for name, it in said.items()}
-        moves = sum(agent.said("connected the parent") for agent in net)
-        # A change that is said to be everywhere is everywhere.
-        number = net.root.ask("publish", "final", str(draw.random()), check=False).get("sequence")
-        answer = net.root.ask("wait", "--everywhere", "--timeout", "40s", number, check=False)
-        value = (net.root.truth / "final").read_bytes()
-        lacking = [agent.name for agent in net
-                   if read(agent.settings).get("final") != value]
-        result["wait"] = "ok" if "error" not in answer else str(answer["error"])[:200]
-        result["early"] = lacking if result["wait"] == "ok" else []
-        result.update(lost=self.circles(parents), parents=parents, ended=self.ended,
-                      moves=sum(agent.said("connected the parent") for agent in net) - moves,
-                      strays=max(it.get("strays", 0) for it in said.values()),
-                      most=max((memory(it) for it in net if it.alive()), default=0),
-                      panics=[agent.name for agent in net if agent.said("panicked")],
-                      second=sum(parents[name] != parents_of(name)[0] for name in NAMES[1:]),
-                      counts=self.counts, changes=self.changes)
-        return result
+        def rests():
+            before = moves()
+            time.sleep(1)
+            return moves() == before
+        sure(until(rests), "they move on")
+        sure(not any(agent.said("panicked") for agent in tree))
 
 
-def failed(result):
-    return (result["ever"] or result["lost"] or result["ended"] or result["panics"]
-            or result["cold"] is None or result["wait"] != "ok" or result["early"])
+def tried(seed, faults):
+    with Tree(dict.fromkeys(NAMES, "root"), in_rings) as tree:
+        Run(tree, seed).go(faults)
 
 
-def work(chosen):
-    """The runs of one job, in a network of its own: a line of JSON for each."""
-    signal.signal(signal.SIGTERM, lambda *_: sys.exit(1))
-    network = Network(chosen.loss)
-    home = pathlib.Path(os.environ["TRIAL_HOME"])
-    tls = {name: certify(home / f"job{chosen.job}", name, seconds=90 * 86_400) for name in NAMES}
-    for seed in range(chosen.seed + chosen.job, chosen.seed + chosen.runs, chosen.jobs):
-        draw = random.Random(seed)
-        began = time.monotonic()
-        with Net(network, tls, chosen.round, draw, chosen.old) as net:
-            run = Run(net, draw, chosen.round)
-            try:
-                result = run.go(chosen.faults)
-                if chosen.old:
-                    result.update(wait="ok", early=[])
-            except Exception as error:
-                result = {"broken": repr(error)[:300]}
-            if chosen.keep and ("broken" in result or failed(result)):
-                for agent in net:
-                    agent.kill()
-                shutil.copytree(net.home, f"{chosen.keep}/seed{seed}", symlinks=True,
-                                dirs_exist_ok=True, ignore=ignored)
-        for link in list(run.cuts):
-            network.cut(*link, how="delete")
-        print(json.dumps({"seed": seed, "took": round(time.monotonic() - began, 1), **result}),
-              flush=True)
-
-
-def ignored(folder, names):
-    """What is not kept of a run: sockets, pipes and copies."""
-    kept = lambda mode: stat.S_ISREG(mode) or stat.S_ISDIR(mode) or stat.S_ISLNK(mode)
-    return [name for name in names if name.startswith("copy")
-            or not kept(os.lstat(os.path.join(folder, name)).st_mode)]
-
-
-def figures(results):
-    """What all runs say together."""
-    whole = [result for result in results if "broken" not in result]
-    counts = collections.Counter()
-    for result in whole:
-        counts.update(result["counts"])
-    kinds = {kind: count for kind, count in counts.items() if ":" not in kind}
-    rounds = [result["rounds"] for result in whole if result["rounds"] is not None]
-    print(f"runs {len(whole)}, broken {len(results) - len(whole)}; faults "
-          f"{sum(kinds.values())} {kinds}; kinds of spoilt folders "
-          f"{sum(':' in kind for kind in counts)}; changes "
-          f"{sum(result['changes'] for result in whole)}, up to "
-          f"{max([result['keys'] for result in whole], default=0)} keys")
-    print(f"folders compared {len(whole) * len(NAMES)}, files "
-          f"{sum(result['keys'] for result in whole) * len(NAMES)}; different two rounds later "
-          f"{sum(result['then'] for result in whole)} in "
-          f"{sum(result['then'] > 0 for result in whole)} runs; different for ever "
-          f"{sum(result['ever'] for result in whole)}")
-    if rounds:
-        print(f"rounds until equal: median {statistics.median(rounds)}, most {max(rounds)}, "
-              f"over 2 in {sum(it > 2 for it in rounds)} runs")
-    print(f"not all right after a cold start: {sum(r['cold'] is None for r in whole)}; ended by "
-          f"themselves: {sum(len(r['ended']) for r in whole)}; panics "
-          f"{sum(len(r['panics']) for r in whole)}; runs with agents that do not come to the hub: "
-          f"{sum(bool(r['lost']) for r in whole)}; agents at a later parent at the end "
-          f"{sum(r['second'] for r in whole)}; wait --everywhere failed in "
-          f"{sum(r['wait'] != 'ok' for r in whole)}, too early in "
-          f"{sum(bool(r['early']) for r in whole)} runs")
+@test(begins=True)
+def faults_of_all_kinds_end_in_a_right_tree():
+    tried(5, 25)
 
 
 def main():
     words = argparse.ArgumentParser(description=__doc__.splitlines()[0])
-    words.add_argument("--runs", type=int, default=4)
-    words.add_argument("--jobs", type=int, default=1)
-    words.add_argument("--seed", type=int, default=1)
-    words.add_argument("--faults", type=int, default=20)
-    words.add_argument("--loss", type=float, default=5)
-    words.add_argument("--round", type=float, default=2)
-    words.add_argument("--keep")
-    words.add_argument("--old")
-    words.add_argument("--job", type=int, help=argparse.SUPPRESS)
+    for name, usual in ("runs", 4), ("seed", 1), ("faults", 40):
+        words.add_argument(f"--{name}", type=int, default=usual)
     chosen = words.parse_args()
-    if chosen.job is not None:
-        return work(chosen)
-    home = pathlib.Path(os.environ.setdefault(
-        "TRIAL_HOME", subprocess.run(["mktemp", "-d"], check=True, capture_output=True,
-                                     text=True).stdout.strip()))
-    jobs = [subprocess.Popen(["unshare", "--net", sys.executable, __file__, *sys.argv[1:], "--job",
-                              str(job)], stdout=subprocess.PIPE, text=True)
-            for job in range(chosen.jobs)]
-    results, lock = [], threading.Lock()
-
-    def listen(job):
-        for line in job.stdout:
-            result = json.loads(line)
-            with lock:
-                results.append(result)
-                good = "broken" not in result and not failed(result)
-                print("ok" if good else "FAILED", line.strip(), flush=True)
-
-    try:
-        threads = [threading.Thread(target=listen, args=(job,)) for job in jobs]
-        for thread in threads:
-            thread.start()
-        for thread in threads:
-            thread.join()
-    finally:
-        for job in jobs:
-            job.terminate()
-            job.wait()
-        shutil.rmtree(home, ignore_errors=True)
-    figures(results)
-    passed = sum("broken" not in result and not failed(result) for result in results)
+    passed = 0
+    for seed in range(chosen.seed, chosen.seed + chosen.runs):
+        one = lambda: tried(seed, chosen.faults)
+        one.__name__ = f"seed {seed}"
+        passed += runner.run(one)
     print(f"{passed} passed, {chosen.runs - passed} failed")
     return 0 if passed == chosen.runs else 1
 
 
 if __name__ == "__main__":
-    signal.signal(signal.SIGTERM, lambda *_: sys.exit(1))
-    __file__ = os.path.abspath(__file__)
     os.chdir(pathlib.Path(__file__).resolve().parent)
     sys.exit(main())

@@ -1,18 +1,14 @@
-#!/usr/bin/env python3
 """What is said of a tree is so: where an agent is, what it has, and when a change is everywhere.
-
-    tests/daemon/watching.py [WORD..]     by itself; check.py runs it with all others
 """
 import shutil
 import signal
 import subprocess
-import sys
 import time
 
 from blocked import lacking, preload
-from daemons import PATIENCE, Tree, counted, root_has, running, took, until, very_patient
-from protocol import Child, Parent, body, entry, report
-from runner import main, sure, test
+from daemons import PATIENCE, Tree, root_has, running, took, until, very_patient
+from protocol import Child
+from runner import sure, test
 
 
 # (while a file is there, what is written is spoiled on its way, and the call says that all is well)
@@ -175,28 +171,6 @@ def of_a_folder_that_is_gone_nothing_is_known():
 
 
 @test
-def what_a_gap_left_out_is_waited_for():
-    with Tree({}) as tree:
-        leaf = tree.add("leaf", "root")
-        slow_hook(leaf)
-        parent = Parent(leaf)
-        parent.send(body(b"T", 100, [entry(b"a", b"1")]))
-        (leaf.home / "go").touch()
-        leaf.ask("wait", 100)
-        (leaf.home / "go").unlink()
-        # (101 set b, and does not come)
-        parent.send(body(b"C", 102, [entry(b"c", b"3")]))
-        sure("waits for a whole table" in (waits(leaf, 100) or ""), leaf.status())
-        parent.send(body(b"T", 103, [entry(b"a", b"1"), entry(b"b", b"2"), entry(b"c", b"3")]))
-        sure(until(lambda: len(leaf.files()) == 3), leaf.files())
-        sure(waits(leaf, 101), "101 is applied, and its hooks ran for", calls(leaf))
-        (leaf.home / "go").touch()
-        leaf.ask("wait", 103)
-        sure(calls(leaf) == ["a", "b", "c"], calls(leaf))
-        parent.close()
-
-
-@test
 def a_file_that_was_moved_in_is_waited_for():
     with running({"left": "root", "leaf": "left"}, root_has(round="1h")) as tree:
         script = ('printf %s "$1" >"$2/.new"; mv "$2/.new" "$2/key"; '
@@ -209,30 +183,6 @@ def a_file_that_was_moved_in_is_waited_for():
             if tree["leaf"].files().get("key") != b"%d" % at:
                 early.append(at)
         sure(not early, "wait ended too early in", early)
-
-
-@test
-def what_cannot_be_published_is_named():
-    with running({"left": "root"}, counted) as tree:
-        sure(waits(tree.root, "--everywhere", seconds=20) is None)
-        counts = lambda: tree.root.counts()[1]
-        sure("\nrignolda_unpublished 0\n" in counts(), counts())
-        long = tree.root.truth / "long"
-        long.write_bytes(b"x" * ((1 << 20) + 1))
-        why = lambda: waits(tree.root) or "it was done"
-        sure(until(lambda: "long" in why() and "1048576 bytes" in why()), why())
-        status = tree.root.status()
-        sure(status["unpublished"] == 1 and "long" in status["faults"][0], status)
-        sure("\nrignolda_unpublished 1\n" in counts(), counts())
-        # (what was published is everywhere all the same, and says so by its number)
-        tree.publish("good", "2")
-        long.write_bytes(b"x")
-        tree.root.ask("wait", "--everywhere")
-        sure(tree["left"].files()["long"] == b"x" and tree.root.status()["unpublished"] == 0)
-        # more than all settings may have
-        for at in range(17):
-            tree.write(f"big{at}", b"x" * (1 << 20))
-        sure(until(lambda: "more than 16777216 bytes" in why()), why())
 
 
 @test
@@ -251,31 +201,6 @@ def a_wait_ends_in_its_time():
         tree["left"].signal(signal.SIGCONT)
         tree.root.ask("wait", "--everywhere")
         sure(tree["left"].files() == tree.truth())
-
-
-@test
-def invented_agents_drive_nobody_out():
-    shape = {"left": "root", "left1": "left", "liar": "left", "zeta": "left", "last": "zeta",
-             "right": "root"}
-    with running(shape, very_patient, without=["liar"]) as tree:
-        liar = Child(tree["left"], "liar")
-        up = {"connected": True, "whole": True, "applied": 1 << 63}
-        invented = [{"name": f"n{at}", "parent": "liar", **up} for at in range(9_999)]
-        liar.send(report([{"name": "liar", **up}, *invented]))
-        count = lambda: sum(it["name"].startswith("n") for it in tree.root.ask("tree"))
-        sure(until(lambda: count() > 1_000), "the root knows", count())
-        names = {it["name"] for it in tree.root.ask("tree")}
-        lost = {agent.name for agent in tree} - {"liar"} - names
-        sure(not lost, "driven out:", lost)
-        number = tree.root.ask("publish", "two", "2")["sequence"]
-        lacking = lambda: [it["name"] for it in tree.root.ask("tree")
-                           if it["name"] in shape and it["name"] != "liar"
-                           and it["applied"] < number]
-        sure(until(lambda: not lacking(), 5), "the root hears late of", lacking())
-        # (who has more below it than it can report is named)
-        why = waits(tree.root, "--everywhere", number)
-        sure(why == "the time is up: liar has more agents below it than it can report", why)
-        liar.close()
 
 
 @test
@@ -298,43 +223,6 @@ def a_last_acknowledgement_is_news():
 
 
 @test
-def a_chain_of_invented_agents_is_short():
-    with running({"liar": "root"}, very_patient, without=["liar"]) as tree:
-        liar = Child(tree.root, "liar")
-        chain = [{"name": f"n{at}", "parent": f"n{at - 1}" if at else "liar"}
-                 for at in range(9_999)]
-        liar.send(report([{"name": "liar", "whole": True, "applied": 1 << 63}, *chain]))
-        sure(until(lambda: len(tree.root.ask("tree")) > 60))
-        done = tree.root.run("tree")
-        sure(len(done.stdout) < 30_000, len(done.stdout), "bytes of text")
-        sure("as at n62 needs 131" in done.stderr, done.stderr)
-        sure(until(lambda: "liar has more agents" in (waits(tree.root, "--everywhere") or "")))
-        liar.close()
-
-
-@test
-def settings_without_end_are_not_applied():
-    with Tree({}) as tree:
-        leaf = tree.add("leaf", "root")
-        parent = Parent(leaf)
-        parent.send(body(b"T", 100, [entry(b"a", b"1")]))
-        for at in range(40):
-            parent.send(body(b"C", 101 + at, [entry(b"k%02d" % at, bytes(1 << 20))]))
-        status = leaf.status()
-        sure(status["settings"] == 16 and not status["whole"], status)
-        sure(until(lambda: len(leaf.files()) == 16), sorted(leaf.files()))
-        sure(leaf.said("would be too much") == 1, leaf.text())
-        # (more entries than there may be settings, in one body)
-        many = [entry(b"%06d" % at) for at in range((1 << 16) + 1)]
-        parent.send(body(b"C", 200, many))
-        sure(leaf.status()["garbage"] == 1 and leaf.status()["settings"] == 16, leaf.status())
-        parent.send(body(b"T", 201, [entry(b"a", b"2")]))
-        leaf.ask("wait", 201)
-        sure(leaf.files() == {"a": b"2"} and leaf.status()["whole"], sorted(leaf.files()))
-        parent.close()
-
-
-@test
 def two_agents_of_one_name_are_counted():
     with running({"left": "root", "right": "root"}) as tree:
         left = tree["left"]
@@ -344,9 +232,19 @@ def two_agents_of_one_name_are_counted():
             left.restart()
             sure(until(left.up))
         sure(clashes() == [0, 0], clashes())
-        tree.twin("left").start()
+        twin = tree.twin("left")
+        twin.start()
         sure(until(lambda: clashes()[0] > 2), clashes())
         sure(clashes()[1] == 0 and tree.root.said("clash left") == 1, clashes())
+        # (and they do not connect without end)
+        before, begun = tree.root.said("connected left"), time.monotonic()
+        time.sleep(2)
+        times = (tree.root.said("connected left") - before) / (time.monotonic() - begun)
+        sure(times < 20, "they connect", times, "times a second")
+        twin.kill()
+        del tree.agents["twin"]
+        tree.write("after", "that")
+        sure(tree.right(), tree.wrong())
 
 
 @test
@@ -369,7 +267,5 @@ def small_things_are_as_they_should_be():
         done = tree.root.run("wait")
         sure(done.returncode == 1 and "bad\\u001b[2J" in done.stderr, done)
         sure(tree.root.status()["unpublished"] == 1, tree.root.status())
-
-
-if __name__ == "__main__":
-    sys.exit(main())
+        # (what was published is everywhere all the same, and says so by its number)
+        tree.publish("good", "2")

@@ -1,6 +1,11 @@
-"""A plain judge of logs, from its definition in man/rignolda.1: every number of strays and every
-last item is tried. And all lists that a link of capacity 1 can deliver, by a search through all its
-states. It shares nothing with the program."""
+"""A plain judge of logs, from its definition in man/rignolda.1, by the tree law of
+agents/check_report.py. And all lists that a link of capacity 1 can deliver, by a search through all
+its states. It shares nothing with the program."""
+import sys
+from pathlib import Path
+
+sys.path.insert(0, str(Path(__file__).resolve().parent.parent.parent / "agents"))
+from check_report import is_subsequence, obeys_tree_law  # noqa: E402
 
 
 def path_of(parents, node):
@@ -27,46 +32,16 @@ def sums(parents, capacities, hold, node):
     return strays, sum(once), most
 
 
-def is_picked(part, whole):
-    """Whether a list is in another one, in its order, each place used at most once."""
-    rest = iter(whole)
-    return all(any(item == other for other in rest) for item in part)
-
-
-def none_missing(taken, counted, missing):
-    """Whether a list is picked from another, none missing before its last one but for some of the
-    first ones."""
-    if not taken:
-        return True
-    for last in range(len(counted)):
-        if counted[last] != taken[-1]:
-            continue
-        if last < missing:
-            if is_picked(taken[:-1], counted[:last]):
-                return True
-            continue
-        must = counted[missing:last + 1]
-        front = len(taken) - len(must)
-        if front >= 0 and taken[front:] == must and is_picked(taken[:front], counted[:missing]):
-            return True
-    return False
-
-
 def fault_at(received, counted, strays, without, most):
     """What is wrong with what a node received: "strays", "missing" or nothing."""
-    counts = [count for count in range(min(strays, len(received)) + 1)
-              if is_picked(received[count:], counted)]
-    if not counts:
+    if not follows(received, counted, strays):
         return "strays"
-    if not any(none_missing(received[count:], counted, min(without + count, most))
-               for count in counts):
-        return "missing"
-    return None
+    return None if obeys_tree_law(strays, without, most, counted, received) else "missing"
 
 
 def follows(received, above, strays):
     """Whether a list is strays and then items of the one above it."""
-    return any(is_picked(received[count:], above)
+    return any(is_subsequence(received[count:], above)
                for count in range(min(strays, len(received)) + 1))
 
 

@@ -1,11 +1,11 @@
 """A tree of links with faults in plain Python, from the rules in docs/PROTOCOL.md: the expected
-values of tests of `stab_faults`, and of rows of tests/tables, are its values, and nothing of it is
+values of tests of `stab_treecore`, and of rows of tests/tables, are its values, and nothing of it is
 made from the crates."""
 
 class Link:
     def __init__(s, capacity, labels, frames=(), acks=(), send=0, recv=65535):
         s.capacity, s.labels = capacity, labels
-        s.offered, s.acked, s.delivered = [], 0, []
+        s.offered, s.acked, s.delivered, s.closed = [], 0, [], False
         s.strike(frames, acks, send, recv)
 
     def strike(s, frames, acks, send, recv):
@@ -17,8 +17,10 @@ class Link:
         return len(s.offered) == s.acked + 1
 
     def act(s, act, above, place=0):
-        """One act: offers come from the list above."""
-        if act == 'offer':
+        """One act: offers come from the list above. After a close only faults change anything."""
+        if s.closed or act == 'close':
+            s.closed = True
+        elif act == 'offer':
             if not s.holds() and len(s.offered) < len(above):
                 s.offered.append(above[len(s.offered)])
         elif act == 'send_frame':
@@ -95,18 +97,6 @@ class Count:
         missing = sum(2 * tree.links[n].capacity + 1 for n in way)
         return strays, missing, s.backlog[way[-1]] + tree.published[s.had[0]:], \
             tree.list_of(node)[s.had[node]:]
-
-    def slack(s, tree, node):
-        """How far below its bounds the node is, with as few strays as explain what it received."""
-        strays, missing, published, got = s.of(tree, node)
-        for cut in range(min(strays, len(got)) + 1):
-            if not set(got[cut:]) <= set(published):
-                continue
-            places = [published.index(item) for item in got[cut:]]
-            gone = [k for k in range(places[-1]) if k not in places] if places else []
-            if places == sorted(set(places)) and all(k < missing for k in gone):
-                return strays - cut, missing - len(gone)
-        raise AssertionError((node, strays, missing, published, got))
 
 ROUND = ['offer', 'send_frame', 'recv_frame', 'send_ack', 'recv_ack']
 ACTS = ROUND * 4 + ['recv_frame_keep', 'recv_ack_keep', 'lose_frame', 'lose_ack']

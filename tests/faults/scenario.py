@@ -3,8 +3,11 @@ from the rules of reference.py beside it, and random scenarios, for tests/check_
 
 It is an independent program: nothing of it is made from the crates. It takes scenarios that are
 well formed; what is refused is in the tables of tests/check_tables.py."""
+import json
+
 from jobs import drawn_tree
-from reference import ACTS, ROUND, Link, Tree, reading_round
+from reference import ACTS, ROUND, reading_round
+from tables.reader import Pairs, begin, start_of, tree_of
 
 # What nodes may be called, some of them as steps are.
 WORDS = ["publish", "strike", "restart", "rounds", "reading_rounds", "offer", "a", "b", "c"]
@@ -12,43 +15,13 @@ WORDS = ["publish", "strike", "restart", "rounds", "reading_rounds", "offer", "a
 UNUSED = 65535
 
 
-class Closing(Link):
-    """A link that can be closed, and never changes after that but by a fault."""
-
-    def __init__(s, *parts):
-        super().__init__(*parts)
-        s.closed = False
-
-    def act(s, act, above, place=0):
-        if act == "close":
-            s.closed = True
-        elif not s.closed:
-            super().act(act, above, place)
-
-
 class Scenario:
     def __init__(s, job):
-        s.names = [node["name"] for node in job["tree"]]
-        parents = [node.get("parent") for node in job["tree"]]
-        parents = [None if name is None else s.names.index(name) for name in parents]
-        children = [n for n, parent in enumerate(parents) if parent is not None]
-        own = job.get("links") or [None] * len(children)
-        starts = job.get("starts") or [{"send": 0, "recv": UNUSED}] * len(children)
-        links = [None] * len(parents)
-        for child, numbers, start in zip(children, own, starts):
-            numbers = numbers or job
-            links[child] = Closing(numbers["capacity"], numbers["labels"], *s.queued(start))
-        s.tree = Tree(parents, links, job["items"])
-        if job.get("version", 1) == 2 and "openings" in job:
-            s.tree.openings = [list(opening) for opening in job["openings"]]
-        s.since, s.moments = [0] * len(parents), {0: s.moment()}
+        s.tree, s.names, _ = tree_of(json.dumps(job).encode())
+        begin(s.tree, ["tree"])
+        s.since, s.moments = [0] * len(s.names), {0: s.moment()}
         for number, step in enumerate(job["steps"], 1):
             s.step(number, step)
-
-    @staticmethod
-    def queued(start):
-        frames = [tuple(frame) for frame in start.get("frames", [])]
-        return frames, list(start.get("acks", [])), start["send"], start["recv"]
 
     def moment(s):
         """How many items each node has, and what each parent has for each child of it."""
@@ -73,7 +46,7 @@ class Scenario:
         elif isinstance(last, (dict, list)):
             node = s.names.index(step[1])
             if step[0] == "strike":
-                s.tree.links[node].strike(*s.queued(last))
+                s.tree.links[node].strike(*start_of(Pairs(last.items())))
             else:
                 s.tree.restart(node, last)
             s.hit(number, node)

@@ -1,7 +1,7 @@
 #!/usr/bin/env -S python3 -B
 """Measures the programs on the largest jobs that they accept: by hand, some minutes.
 
-  tests/hostile/largest.py [--runs]   stab on the largest jobs, and on one more of each
+  tests/hostile/largest.py            stab on the largest jobs, and on one more of each
   tests/hostile/largest.py --rignolda [WORD..]
                                       rignolda on jobs of 16 MB, beside stab
 
@@ -9,15 +9,14 @@ Each job at a limit is run three times. A line has the file's size, the median o
 and of the wall time, the peak memory, the peak as a multiple of the file's size, and what came of
 the job. After it comes the job with one more, which must be refused, with the fault of
 docs/FORMATS.md. A star is after a processor time over one second, and after a peak over twenty
-times the file's size where that is over 10 MB. With --runs there are also runs of 64 nodes to their
-end: how long they take is up to the system's scheduler.
+times the file's size where that is over 10 MB.
 
-With --rignolda each job has almost as many bytes as a file may have, and is full of one thing:
-steps, items, members that nobody reads, names that no node has, and so on, accepted or refused for
-it. The processor time of `stab` is measured, and that of `rignolda bounds`, since `stab` reads some
-jobs token by token, and `bounds` all by way of a tree of values. A command of rignolda that reads
-such a job may not take more than three times the longer one, where that is over half a second. With
-words, only jobs whose names have one of them are measured.
+With --rignolda each job has almost as many bytes as a file may have, and is full of one thing that
+much may be looked up or said of: steps, members that nobody reads, names that no node has, and so
+on, accepted or refused for it. The processor time of `stab` is measured, and that of `rignolda
+bounds`, since `stab` reads some jobs token by token, and `bounds` all by way of a tree of values. A
+command of rignolda that reads such a job may not take more than three times the longer one, where
+that is over half a second. With words, only jobs whose names have one of them are measured.
 
 Another program is measured where PROGRAM_STAB or PROGRAM_RIGNOLDA names it. The kit is needed,
 whose clang builds measure.c. The last line is 'N passed, M failed'.
@@ -35,7 +34,6 @@ from pathlib import Path
 HERE = Path(__file__).resolve().parent
 sys.path.insert(0, str(HERE.parent.parent / "tools"))
 from crates import clang  # noqa: E402
-from fuzz import faults  # noqa: E402
 from programs import Cases, built  # noqa: E402
 
 RUNS = 3
@@ -202,16 +200,6 @@ def jobs():
     yield "a number of 16,000,000 digits", link, "job: not JSON", lambda: beside("9" * 16_000_000)
 
 
-def whole_runs():
-    """Runs of many nodes to their end."""
-    for command in ["run"], ["run", "--words"], ["run", "--mixed"]:
-        for is_chain, form in (True, "chain"), (False, "star"):
-            links = {"links": wide(MAX_NODES - 1)} if "--mixed" in command else {}
-            named = f"{form} of 64, 10,000 items, whole"
-            yield named, command, TEXT, lambda it=is_chain, of=links: (
-                tree_job(MAX_NODES, it, items=some("1", MAX_ITEMS), turns=MAX_TURNS, **of))
-
-
 # Jobs of 16 MB, each full of one thing.
 TREE = [{"name": "r"}, {"name": "a", "parent": "r"}, {"name": "b", "parent": "a"}]
 LINK = {"capacity": 1, "labels": 4, "start": {"send": 0, "recv": 1}}
@@ -246,22 +234,15 @@ def node(name, parent="r"):
 def full_trees():
     """Jobs of a tree, by name: the text of each."""
     without = {key: value for key, value in JOB.items() if key != "tree"}
-    two = dict(JOB, version=2, h=2)
     steps = ["send_frame", "recv_frame", "send_ack", "recv_ack", "offer", "recv_frame_keep"]
     step = lambda n: '["%s","%s"]' % ("ab"[n % 2], steps[n * 7 % 6])
     yield "steps", text(JOB, "schedule", listed(step, 1_000_000))
-    yield "steps, too many", text(JOB, "schedule", listed(lambda n: '["a","offer"]'))
     yield "steps of unknown nodes", text(JOB, "schedule",
         listed(lambda n: '["c%d","offer"]' % n, 900_000))
     yield "steps of unknown words", text(JOB, "schedule",
         listed(lambda n: '["a","offre"]', 1_000_000))
     yield "steps on the root", text(JOB, "schedule", listed(lambda n: '["r","offer"]', 1_000_000))
-    yield "steps that are numbers", text(JOB, "schedule",
-        listed(lambda n: "1" + " " * 14, 1_000_000))
     yield "a step of a long word", text(JOB, "schedule", '[["a","%s"]]' % ("offer" * 3_300_000))
-    yield "losses", text(JOB, "schedule",
-        listed(lambda n: '["a","lose_ack",%d]' % (n % 9), 900_000))
-    yield "items, too many", text(dict(JOB, items=0), "items", listed(lambda n: "%d" % (n % 999)))
     yield "items that are texts", text(JOB, "items", listed(lambda n: '"%d"' % n))
     yield "unknown members", json.dumps(JOB)[:-1] + "," + full(
         lambda n: '"shedule%d":%d' % (n, n)) + "}"
@@ -272,46 +253,23 @@ def full_trees():
         lambda n: '"%s%d":0' % ("x" * 9000, n)) + "}"
     yield "one member again and again", json.dumps(JOB)[:-1] + "," + full(
         lambda n: '"turns":%d' % (n + 1)) + "}"
-    yield "a long ignored text", text(JOB, "note", '"%s"' % ("x" * 16_600_000))
     yield "a long text of escapes", text(JOB, "note", '"%s"' % ("\\u0041" * 2_760_000))
-    yield "an ignored list", text(JOB, "note", listed(lambda n: "[]"))
     yield "ignored objects", text(JOB, "note", listed(lambda n: '{"a":1}'))
-    yield "nodes, too many", text(without, "tree",
-        '[{"name":"r"},%s]' % full(lambda n: node("n%d" % n)))
     yield "nodes of one name", text(without, "tree",
         '[{"name":"r"},%s]' % full(lambda n: node("a")))
     yield "nodes of unknown parents", text(without, "tree",
         listed(lambda n: node("n%d" % n, "p%d" % n)))
     yield "nodes of bad names", text(without, "tree", listed(lambda n: node("N %d" % n)))
-    yield "nodes without names", text(without, "tree", listed(lambda n: "{}"))
-    yield "nodes that are numbers", text(without, "tree", listed(lambda n: "1"))
-    yield "roots", text(without, "tree", listed(lambda n: '{"name":"n%d"}' % n))
     yield "a node of a long name", text(without, "tree", '[{"name":"%s"}]' % ("a" * 16_600_000))
     yield "64 nodes of long names", text(without, "tree", "[%s]" % ",".join(
         '{"name":"%s%d","parent":"%s"}' % ("a" * 130_000, n, "b" * 130_000) for n in range(64)))
-    yield "64 nodes of short parents", text(without, "tree", "[%s]" % ",".join(
-        '{"name":"%s%d","parent":"%s"}' % ("ab" * 130_000, n, "p" * 31 + "x") for n in range(64)))
     start = '{"frames":[%s],"acks":[0],"send":0,"recv":1}'
-    yield "starts, too many", text(JOB, "starts", listed(lambda n: start % "[1,2]"))
     yield "starts of many frames", text(JOB, "starts",
         "[%s,%s]" % (start % full(lambda n: "[1,2]"), start % ""))
-    yield "starts without labels", text(JOB, "starts", listed(lambda n: "{}"))
-    yield "frames that are numbers", text(JOB, "starts",
-        "[%s,%s]" % (start % full(lambda n: "1"), start % ""))
-    yield "scripts, too many", text(JOB, "scripts", listed(lambda n: "null"))
     yield "a script too long", text(JOB, "scripts",
         '[null,{"frames_out":"%s"}]' % ("PDE" * 5_500_000))
-    yield "a script of bad letters", text(JOB, "scripts",
-        '[null,{"frames_out":"%s"}]' % ("pde" * 5_500_000))
-    yield "scripts that are empty lists", text(JOB, "scripts", listed(lambda n: "[]"))
-    yield "links without numbers", text(JOB, "links", listed(lambda n: "{}"))
-    yield "links, too many", text(JOB, "links", listed(lambda n: '{"capacity":1,"labels":4}'))
-    yield "openings, too many", text(two, "openings", listed(lambda n: "[1]"))
-    yield "a long opening", text(two, "openings", "[[],%s,[]]" % listed(lambda n: "%d" % (n % 9)))
-    yield "not JSON at its end", text(JOB, "schedule", listed(step, 900_000))[:-2]
     yield "not JSON, many lines", text(JOB, "schedule",
         listed(lambda n: "\n" + step(n), 900_000)) + "x"
-    yield "white space", json.dumps(JOB)[:-1] + " " * 16_600_000 + "}"
 
 
 def full_link_jobs():
@@ -320,8 +278,6 @@ def full_link_jobs():
         '"recv_ack_keep"']
     event = lambda n: (words[n * 7 % 6] + " " * 4).replace("%d", str(n))
     yield "events", text(LINK, "events", listed(event, 1_000_000))
-    yield "offers", text(LINK, "events", listed(lambda n: '["offer",%d]' % n, 1_000_000))
-    yield "events, too many", text(LINK, "events", listed(lambda n: '"send_ack"'))
     yield "events of unknown words", text(LINK, "events", listed(lambda n: '"send_akc"', 1_000_000))
     yield "events, the last one bad", text(LINK, "events", listed(event, 999_999))[:-2] + ',"x"]}'
     yield "frames", text({"capacity": 1, "labels": 4, "events": []}, "start",
@@ -361,14 +317,13 @@ class Largest(Cases):
 
     def at_limits(self, all_jobs):
         """Measures stab on jobs at limits, and on one more."""
-        table = faults()
         for name, command, fault, job in all_jobs:
             self.job.write_text(job())
             runs = [self.run("stab", command) for _ in range(RUNS)]
             wall, processor, peak = (statistics.median(one[i] for one in runs) for i in range(3))
             size, ends = self.job.stat().st_size, {one[3:] for one in runs}
             line = TEXT if fault is TEXT else f"stab: {fault}"
-            wanted = (0, "") if fault is TEXT else (table[f"{line}\n".encode()], line)
+            wanted = (0, "") if fault is TEXT else (3 if fault.startswith("start") else 1, line)
             late = "*" if processor > 1 else " "
             large = "*" if peak > 20 * size and peak > 10_000_000 else " "
             self.holds(f"{' '.join(command):13} {name:32} {size / 1e6:6.2f} MB "
@@ -399,14 +354,13 @@ class Largest(Cases):
 
 def main():
     parser = argparse.ArgumentParser(description=__doc__.splitlines()[0])
-    parser.add_argument("--runs", action="store_true", help="also runs of 64 nodes to their end")
     parser.add_argument("--rignolda", nargs="*", metavar="WORD", help="rignolda on jobs of 16 MB")
     given = parser.parse_args()
     print(f"{os.cpu_count()} processors, load {os.getloadavg()[0]:.1f}")
     with tempfile.TemporaryDirectory() as room:
         largest = Largest(Path(room))
         if given.rignolda is None:
-            largest.at_limits([*jobs(), *(whole_runs() if given.runs else ())])
+            largest.at_limits(jobs())
         else:
             largest.beside_stab(given.rignolda)
     return largest.sum_up()

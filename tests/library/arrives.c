@@ -290,30 +290,26 @@ static bool try(const struct world *it) {
     return all;
 }
 
-static void try_bits(const struct world *it, int agent, const struct field *field) {
-    unsigned long before = stuck;
-    for (size_t bit = 0; bit < 8 * field->bytes; bit++) {
-        struct world spoiled = *it;
-        ((uint8_t *)&spoiled.agents[agent])[field->at + bit / 8] ^= (uint8_t)(1 << bit % 8);
-        try(&spoiled);
-    }
-    if (stuck > before)
-        printf("agent %d, %s: %lu of %zu single bits\n", agent, field->name, stuck - before,
-               8 * field->bytes);
+/* Tries a world whose field of an agent has other bytes than its own. */
+static void try_field(const struct world *it, int agent, const struct field *field,
+                      uint64_t bytes) {
+    struct world spoiled = *it;
+    memcpy((uint8_t *)&spoiled.agents[agent] + field->at, &bytes, field->bytes);
+    try(&spoiled);
 }
 
-/* The least and the greatest numbers, and those beside them. */
-static void try_limits(const struct world *it, int agent, const struct field *field) {
+/* Each single bit, and the least and the greatest numbers, and those beside them. */
+static void try_each(const struct world *it, int agent, const struct field *field) {
     unsigned long before = stuck;
-    for (int k = -3; k < 4; k++) {
-        struct world spoiled = *it;
-        int64_t number = k;
-        memcpy((uint8_t *)&spoiled.agents[agent] + field->at, &number, field->bytes);
-        try(&spoiled);
-    }
+    uint64_t own = 0;
+    memcpy(&own, (const uint8_t *)&it->agents[agent] + field->at, field->bytes);
+    for (size_t bit = 0; bit < 8 * field->bytes; bit++)
+        try_field(it, agent, field, own ^ (uint64_t)1 << bit);
+    for (int number = -3; number < 4; number++)
+        try_field(it, agent, field, (uint64_t)(int64_t)number);
     if (stuck > before)
-        printf("agent %d, %s: %lu of 7 numbers at the limits\n", agent, field->name,
-               stuck - before);
+        printf("agent %d, %s: %lu of %zu\n", agent, field->name, stuck - before,
+               8 * field->bytes + 7);
 }
 
 /* A drawn number of a few bytes: often a small one, or close to the greatest. */
@@ -357,10 +353,8 @@ static void try_all(unsigned long rounds, int leave_out) {
     }
     left_out = leave_out;
     for (int agent = 0; agent < AGENTS; agent++)
-        for (int k = 0; k < FIELD_COUNT; k++) {
-            try_bits(&it, agent, &FIELDS[k]);
-            try_limits(&it, agent, &FIELDS[k]);
-        }
+        for (int k = 0; k < FIELD_COUNT; k++)
+            try_each(&it, agent, &FIELDS[k]);
     unsigned long before = stuck;
     for (unsigned long k = 0; k < rounds; k++)
         try_drawn(&it);

@@ -1,13 +1,14 @@
 /* Tries the sessions of the library over real connections of TCP on this machine.
  *
- *     sessions STEPS SEED [maker-begins | handles-left]
+ *     sessions STEPS SEED [maker-begins | handles-left | keeps-one]
  *
  * Both ends of one link are in this program, each with a listener of its own. Drawn steps make
  * connections from either end, accept them late and in any order, break them by a close or a reset,
  * write and read messages in pieces, and let either end or both restart, which begins a new count.
  * What is delivered and acknowledged is held against the bounds of the laws. In the end nothing
- * breaks any more, and then every item has to come through. With one of the two words an end does
- * what it may not do, and a bound has to break: then the program says which, and returns 1.
+ * breaks any more, and then every item has to come through. With one of the words an end does what
+ * it may not do (with the last one a sender that restarts keeps its connection), and a bound has to
+ * break: then the program says which, and returns 1.
  */
 #include "rignolda.h"
 
@@ -46,7 +47,7 @@ static struct end ends[2];
 static const rignolda_params params = {1, 4};
 static rignolda_sender sender;
 static rignolda_receiver receiver;
-static bool maker_begins, handles_left;
+static bool maker_begins, handles_left, keeps_one;
 static bool is_quiet, offers_stop;
 static uint64_t state;
 
@@ -290,8 +291,12 @@ static void pull_one_left(struct end *end) {
 
 static void restart(bool of_sender, bool of_receiver) {
     if (of_sender) {
-        let_go(&ends[SENDER]);
-        rignolda_session_init(&ends[SENDER].session);
+        if (keeps_one) {
+            ends[SENDER].session.turn = 1;
+        } else {
+            let_go(&ends[SENDER]);
+            rignolda_session_init(&ends[SENDER].session);
+        }
         rignolda_sender_init(&sender, (uint16_t)drawn(params.labels));
     }
     if (of_receiver) {
@@ -347,6 +352,7 @@ int main(int argc, char **argv) {
     state = (argc > 2 ? strtoul(argv[2], 0, 10) : 1) * 2 + 1;
     maker_begins = argc > 3 && !strcmp(argv[3], "maker-begins");
     handles_left = argc > 3 && !strcmp(argv[3], "handles-left");
+    keeps_one = argc > 3 && !strcmp(argv[3], "keeps-one");
     listen_at(&ends[SENDER]);
     listen_at(&ends[RECEIVER]);
     restart(true, true);

@@ -37,8 +37,9 @@ struct calls {
 static const struct calls library = {
     rignolda_node_publish, rignolda_node_poll, rignolda_node_on_frame, rignolda_receiver_ack,
     rignolda_child_on_ack, rignolda_child_needs, rignolda_node_forget};
-static const struct calls plain = {plain_publish, plain_poll, plain_on_frame, plain_ack,
-                                   plain_on_ack, plain_needs, plain_forget};
+static const struct calls plain = {
+    plain_node_publish, plain_node_poll, plain_node_on_frame, plain_receiver_ack,
+    plain_child_on_ack, plain_child_needs, plain_node_forget};
 
 /* Calls a second. */
 static double rate(const struct calls *volatile which, unsigned long rounds) {
@@ -85,7 +86,8 @@ static double rate(const struct calls *volatile which, unsigned long rounds) {
 
 ROUNDS_OF_A_LINK(of_library, rignolda_sender_offer, rignolda_sender_frame,
                  rignolda_receiver_on_frame, rignolda_receiver_ack, rignolda_sender_on_ack)
-ROUNDS_OF_A_LINK(of_plain, plain_offer, plain_frame, plain_take, plain_ack, plain_sender_on_ack)
+ROUNDS_OF_A_LINK(of_plain, plain_sender_offer, plain_sender_frame, plain_receiver_on_frame,
+                 plain_receiver_ack, plain_sender_on_ack)
 
 static double node_of_library(unsigned long rounds) { return rate(&library, rounds); }
 static double node_of_plain(unsigned long rounds) { return rate(&plain, rounds); }

@@ -1,66 +1,21 @@
 #!/usr/bin/env -S python3 -B
-"""Tests agents/check_report.py: its link law and its tree law against lists of all that these
-allow, and the reports of `stab run` for the examples of trees, as they are and spoiled. And tests
-how agents/run_tree counts from the last fault on the path of each agent, by logs that were written
-by hand.
-
-The last line is 'N passed, M failed'.
+"""Tests how agents/run_tree counts from the last fault on the path of each agent, by logs that were
+written by hand, and the tree law of agents/check_report.py, by the reports of `stab run` for the
+examples of trees and by lists at its bounds. (Its link law is that of tests/check_reports.py and
+tests/check_logs.py.) The last line is 'N passed, M failed'.
 """
 import glob
 import importlib.machinery
 import importlib.util
-import itertools
 import json
 import os
-import random
 import sys
 import tempfile
 
 TOP = os.path.dirname(os.path.dirname(os.path.dirname(os.path.realpath(__file__))))
-sys.path.insert(0, os.path.join(TOP, "agents"))
+sys.path[:0] = [f"{TOP}/agents", f"{TOP}/tools"]
 import check_report  # noqa: E402
-from compare import TOP, built, counted, said  # noqa: E402
-
-
-def some_of(items):
-    """Some of these items, in their order: all the ways."""
-    return [list(chosen) for count in range(len(items) + 1)
-            for chosen in itertools.combinations(items, count)]
-
-
-def allowed(parent, acked, capacity, frames):
-    """All lists that the link law allows."""
-    lasts = [[], parent[acked:acked + 1]]
-    return {tuple(strays + some + parent[capacity + 1 + len(strays):acked] + last)
-            for strays in some_of(frames)
-            for some in some_of(parent[:min(capacity + 1 + len(strays), acked)]) for last in lasts}
-
-
-def laws(draw):
-    """Draws small links, and compares each list of few items with those that are allowed."""
-    capacity = draw.choice([1, 1, 2])
-    parent = [draw.randrange(3) for _ in range(draw.randint(0, 6))]
-    acked = draw.randint(0, len(parent))
-    frames = [draw.randrange(3) for _ in range(draw.randint(0, capacity))]
-    lists = allowed(parent, acked, capacity, frames)
-    return all(check_report.obeys_link_law(parent, list(items), acked, capacity, frames)
-               == (items in lists)
-               for length in range(6) for items in itertools.product(range(3), repeat=length)) \
-        and not check_report.obeys_link_law(parent, [], len(parent) + 1, capacity, frames)
-
-
-def tree_laws(draw):
-    """The same of the tree law, in which items that nobody published may be any."""
-    published = [draw.randrange(3) for _ in range(draw.randint(0, 4))]
-    strays, without, most = draw.randint(0, 2), draw.randint(0, 2), draw.randint(0, 3)
-    lists = {tuple(front + some + published[missing:last])
-             for count in range(strays + 1) for missing in [min(without + count, most)]
-             for front in map(list, itertools.product(range(4), repeat=count))
-             for some in some_of(published[:missing])
-             for last in range(min(missing, len(published)), len(published) + 1)}
-    return all(check_report.obeys_tree_law(strays, without, most, published, list(items))
-               == (items in lists)
-               for length in range(6) for items in itertools.product(range(4), repeat=length))
+from programs import answered, built, counted  # noqa: E402
 
 
 class Queue:
@@ -140,38 +95,35 @@ def counts_from_faults():
         and paths["c"][1].endswith("c depth 2 received 3 acked 3 ended upstream\nitems: 7 8 9\n")
 
 
-def spoiled_reports(report):
-    """The report with each one of some faults."""
-    lines = report.split("\n")
-    yield report[:-1]
-    yield report + "\n"
-    yield "\n".join(lines[2:])
-    yield report.replace("depth 1", "depth 2", 1)
-    yield report.replace("acked", "acked ", 1)
-    yield report.replace("items:", "items: 00", 1)
-    yield report.replace("received ", "received 1", 1)
-    yield lines[0].replace("acked -", "acked 0") + report[len(lines[0]):]
-    yield report.replace("turns", "Turns").replace("upstream", "turns upstream")
-
-
 def reports(stab):
-    """Whether each report of an example is accepted, and each spoiled one refused."""
-    for path in sorted(glob.glob(os.path.join(TOP, "examples", "trees", "*.json"))):
+    """Whether both laws accept the report of each example of trees."""
+    for path in sorted(glob.glob(f"{TOP}/examples/trees/*.json")):
         with open(path, encoding="utf-8") as file:
             job = json.load(file)
-        report = said(stab, ["run", path], "")
-        name = os.path.basename(path)
-        yield name, check_report.fault(job, report) is check_report.tree_fault(job, report) is None
-        yield f"{name}, spoiled", all(check_report.fault(job, spoiled) is not None
-                                      for spoiled in spoiled_reports(report) if spoiled != report)
+        report = answered(stab, "run", path, given="")[1]
+        yield (os.path.basename(path),
+               check_report.fault(job, report) is check_report.tree_fault(job, report) is None)
+
+
+def lists():
+    """Whether the tree law allows b the first lists alone, in a chain r, a, b of capacity 1 whose
+    root publishes 1 to 9: two strays, and of the first items four may be missing, and one more for
+    each stray, but no more than five."""
+    job = {"capacity": 1, "labels": 4, "items": list(range(1, 10)), "tree": [
+        {"name": "r"}, {"name": "a", "parent": "r"}, {"name": "b", "parent": "a"}]}
+    allowed = "5 6 7 8 9", "99 6 7 8 9", "98 99 6 7 8 9", "98 99", "2 4 5 6 7", "1 2 3"
+    others = ("6 7 8 9", "99 7 8 9", "98 99 7 8 9", "97 98 99 6 7", "1 2 3 4 5 6 8", "4 3 2 1 6",
+              "5 6 99")
+    for has in allowed + others:
+        report = "\n".join(["", "items: 1 2 3 4 5 6 7 8 9"] * 2 + ["", f"items: {has}", ""])
+        fault = check_report.tree_fault(job, report)
+        yield (f"the tree law, of {has}", fault is None if has in allowed
+               else bool(fault) and fault.startswith("b: the tree law is broken"))
 
 
 def main():
-    draw = random.Random(1)
-    cases = [("the link law, as all that it allows", all(laws(draw) for _ in range(300))),
-             ("the tree law, as all that it allows", all(tree_laws(draw) for _ in range(60)))]
     with tempfile.TemporaryDirectory() as folder:
-        cases += reports(built("stab", folder))
+        cases = [*reports(built("stab", folder)), *lists()]
         os.chdir(folder)
         cases += [("each path from the last fault on it, by hand", counts_from_faults())]
     return counted((name, None if holds else "it does not hold") for name, holds in cases)

@@ -23,7 +23,6 @@ import concurrent.futures
 import itertools
 import json
 import os
-import re
 import resource
 import shutil
 import subprocess
@@ -32,11 +31,11 @@ import tempfile
 
 HERE = os.path.dirname(os.path.realpath(__file__))
 TOP = os.path.dirname(os.path.dirname(HERE))
-sys.path.insert(0, f"{TOP}/tools")
+sys.path[:0] = [f"{TOP}/tools", f"{TOP}/agents", f"{TOP}/tests"]
+import check_report  # noqa: E402
+import examples  # noqa: E402
 from crates import clang  # noqa: E402
 from programs import Cases  # noqa: E402
-
-EXAMPLES = f"{TOP}/crates/gate_checks/data"
 
 # A program that has not ended after this many seconds hangs.
 SECONDS = 60.0
@@ -186,7 +185,7 @@ class Room:
                     started = subprocess.Popen(
                         command, stdin=given, stdout=subprocess.PIPE, stderr=subprocess.PIPE,
                         env={"LD_PRELOAD": self.object, "REFUSE_REPORT": str(to), **(refuse or {})},
-                        cwd=EXAMPLES, pass_fds=[to], preexec_fn=limit)
+                        cwd=examples.DATA, pass_fds=[to], preexec_fn=limit)
             finally:
                 os.close(to)
             try:
@@ -326,52 +325,16 @@ def first_difference(right, ended):
 
 
 def of_example(name):
-    """The words, the file of the standard input and the end of an example, as its files say."""
-    words, input = [], f"{EXAMPLES}/{name}.json"
-    if os.path.exists(f"{EXAMPLES}/{name}.args"):
-        with open(f"{EXAMPLES}/{name}.args") as it:
-            words = it.read().splitlines()
-    if os.path.exists(f"{EXAMPLES}/{name}.out"):
-        with open(f"{EXAMPLES}/{name}.out", "rb") as it:
-            right = (0, it.read(), b"")
-    else:
-        with open(f"{EXAMPLES}/{name}.err", "rb") as it:
-            line, status = it.read().split(b"\nstatus ")
-        right = (int(status), b"", line + b"\n")
-    return words, input if os.path.exists(input) else os.devnull, right
+    """The words, the file of the standard input and the end of an example."""
+    it = examples.example(name)
+    return it.words, it.job or os.devnull, (it.status, it.out, it.err)
 
 
 def is_report_of(job):
-    """A test for the report of a run of a chain with clean starts, under any schedule.
-
-    Two runs of a job may print different lists. Whatever the schedule, there are two lines for each
-    node; the root has all items, and every other node has what it begins with and then some of
-    those of the node above it, in their order and each once. """
-    openings = job.get("openings", [[]] * len(job["tree"]))
-
+    """A test for the report of a run of a job, under any schedule."""
     def is_report(ended):
-        lines = ended.out.decode(errors="replace").split("\n")
-        if ended.status != 0 or ended.err or len(lines) != 2 * len(job["tree"]) + 1 or lines[-1]:
-            return False
-        above = job["items"]
-        for depth, node in enumerate(job["tree"]):
-            first, second = lines[2 * depth : 2 * depth + 2]
-            counts = "received ([0-9]+) acked (-|[0-9]+) ended (upstream|turns)"
-            found = re.fullmatch(f"{node['name']} depth {depth} {counts}", first)
-            if not found or not re.fullmatch("items:( [0-9]+)*", second):
-                return False
-            items = [int(word) for word in second.split()[1:]]
-            if len(items) != int(found[1]) or (found[2] == "-") != (depth == 0):
-                return False
-            if depth == 0 and items != above or depth > 0 and int(found[2]) > len(above):
-                return False
-            opening, rest = openings[depth], iter(above)
-            if items[: len(opening)] != opening:
-                return False
-            if not all(item in rest for item in items[len(opening) :]):
-                return False
-            above = items
-        return True
+        return (ended.status, ended.err) == (0, b"") and not check_report.fault(
+            job, ended.out.decode(errors="replace"))
 
     return is_report
 
@@ -393,10 +356,7 @@ def check_stab(check, room, program, all_examples):
     """Parts (b) and (c)."""
     program, names = room.copy(program), JOBS
     if all_examples:
-        names = sorted(
-            os.path.relpath(os.path.join(at, name), EXAMPLES)[:-4]
-            for at, _, files in os.walk(EXAMPLES)
-            for name in files if name.endswith((".out", ".err")))
+        names = examples.names()
     for name in names:
         words, input, right = of_example(name)
         is_right = lambda ended: ended.seen == right

@@ -1,17 +1,9 @@
-"""What `rignolda bounds` prints of the examples and of some other trees.
+"""What `rignolda bounds` prints of three trees, worked out by hand. (That it prints such numbers of
+every job is `act_bounds.written`.)"""
 
-The expected numbers are those of a plain program, which goes up from each node link by link, and of
-three trees they are worked out by hand as well."""
-
-import json
-
-from tables.rows import Row, TOP
+from tables.rows import Row
 
 PROGRAM = "rignolda"
-EXAMPLES = TOP / "examples/trees"
-
-# What may be missing on a link of this capacity.
-MISSING = {1: 3, 2: 5, 3: 7, 4: 9, 64: 129}
 
 
 def counted(number, word):
@@ -43,58 +35,11 @@ def node_text(name, depth, strays, opened, missing, fewest, rounds, strike, bene
     return (
         f"{name} depth {depth}: {many} (C {strays} + E {opened}), then published items in order; "
         f"of those before its last one only some of the first {missing} (M) can be missing\n"
-        f"{name} misses only some of the first {missing - strays}, of one more for each stray that it "
-        f"received, and at most of the first {fewest}\n"
+        f"{name} misses only some of the first {missing - strays}, of one more for each stray that "
+        f"it received, and at most of the first {fewest}\n"
         f"{name} has all but these after {published + more} reading rounds of its path: "
         f"{published} for the published items, and {more} more\n"
         f"{struck}\n{name} after its restart: {restarted}\n")
-
-
-def text_of(job):
-    """The text of the bounds of a job of a tree."""
-    nodes = job["tree"]
-    names = [node["name"] for node in nodes]
-    parent = {node["name"]: node.get("parent") for node in nodes}
-    children = {name: [child for child in names if parent[child] == name] for name in names}
-    capacity, place = {}, 0
-    for name in names:
-        if parent[name] is not None:
-            own = job["links"][place] if job.get("links") else None
-            capacity[name] = (own or job)["capacity"]
-            place += 1
-    hold = job.get("h", 0) if job.get("version") == 2 else 0
-
-    def path(name):
-        """The node and those above it, but the root."""
-        return [name] + path(parent[name]) if parent[name] is not None else []
-
-    def held(name):
-        """How many items the nodes of a path may begin with."""
-        return sum(hold for above in path(name) if children[above])
-
-    def fault(links):
-        """What a fault costs that touches these links."""
-        return sum(links), sum(MISSING[link] for link in links)
-
-    text = ""
-    for name in names:
-        above = path(name)
-        worst = [max(capacity[child] for child in children[name])] if children[name] else []
-        if not above:
-            text += root_text(name, fault(worst) if worst else None)
-            continue
-        # Beside a round for each published item there is one for each stray that the parent can
-        # have, one for each link above the last one, and one.
-        up = parent[name]
-        more = sum(capacity[node] for node in path(up)) + held(up) + len(path(up)) + 1
-        strays, missing = fault([capacity[node] for node in above])
-        # Of one link all labels count twice, of those above it once, of those beneath it never.
-        fewest = max(MISSING[capacity[node]] + sum(capacity[it] + 1 for it in above[at + 1:])
-                     for at, node in enumerate(above))
-        text += node_text(name, len(above), strays, held(name), missing, fewest, (len(job["items"]), more),
-                          fault([capacity[name]]),
-                          fault([capacity[name], *worst]) if worst else None)
-    return text
 
 
 # A chain in which the links differ: the worst number of each node is of its own path.
@@ -130,20 +75,8 @@ HANDMADE = [
 ]
 
 
-def differs(job, text):
-    """Whether the plain program says something else than what is worked out by hand."""
-    return text_of(json.loads(job)) != text
-
-
-assert not any(differs(job, text) for _, job, text in HANDMADE)
-
 ROWS = [
     Row(f"says when all arrives and what faults cost in {name}", ["bounds", "job"],
         files={"job": job}, out=text)
     for name, job, text in HANDMADE
-]
-ROWS += [
-    Row(f"says when all arrives and what faults cost in {file.stem}", ["bounds", "job"],
-        files={"job": file.read_text()}, out=text_of(json.loads(file.read_text())))
-    for file in sorted(EXAMPLES.glob("*.json"))
 ]

@@ -4,6 +4,7 @@ The runs of the example scenarios are those of tests/faults/drawn.py, and one is
 hand."""
 
 import json
+import re
 import sys
 
 from tables.rows import Like, Row, TOP
@@ -114,6 +115,35 @@ SCENARIO_PARTS = [
     ">queue full</text>",
 ]
 
+# Three nodes, the root first, and the root between its two descendants, up to what a case adds: the
+# capacity and the number of labels of each link.
+THREE = [
+    '{"capacity":1,"labels":4,"tree":[{"name":"r"},{"name":"a","parent":"r"},'
+    '{"name":"b","parent":"a"}],"items":[7,8],',
+    '{"capacity":1,"labels":4,"tree":[{"name":"b","parent":"a"},{"name":"r"},'
+    '{"name":"a","parent":"r"}],"items":[7,8],',
+]
+LINKS = [
+    ('"turns":1', (1, 4), (1, 4)),
+    ('"links":[{"capacity":64,"labels":1000},null]', (64, 1000), (1, 4)),
+    ('"links":[{"capacity":2,"labels":6},{"labels":8,"capacity":3,"more":null}]', (2, 6), (3, 8)),
+    ('"links":[null,{"capacity":2,"labels":6}]', (1, 4), (2, 6)),
+]
+
+
+class Links:
+    """A picture of links with these capacities and numbers of labels, in their order."""
+
+    def __init__(self, *numbers):
+        self.numbers = list(numbers)
+
+    def fault(self, text, _printed):
+        """What is wrong with a text, or None."""
+        found = re.findall(">capacity ([0-9]+), ([0-9]+) labels<", text)
+        seen = [(int(capacity), int(labels)) for capacity, labels in found]
+        return None if seen == self.numbers else f"it has the links {seen}, and not {self.numbers}"
+
+
 # What no picture may have.
 NEVER = ["<script", "href", "@import", "url(h"]
 
@@ -124,8 +154,22 @@ ROWS = [
     Row("draws a picture", ["draw", "--svg"], JOB, out=Like(parts=PARTS, without=NEVER)),
     Row("draws the picture of a schedule", ["draw", "--svg"], TREE_JOB,
         out=Like(parts=TREE_PARTS, without=NEVER)),
+    *(Row(f"draws a link of capacity {capacity} with {labels} labels", ["draw", "--svg"],
+          JOB.replace('"capacity": 1, "labels": 4', f'"capacity": {capacity}, "labels": {labels}'),
+          out=Like(parts=[f">capacity {capacity}, {labels} labels</text>"]))
+      for capacity, labels in [(64, 130), (1, 1000)]),
     Row("draws the picture of a file", ["draw", "job", "--svg"], files={"job": JOB},
         out=Like(parts=PARTS, without=NEVER)),
+]
+ROWS += [
+    Row(f"draws the numbers of each link: {members}, {place}", ["draw", "--svg"],
+        before + members + "}", out=Links(first, second))
+    for place, before in enumerate(THREE)
+    for members, first, second in LINKS
+]
+ROWS += [
+    Row("draws a lone root without links", ["draw", "--svg"],
+        '{"capacity":1,"labels":4,"tree":[{"name":"r"}],"items":[7],"links":[]}', out=Links()),
 ]
 EXAMPLES = TOP / "examples/scenarios"
 ROWS += [

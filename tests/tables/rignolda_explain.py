@@ -1,5 +1,6 @@
 """What `rignolda explain` says of mistakes that people make when they write a job."""
 
+from tables.reader import row
 from tables.rows import Like, Repeated, Row, replaced
 
 PROGRAM = "rignolda"
@@ -18,308 +19,182 @@ LINK_JOB = """\
 "start":{"frames":[[2,99]],"acks":[0],"send":0,"recv":1},
 "events":[["offer",10],"recv_ack"]}"""
 
-# In all tables: a part of the job, what is there instead, and the explanation.
+# In all tables: a part of the job, what is there instead, and the findings, each a line. The last
+# line of an explanation, what `stab` says of the job, is found by reader.py.
 
 IGNORED = [
-    ('"schedule"', '"shedule"', """\
-shedule: ignored, since a job has no such member; did you mean "schedule"?
-stab tree: accepted
-"""),
-    ('"openings"', '"opening"', """\
-opening: ignored, since a job has no such member; did you mean "openings"?
-stab tree: accepted
-"""),
-    ('"version":2,', "", """\
-h: ignored without "version": 2
-openings: ignored without "version": 2
-stab tree: accepted
-"""),
-    ('"frames_out"', '"frame_out"', """\
-scripts[0].frame_out: ignored, since a script has no such member; did you mean "frames_out"?
-stab tree: accepted
-"""),
-    ('"items"', '"link":[null,null],"items"', """\
-link: ignored, since a job has no such member; did you mean "links"?
-stab tree: accepted
-"""),
-    ('"seed"', '"acks_in":"T","seed"', """\
-scripts[1].acks_in: ignored beside a "seed"
-stab tree: accepted
-"""),
-    ('{"name":"hub"}', '{"name":"hub","colour":1}', """\
-tree[0].colour: ignored, since a node has no such member
-stab tree: accepted
-"""),
+    ('"schedule"', '"shedule"',
+     'shedule: ignored, since a job has no such member; did you mean "schedule"?'),
+    ('"openings"', '"opening"',
+     'opening: ignored, since a job has no such member; did you mean "openings"?'),
+    ('"version":2,', "", 'h: ignored without "version": 2',
+     'openings: ignored without "version": 2'),
+    ('"frames_out"', '"frame_out"',
+     "scripts[0].frame_out: ignored, since a script has no such member; did you mean "
+     '"frames_out"?'),
+    ('"items"', '"link":[null,null],"items"',
+     'link: ignored, since a job has no such member; did you mean "links"?'),
+    ('"seed"', '"acks_in":"T","seed"', 'scripts[1].acks_in: ignored beside a "seed"'),
+    ('{"name":"hub"}', '{"name":"hub","colour":1}',
+     "tree[0].colour: ignored, since a node has no such member"),
 ]
 
 NODES = [
-    ('"parent":"site-a"', '"parent":"sitea"', """\
-tree[2].parent: "sitea" is no node; did you mean "site-a"?
-stab tree: tree: unknown parent
-"""),
-    ('"name":"rack_1"', '"name":"site-a"', """\
-tree[2].name: "site-a" is the name of tree[1] already
-stab tree: tree: same name twice
-"""),
-    ('"name":"rack_1"', '"name":"Rack 1"', """\
-tree[2].name: "Rack 1"; a name is 1 to 32 bytes of a-z, 0-9, _ and -
-stab tree: tree: bad name
-"""),
-    (',"parent":"site-a"', "", """\
-tree[2]: no parent, and tree[0] has none either; one node alone is the root
-stab tree: tree: two roots
-"""),
-    ('"parent":"site-a"', '"parent":"rack_1"', """\
-tree[2]: its parents lead round in a circle, and never to the root
-stab tree: tree: cycle
-"""),
+    ('"parent":"site-a"', '"parent":"sitea"',
+     'tree[2].parent: "sitea" is no node; did you mean "site-a"?'),
+    ('"name":"rack_1"', '"name":"site-a"',
+     'tree[2].name: "site-a" is the name of tree[1] already'),
+    ('"name":"rack_1"', '"name":"Rack 1"',
+     'tree[2].name: "Rack 1"; a name is 1 to 32 bytes of a-z, 0-9, _ and -'),
+    (',"parent":"site-a"', "",
+     "tree[2]: no parent, and tree[0] has none either; one node alone is the root"),
+    ('"parent":"site-a"', '"parent":"rack_1"',
+     "tree[2]: its parents lead round in a circle, and never to the root"),
 ]
 
 ENTRIES = [
-    ('"starts":[', '"starts":[{"send":0,"recv":1},', """\
-starts: 3 entries for 2 links; there is one for each node but the root, in their order
-stab tree: job: wrong number of starts
-"""),
-    ("[[],[50],[]]", "[[],[50]]", """\
-openings: 2 openings for 3 nodes; there is one for each node, in their order
-stab tree: job: wrong number of openings
-"""),
-    ("[[],[50],[]]", "[[],[],[50]]", """\
-openings[2] (node rack_1): only a node with a parent and a child may have an opening
-stab tree: job: opening at the root or a leaf
-"""),
-    ("[[],[50],[]]", "[[],[50,51,52],[]]", """\
-openings[1] (node site-a): 3 items, and "h" allows 2
-stab tree: job: opening too long
-"""),
-    ("[[2,99]]", "[[2,99],[2,99]]", """\
-starts[1].frames (the link into rack_1): 2 frames, and the capacity is 1
-stab tree: start: too many frames
-"""),
+    ('"starts":[', '"starts":[{"send":0,"recv":1},',
+     "starts: 3 entries for 2 links; there is one for each node but the root, in their order"),
+    ("[[],[50],[]]", "[[],[50]]",
+     "openings: 2 openings for 3 nodes; there is one for each node, in their order"),
+    ("[[],[50],[]]", "[[],[],[50]]",
+     "openings[2] (node rack_1): only a node with a parent and a child may have an opening"),
+    ("[[],[50],[]]", "[[],[50,51,52],[]]", 'openings[1] (node site-a): 3 items, and "h" allows 2'),
+    ("[[2,99]]", "[[2,99],[2,99]]",
+     "starts[1].frames (the link into rack_1): 2 frames, and the capacity is 1"),
 ]
 
 NUMBERS = [
-    ('"capacity":1', '"capacity":3', """\
-labels: 4 are too few for the capacity 3; the number of labels is a whole number from twice the \
-capacity and two to 1000
-stab tree: job: too few labels
-"""),
-    ('"version":2', '"version":"2"', """\
-version: the text "2"; the versions are the whole numbers 1 and 2
-stab tree: job: unknown version
-"""),
-    ('"version":2', '"version":3', """\
-version: 3; the versions are the whole numbers 1 and 2
-stab tree: job: unknown version
-"""),
-    ('"items"', '"turns":0,"items"', """\
-turns: 0; the turns are a whole number from 1 to 1000000
-stab tree: job: turns out of range
-"""),
-    ('"items"', '"links":[null,{"capacity":2,"labels":5}],"items"', """\
-links[1].labels (the link into rack_1): 5 are too few for the capacity 2; the number of labels \
-is a whole number from twice the capacity and two to 1000
-stab tree: job: too few labels
-"""),
+    ('"capacity":1', '"capacity":3',
+     "labels: 4 are too few for the capacity 3; the number of labels is a whole number from "
+     "twice the capacity and two to 1000"),
+    ('"version":2', '"version":"2"',
+     'version: the text "2"; the versions are the whole numbers 1 and 2'),
+    ('"version":2', '"version":3', "version: 3; the versions are the whole numbers 1 and 2"),
+    ('"items"', '"turns":0,"items"', "turns: 0; the turns are a whole number from 1 to 1000000"),
+    ('"items"', '"links":[null,{"capacity":2,"labels":5}],"items"',
+     "links[1].labels (the link into rack_1): 5 are too few for the capacity 2; the number of "
+     "labels is a whole number from twice the capacity and two to 1000"),
 ]
 
 STEPS = [
-    ('"recv_frame"', '"recvframe"', """\
-schedule[1][1]: "recvframe" is no event; did you mean "recv_frame"?
-stab tree: job: bad event
-"""),
-    ('["site-a","offer"]', '{"site-a":"offer"}', """\
-schedule[0]: an object; a step is a list of the name of a node, the name of an event, and for a \
-loss the place
-stab tree: job: bad event
-"""),
-    ('["rack_1"', '["rack1"', """\
-schedule[1]: "rack1" is no node; did you mean "rack_1"?
-stab tree: job: unknown node
-"""),
-    ('["site-a","offer"]', '["hub","offer"]', """\
-schedule[0]: "hub" is the root, and no link leads into it
-stab tree: step: no such link
-"""),
+    ('"recv_frame"', '"recvframe"',
+     'schedule[1][1]: "recvframe" is no event; did you mean "recv_frame"?'),
+    ('["site-a","offer"]', '{"site-a":"offer"}',
+     "schedule[0]: an object; a step is a list of the name of a node, the name of an event, and "
+     "for a loss the place"),
+    ('["rack_1"', '["rack1"', 'schedule[1]: "rack1" is no node; did you mean "rack_1"?'),
+    ('["site-a","offer"]', '["hub","offer"]',
+     'schedule[0]: "hub" is the root, and no link leads into it'),
 ]
 
 # Members that `stab` ignores, and that other commands read.
 BESIDE = [
-    ('"items"', '"steps":{},"items"', """\
-steps: an object; the steps are a list of steps
-stab tree: accepted
-"""),
-    ('"items"', '"steps":[["site-a","offer"],["site-a","ofer"],5],"items"', """\
-steps[1][1]: "ofer" is no event; did you mean "offer"?
-steps[2]: 5; a step is an act as in a schedule, or ["publish", items], ["restart", node, items], \
-["strike", node, start], ["rounds", count] or ["reading_rounds", count]
-stab tree: accepted
-"""),
-    ('"items"', '"steps":[["sitea","offer"],["hub","offer"],["rack_1","lose_ack"]],"items"', """\
-steps[0][0]: "sitea" is no node; did you mean "site-a"?
-steps[1][0]: "hub" is the root, and no link leads into it
-steps[2]: a loss is written with its place, a whole number from 0 to 65535
-stab tree: accepted
-"""),
-    ('"items"', '"steps":[["sell",[1,-1]],["round",2],["rounds",65536]],"items"', """\
-steps[0][0]: the text "sell"; the word before a list of items is "publish"
-steps[0][1][1]: a number that is not a whole one; an item is a whole number from 0 to 4294967295
-steps[1][0]: the text "round"; the word before a number is "rounds" or "reading_rounds"
-steps[2][1]: 65536; how many rounds there are is a whole number from 0 to 65535
-stab tree: accepted
-"""),
+    ('"items"', '"steps":{},"items"', "steps: an object; the steps are a list of steps"),
+    ('"items"', '"steps":[["site-a","offer"],["site-a","ofer"],5],"items"',
+     'steps[1][1]: "ofer" is no event; did you mean "offer"?',
+     'steps[2]: 5; a step is an act as in a schedule, or ["publish", items], ["restart", node, '
+     'items], ["strike", node, start], ["rounds", count] or ["reading_rounds", count]'),
+    ('"items"', '"steps":[["sitea","offer"],["hub","offer"],["rack_1","lose_ack"]],"items"',
+     'steps[0][0]: "sitea" is no node; did you mean "site-a"?',
+     'steps[1][0]: "hub" is the root, and no link leads into it',
+     "steps[2]: a loss is written with its place, a whole number from 0 to 65535"),
+    ('"items"', '"steps":[["sell",[1,-1]],["round",2],["rounds",65536]],"items"',
+     'steps[0][0]: the text "sell"; the word before a list of items is "publish"',
+     "steps[0][1][1]: a number that is not a whole one; an item is a whole number from 0 to "
+     "4294967295",
+     'steps[1][0]: the text "round"; the word before a number is "rounds" or "reading_rounds"',
+     "steps[2][1]: 65536; how many rounds there are is a whole number from 0 to 65535"),
     ('"items"', '"steps":[["restart","rack1",[]],["start","hub",[2]],["restart",1,[]]],"items"',
-        """\
-steps[0][1]: "rack1" is no node; did you mean "rack_1"?
-steps[1][0]: the text "start"; the word before a node and a list of items is "restart"
-steps[2][1]: 1; a node is named by a text
-stab tree: accepted
-"""),
-    ('"items"', '"steps":[["strike","hub",{"send":0,"recv":1}],["strike","rack_1",{"send":0}],'
+     'steps[0][1]: "rack1" is no node; did you mean "rack_1"?',
+     'steps[1][0]: the text "start"; the word before a node and a list of items is "restart"',
+     "steps[2][1]: 1; a node is named by a text"),
+    ('"items"',
+     '"steps":[["strike","hub",{"send":0,"recv":1}],["strike","rack_1",{"send":0}],'
      '["strike","rack_1",{"send":0,"recv":1,"frames":[[1,2],[3,4]],"acks":[1,2]}],'
-     '["strike","rack_1",{"send":0,"recv":1,"frame":[]}]],"items"', """\
-steps[0][1]: "hub" is the root, and no link leads into it
-steps[1][2]: a start has "send" and "recv", whole numbers from 0 to 65535
-steps[2][2]: 2 frames, and the capacity is 1
-steps[2][2]: 2 acknowledgements, and the capacity is 1
-steps[3].frame: ignored, since a start has no such member; did you mean "frames"?
-stab tree: accepted
-"""),
-    ('"items"', '"step":[],"items"', """\
-step: ignored, since a job has no such member; did you mean "steps"?
-stab tree: accepted
-"""),
-    ('"items"', '"backlogs":[[],[7,"8"],[]],"items"', """\
-backlogs[1][1]: the text "8"; an item is a whole number from 0 to 4294967295
-stab tree: accepted
-"""),
-    ('"items"', '"backlogs":[[],7],"items"', """\
-backlogs[1]: 7; a backlog is a list of items, which the parent of its node had for the node
-backlogs: 2 lists for 3 nodes; there is one for each node, in their order
-stab tree: accepted
-"""),
-    ('"items"', '"backlogs":[[1],[],[]],"items"', """\
-backlogs[0] (node hub): no node is above the root, so its backlog is empty
-stab tree: accepted
-"""),
-    ('"items"', '"backlogs":null,"items"', """\
-backlogs: null; the backlogs are a list of lists of items, one for each node
-stab tree: accepted
-"""),
-    ('"items"', '"received":[[],8,[9,-1]],"from":[0,1],"items"', """\
-received[1]: 8; a log is a list of items, which its node received
-received[2][1]: a number that is not a whole one; an item is a whole number from 0 to 4294967295
-from: 2 places for 3 nodes; there is one for each node, in their order
-stab tree: accepted
-"""),
-    ('"items"', '"received":[[]],"from":[0,"1",4294967296],"items"', """\
-received: 1 lists for 3 nodes; there is one for each node, in their order
-from[1]: the text "1"; a place is a whole number from 0 to 4294967295
-from[2]: 4294967296; a place is a whole number from 0 to 4294967295
-stab tree: accepted
-"""),
-    ('"items"', '"received":{},"from":"0","items"', """\
-received: an object; the logs are a list of lists of items, one for each node
-from: the text "0"; the places where counts begin are a list of whole numbers, one for each node
-stab tree: accepted
-"""),
+     '["strike","rack_1",{"send":0,"recv":1,"frame":[]}]],"items"',
+     'steps[0][1]: "hub" is the root, and no link leads into it',
+     'steps[1][2]: a start has "send" and "recv", whole numbers from 0 to 65535',
+     "steps[2][2]: 2 frames, and the capacity is 1",
+     "steps[2][2]: 2 acknowledgements, and the capacity is 1",
+     'steps[3].frame: ignored, since a start has no such member; did you mean "frames"?'),
+    ('"items"', '"step":[],"items"',
+     'step: ignored, since a job has no such member; did you mean "steps"?'),
+    ('"items"', '"backlogs":[[],[7,"8"],[]],"items"',
+     'backlogs[1][1]: the text "8"; an item is a whole number from 0 to 4294967295'),
+    ('"items"', '"backlogs":[[],7],"items"',
+     "backlogs[1]: 7; a backlog is a list of items, which the parent of its node had for the "
+     "node", "backlogs: 2 lists for 3 nodes; there is one for each node, in their order"),
+    ('"items"', '"backlogs":[[1],[],[]],"items"',
+     "backlogs[0] (node hub): no node is above the root, so its backlog is empty"),
+    ('"items"', '"backlogs":null,"items"',
+     "backlogs: null; the backlogs are a list of lists of items, one for each node"),
+    ('"items"', '"received":[[],8,[9,-1]],"from":[0,1],"items"',
+     "received[1]: 8; a log is a list of items, which its node received",
+     "received[2][1]: a number that is not a whole one; an item is a whole number from 0 to "
+     "4294967295", "from: 2 places for 3 nodes; there is one for each node, in their order"),
+    ('"items"', '"received":[[]],"from":[0,"1",4294967296],"items"',
+     "received: 1 lists for 3 nodes; there is one for each node, in their order",
+     'from[1]: the text "1"; a place is a whole number from 0 to 4294967295',
+     "from[2]: 4294967296; a place is a whole number from 0 to 4294967295"),
+    ('"items"', '"received":{},"from":"0","items"',
+     "received: an object; the logs are a list of lists of items, one for each node",
+     'from: the text "0"; the places where counts begin are a list of whole numbers, one for '
+     "each node"),
 ]
 
 SHAPES = [
-    ('"capacity"', '"capcity"', """\
-capacity: missing; a capacity is a whole number from 1 to 64
-capcity: ignored, since a job has no such member; did you mean "capacity"?
-stab tree: job: wrong shape
-"""),
-    ("[7,8]", '[7,"8"]', """\
-items[1]: the text "8"; an item is a whole number from 0 to 4294967295
-stab tree: job: wrong shape
-"""),
-    ("[7,8]", "[7,4294967296]", """\
-items[1]: 4294967296; an item is a whole number from 0 to 4294967295
-stab tree: job: wrong shape
-"""),
-    ("[[2,99]]", "[2,99]", """\
-starts[1].frames[0]: 2; a frame is a list of two, a label and an item
-starts[1].frames[1]: 99; a frame is a list of two, a label and an item
-starts[1].frames (the link into rack_1): 2 frames, and the capacity is 1
-stab tree: job: wrong shape
-"""),
-    ('{"send":0,"recv":1}', '{"send":0}', """\
-starts[0].recv: missing; a start has "send" and "recv", whole numbers from 0 to 65535
-stab tree: job: wrong shape
-"""),
-    ('"h":2,', "", """\
-h: missing; "h" is a whole number from 0 to 64, the most items that an opening has
-stab tree: job: wrong shape
-"""),
+    ('"capacity"', '"capcity"', "capacity: missing; a capacity is a whole number from 1 to 64",
+     'capcity: ignored, since a job has no such member; did you mean "capacity"?'),
+    ("[7,8]", '[7,"8"]', 'items[1]: the text "8"; an item is a whole number from 0 to 4294967295'),
+    ("[7,8]", "[7,4294967296]",
+     "items[1]: 4294967296; an item is a whole number from 0 to 4294967295"),
+    ("[[2,99]]", "[2,99]",
+     "starts[1].frames[0]: 2; a frame is a list of two, a label and an item",
+     "starts[1].frames[1]: 99; a frame is a list of two, a label and an item",
+     "starts[1].frames (the link into rack_1): 2 frames, and the capacity is 1"),
+    ('{"send":0,"recv":1}', '{"send":0}',
+     'starts[0].recv: missing; a start has "send" and "recv", whole numbers from 0 to 65535'),
+    ('"h":2,', "",
+     'h: missing; "h" is a whole number from 0 to 64, the most items that an opening has'),
 ]
 
 SCRIPTS = [
-    ("PD", "pd", """\
-scripts[0].frames_out[0]: the text "pd"; the acts for what is sent are a text of the letters P, \
-D and E
-stab tree: job: wrong shape
-"""),
-    ("PD", "PTK", """\
-scripts[0].frames_out[1]: the text "PTK"; the acts for what is sent are a text of the letters P, \
-D and E
-stab tree: job: wrong shape
-"""),
-    ("100,", "0.1,", """\
-scripts[1].loss: a number that is not a whole one; the loss is a whole number up to 1000, how \
-many of a thousand are dropped
-stab tree: job: wrong shape
-"""),
-    ("100,", "1001,", """\
-scripts[1].loss (the link into rack_1): 1001; the loss is a whole number up to 1000, how many of \
-a thousand are dropped
-stab tree: job: rate out of range
-"""),
+    ("PD", "pd",
+     'scripts[0].frames_out[0]: the text "pd"; the acts for what is sent are a text of the '
+     "letters P, D and E"),
+    ("PD", "PTK",
+     'scripts[0].frames_out[1]: the text "PTK"; the acts for what is sent are a text of the '
+     "letters P, D and E"),
+    ("100,", "0.1,",
+     "scripts[1].loss: a number that is not a whole one; the loss is a whole number up to 1000, "
+     "how many of a thousand are dropped"),
+    ("100,", "1001,",
+     "scripts[1].loss (the link into rack_1): 1001; the loss is a whole number up to 1000, how "
+     "many of a thousand are dropped"),
 ]
 
 LINK_JOBS = [
-    ('["offer",10]', '"offer",["recv_ack",1],"recvack",["lose_ack",70000]', """\
-events[0]: an offer is written ["offer", item], the item from 0 to 4294967295
-events[1]: this event has no number, and is written as a word alone
-events[2]: "recvack" is no event; did you mean "recv_ack"?
-events[3]: a loss is written with its place, as ["lose_frame", 0], from 0 to 65535
-stab link: job: bad event
-"""),
-    ("[0]", "[0,0]", """\
-start.acks: 2 acknowledgements, and the capacity is 1
-stab link: start: too many acknowledgements
-"""),
-    ('"events"', '"event"', """\
-events: missing; the events are a list of at most 1000000 events
-event: ignored, since a link job has no such member; did you mean "events"?
-stab link: job: wrong shape
-"""),
-    ('"labels":4', '"labels":1001,"version":1', """\
-labels: 1001 are too many; the number of labels is a whole number from twice the capacity and \
-two to 1000
-version: ignored, since a link job has no such member
-stab link: job: too many labels
-"""),
+    ('["offer",10]', '"offer",["recv_ack",1],"recvack",["lose_ack",70000]',
+     'events[0]: an offer is written ["offer", item], the item from 0 to 4294967295',
+     "events[1]: this event has no number, and is written as a word alone",
+     'events[2]: "recvack" is no event; did you mean "recv_ack"?',
+     'events[3]: a loss is written with its place, as ["lose_frame", 0], from 0 to 65535'),
+    ("[0]", "[0,0]", "start.acks: 2 acknowledgements, and the capacity is 1"),
+    ('"events"', '"event"', "events: missing; the events are a list of at most 1000000 events",
+     'event: ignored, since a link job has no such member; did you mean "events"?'),
+    ('"labels":4', '"labels":1001,"version":1',
+     "labels: 1001 are too many; the number of labels is a whole number from twice the capacity "
+     "and two to 1000", "version: ignored, since a link job has no such member"),
 ]
 
 NO_JSON = [
-    ('"items"', '/* two */"items"', """\
-line 3, column 1: not JSON; JSON has no comments
-stab link: job: not JSON
-"""),
-    ("[7,8]", "[7,8,]", """\
-line 3, column 14: not JSON; no comma may be after the last entry or member
-stab link: job: not JSON
-"""),
-    ("[7,8],", "[7,8]", """\
-line 3, column 14: not JSON; a comma is missing
-stab link: job: not JSON
-"""),
-    ('"items"', "'items'", """\
-line 3, column 1: not JSON; a text is written in double quotation marks
-stab link: job: not JSON
-"""),
+    ('"items"', '/* two */"items"', "line 3, column 1: not JSON; JSON has no comments"),
+    ("[7,8]", "[7,8,]",
+     "line 3, column 14: not JSON; no comma may be after the last entry or member"),
+    ("[7,8],", "[7,8]", "line 3, column 14: not JSON; a comma is missing"),
+    ('"items"', "'items'",
+     "line 3, column 1: not JSON; a text is written in double quotation marks"),
 ]
 
 TABLES = [
@@ -362,6 +237,18 @@ COUNTED = [
     (1_000_200, "and at least 1000000 more", "too many events"),
 ]
 
+
+def explained(name, job, findings):
+    """A row that explains a job, in which this is found."""
+    fault = row(name, ["tree"], job).err.removeprefix("stab: ") or "accepted\n"
+    # (a text that is not JSON is none of a tree)
+    kind = "tree" if '"tree"' in job and "not JSON" not in fault else "link"
+    if kind == "link":
+        fault = row(name, ["link"], job).err.removeprefix("stab: ")
+    return Row(name, ["explain"], job, status=1,
+               out="".join(f"{line}\n" for line in findings) + f"stab {kind}: {fault}")
+
+
 ROWS = [
     Row("finds nothing in a whole job", ["explain"], JOB, out="stab tree: accepted\n"),
     Row("finds nothing in a whole link job", ["explain"], LINK_JOB, out="stab link: accepted\n"),
@@ -375,10 +262,9 @@ ROWS = [
     Row("explains a file", ["explain", "job"], files={"job": JOB}, out="stab tree: accepted\n"),
 ]
 ROWS += [
-    Row(f"{name}: {instead or 'no ' + part}", ["explain"], replaced(job, part, instead),
-        status=1, out=said)
+    explained(f"{name}: {instead or 'no ' + part}", replaced(job, part, instead), findings)
     for name, job, table in TABLES
-    for part, instead, said in table
+    for part, instead, *findings in table
 ]
 ROWS += [
     Row(f"says what the first bytes show: {name}", ["explain"], given, status=1, out=said)

@@ -15,8 +15,8 @@ JOB = """\
 "items":[20,21,22,23,24],"backlogs":[[],[8],[7]],
 "starts":[{"frames":[[2,98]],"send":0,"recv":1},{"frames":[[2,99]],"send":0,"recv":1}]}"""
 
-# What each node received since: after its stray a misses three of 8, 20, 21, 22, 23, 24, and b three
-# of 7, 98, 22, 23, 24 after its own.
+# What each node received since: after its stray a misses three of 8, 20, 21, 22, 23, 24, and b
+# three of 7, 98, 22, 23, 24 after its own.
 REPORT = """\
 r depth 0 received 5 acked - ended upstream
 items: 20 21 22 23 24
@@ -38,24 +38,10 @@ REPORTS = [
     # (of the 7 items that a has for b then, no more than 6 are offered where 5 are acknowledged)
     ("received 4 acked 6 ended upstream\nitems: 98",
         "received 6 acked 6 ended upstream\nitems: 98 8 20",
-     1, """\
-b: what it received since is not what the link law allows
-the link from a has capacity 1 and 5 acknowledged items
-frames: 99
-backlog: 7
-items of a: 98 8 20 22 23 24
-items of b: 99 23 24
-"""),
+     1, "b: LAW"),
     # (without its stray a may miss two items alone)
     ("received 4 acked 6 ended upstream\nitems: 98", "received 3 acked 6 ended upstream\nitems:", 1,
-     """\
-a: what it received since is not what the link law allows
-the link from r has capacity 1 and 6 acknowledged items
-frames: 98
-backlog: 8
-items of r: 20 21 22 23 24
-items of a: 22 23 24
-"""),
+     "a: LAW"),
     ("acked 5 ended upstream", "acked 4 ended turns", 1,
      "b: a ended upstream with 5 items, and 4 of them are acknowledged\n"),
     ("acked 6 ended upstream\nitems: 98 22 23 24\nb depth 2 received 3 acked 5",
@@ -69,24 +55,10 @@ items of r: 21 20 22 23 24
      "r: it has a count of acknowledged items, and no link leads into the root\n"),
     ("acked 6", "acked -", 1, "a: it has no count of acknowledged items\n"),
     ("acked 6", "acked 5", 1, "a: r ended upstream with 6 items, and 5 of them are acknowledged\n"),
-    ("items: 98 22 23 24", "items: 98 23 22 24", 1, """\
-a: what it received since is not what the link law allows
-the link from r has capacity 1 and 6 acknowledged items
-frames: 98
-backlog: 8
-items of r: 20 21 22 23 24
-items of a: 98 23 22 24
-"""),
+    ("items: 98 22 23 24", "items: 98 23 22 24", 1, "a: LAW"),
     ("received 3 acked 5 ended upstream\nitems: 99",
         "received 4 acked 5 ended upstream\nitems: 7 99",
-     1, """\
-b: what it received since is not what the link law allows
-the link from a has capacity 1 and 5 acknowledged items
-frames: 99
-backlog: 7
-items of a: 98 22 23 24
-items of b: 7 99 23 24
-"""),
+     1, "b: LAW"),
     ("items: 99 23", "items: 99 023", 1,
      "not a report: line 6 is not as a report of this tree has it"),
 ]
@@ -94,22 +66,8 @@ items of b: 7 99 23 24
 # Without backlogs the same report is one of a whole run, in which no more is acknowledged than the
 # root has.
 JOBS = [
-    (',"backlogs":[[],[8],[7]]', "", 1, """\
-a: what it has after its opening is not what the link law allows
-the link from r has capacity 1 and 6 acknowledged items
-frames: 98
-items of r: 20 21 22 23 24
-opening:
-items of a: 98 22 23 24
-"""),
-    ("[[],[8],[7]]", "[[],[8],[]]", 1, """\
-b: what it received since is not what the link law allows
-the link from a has capacity 1 and 5 acknowledged items
-frames: 99
-backlog:
-items of a: 98 22 23 24
-items of b: 99 23 24
-"""),
+    (',"backlogs":[[],[8],[7]]', "", 1, "a: LAW"),
+    ("[[],[8],[7]]", "[[],[8],[]]", 1, "b: LAW"),
     ("[[],[8],[7]]", "[[],[8]]", 1, "backlogs: wrong number of backlogs"),
     ("[[],[8],[7]]", "[[],[8],[7],[]]", 1, "backlogs: wrong number of backlogs"),
     ("[[],[8],[7]]", "[[1],[8],[7]]", 1, "backlogs: backlog at the root"),

@@ -112,3 +112,10 @@ def replaced(text, part, instead):
     if part not in text:
         raise ValueError(f"there is no {part!r} to replace")
     return text.replace(part, instead, 1)
+
+
+def refusals(name, job, said, tasks=(["tree"],)):
+    """Rows in which each of these tasks of `stab` refuses a job with this text."""
+    status = 3 if said.startswith(("start:", "step:", "run:")) else 1
+    return [Row(f"{name}, by {' '.join(words)}", words, job, status=status, err=f"stab: {said}\n")
+            for words in tasks]

@@ -3,11 +3,10 @@
 Their README says what each file is. The list there names each file that says what is expected.
 Those of a run, NAME.run, are compared by tests/check_drawn.py."""
 
-from tables.rows import Row, TOP
+from examples import DATA, example, names
+from tables.rows import Row
 
 PROGRAM = "stab"
-
-DATA = TOP / "crates/gate_checks/data"
 
 # The files that say what is expected, as the list names them, and as they are there.
 LISTED = (DATA / "list").read_text().splitlines()
@@ -24,19 +23,13 @@ def listed_otherwise():
     return None if LISTED == THERE else "its names are not each there once, in the order of bytes"
 
 
-def row_of(file):
-    """The run of the example of which this file says what is expected."""
-    path = DATA / file
-    args, job = path.with_suffix(".args"), path.with_suffix(".json")
-    words = args.read_text().splitlines() if args.is_file() else []
-    named = [word for word in words if (DATA / word).is_file()]
-    beside = {word: (DATA / word).read_bytes().decode() for word in named}
-    given = job.read_bytes() if job.is_file() else ""
-    text = path.read_bytes().decode()
-    if path.suffix == ".out":
-        return Row(file, words, given, beside, out=text)
-    line, status = text.split("\nstatus ")
-    return Row(file, words, given, beside, status=int(status), err=line + "\n")
+def row_of(name):
+    """The run of an example."""
+    it = example(name)
+    beside = {word: (DATA / word).read_bytes().decode() for word in it.words
+              if (DATA / word).is_file()}
+    return Row(name, it.words, it.job.read_bytes() if it.job else "", beside, it.status,
+               it.out.decode(), it.err.decode())
 
 
-ROWS = [row_of(file) for file in THERE if not file.endswith(".run")]
+ROWS = [row_of(name) for name in names()]

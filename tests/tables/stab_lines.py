@@ -5,8 +5,7 @@ What is printed shows which task ran. A row that reads a file has an empty stand
 would be refused as no JSON, and the others have no file. More command lines that are refused are
 examples of crates/gate_checks/data, in the folders refused and runs."""
 
-from tables.refusals import NOT_ONE, RUNS, TOO_MANY_FRAMES, refusals
-from tables.rows import Like, Row, WORST_TEXT
+from tables.rows import Like, Row, WORST_TEXT, refusals
 
 PROGRAM = "stab"
 
@@ -56,7 +55,7 @@ PLAIN = [(WORST_START, WORST_TEXT, "")]
 TRACED = [(WORST_START, WORST_TEXT + "origins: s0 i3\n", "")]
 TREE = [(LONE_ROOT, LONE_TEXT, "")]
 LOCKED = [(EARLY_ACKNOWLEDGEMENT, TAKEN_AT_ONCE, "")]
-WORDS = [(EARLY_ACKNOWLEDGEMENT, FOUND_AGAIN, ""), (WIDE, "", f"stab: {NOT_ONE}\n")]
+WORDS = [(EARLY_ACKNOWLEDGEMENT, FOUND_AGAIN, ""), (WIDE, "", "stab: run: capacity is not one\n")]
 MIXED = [(EARLY_ACKNOWLEDGEMENT, FOUND_AGAIN, ""), (WIDE, WIDE_REPORT, "")]
 
 # Command lines, the task and the file that each names.
@@ -102,11 +101,6 @@ REFUSED = [
     "link one.json two.json",
 ]
 
-# A start that is not lawful.
-TWO_FRAMES = """\
-{"capacity":1,"labels":4,"tree":[{"name":"r"},{"name":"a","parent":"r"}],"items":[7],
-"starts":[{"frames":[[0,1],[1,2]],"send":0,"recv":1}]}"""
-
 
 def taken(line, task, file):
     """Rows that show which task a command line names, and which file."""
@@ -129,4 +123,3 @@ ROWS += [
         err="stab: command line refused\n")
     for line in REFUSED
 ]
-ROWS += refusals("refuses a start that is not lawful", TWO_FRAMES, TOO_MANY_FRAMES, RUNS, status=3)

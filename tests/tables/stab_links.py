@@ -1,188 +1,114 @@
-"""How `stab` refuses parameters of single links, and what it runs over links that have their own.
+"""How `stab link` reads texts of one link job, in the plain form or not.
 
-Cases that are an example of crates/gate_checks/data, in the folder refused_trees, are not here. The
-text of a fault does not say which link is refused: that is tested in crates/tests_task."""
+A text in the plain form is read token by token, and any other by way of a tree of values. A link
+job in the plain form has the four members `capacity`, `labels`, `start` and `events`, and no
+others. What has to come of each text is found by reader.py."""
 
-from tables.refusals import (
-    CAPACITY, EVENT, LINK_COUNT, NO_SUCH_LINK, OF_TREES, RUNS, SHAPE, TOO_FEW_LABELS,
-    TOO_MANY_ACKS, TOO_MANY_FRAMES, TOO_MANY_LABELS, TURNS, each, refused,
-)
-from tables.rows import Like, Row
+import json
+
+from tables.reader import EVENTS as WORDS, row
+from tables.rows import Row, WORST_TEXT
+from tables.texts import FURTHER, WHOLE, broken, by_value, nested, swapped
 
 PROGRAM = "stab"
 
-# A chain of three nodes, up to the members that a case adds.
-CHAIN_WITH = """\
-{"capacity":1,"labels":4,"tree":[{"name":"r"},{"name":"a","parent":"r"},
-{"name":"b","parent":"a"}],"items":[7,8],"""
+# Its parts: the events are those of examples/worst_start.json.
+CAPACITY_AND_LABELS = '"capacity":1,"labels":4'
+START = '"start":{"frames":[[2,99]],"acks":[0],"send":0,"recv":1}'
+EVENTS = """\
+"events":[["offer",10],"recv_ack","send_ack",["offer",11],"recv_ack","recv_frame","send_ack",\
+["offer",12],"recv_ack",["offer",13],"send_frame","recv_frame"]"""
+PLAIN = "{" + CAPACITY_AND_LABELS + "," + START + "," + EVENTS + "}"
 
-# The same chain, where the root stands between its children.
-ROOT_BETWEEN_WITH = """\
-{"capacity":1,"labels":4,"tree":[{"name":"b","parent":"a"},
-{"name":"r"},{"name":"a","parent":"r"}],"items":[7,8],"""
+# A start with something in each queue, and room for more: each side expects what comes first.
+EACH_HALF_FULL = '{"frames":[[2,99],[3,98]],"acks":[0,5],"send":0,"recv":1}'
+OVERFULL = ["[[2,99],[3,98]]", "[[2,99],[]]", "[[[2,99]]]"]
+# Entries that are no events.
+NO_EVENTS = ['"jump"', '"offer"', '["jump",0]', '["offer",4294967296]', "[]", "{}",
+             '["lose_ack",65536]', "7", "1.5", "true", "null", '["offer"]']
 
-# A chain of three nodes with parameters of each link, up to the job's own.
-OWN_AFTER = """\
-{"tree":[{"name":"r"},{"name":"a","parent":"r"},{"name":"b","parent":"a"}],"items":[7,8],
-"links":[{"capacity":2,"labels":6},{"capacity":2,"labels":6}],"""
 
-# A lone root, up to its links.
-LONE_ROOT_WITH = '{"capacity":1,"labels":4,"tree":[{"name":"r"}],"items":[7],'
+def changed(old, *news):
+    """The plain text, with each of these in place of a part of it."""
+    return swapped(PLAIN, old, *news)
 
-# A chain of three nodes whose second link begins with two frames, up to its links.
-TWO_FRAMES_WITH = """\
-{"capacity":1,"labels":4,"tree":[{"name":"r"},{"name":"a","parent":"r"},
-{"name":"b","parent":"a"}],"items":[7,8],
-"starts":[{"send":0,"recv":65535},{"frames":[[1,20],[2,21]],"send":0,"recv":0}],
-"schedule":[
-["a","offer"],["a","send_frame"],["a","recv_frame"],["a","send_ack"],["a","recv_ack"],
-["a","offer"],["a","send_frame"],["a","recv_frame"],["a","send_ack"],["a","recv_ack"],
-["b","recv_frame"],["b","recv_frame"],
-["b","offer"],["b","send_frame"],["b","recv_frame"],["b","send_ack"],["b","recv_ack"],
-["b","offer"],["b","send_frame"],["b","recv_frame"],["b","send_ack"],["b","recv_ack"]],"""
 
-# A chain whose second link begins with two frames, where nothing happens, up to its links; and what
-# is printed of it.
-STILL_WITH = TWO_FRAMES_WITH[:TWO_FRAMES_WITH.index('"schedule"')]
-STILL_TEXT = """\
-r depth 0 received 2 acked -
-items: 7 8
-a depth 1 received 0 acked 0
-items:
-b depth 2 received 0 acked 0
-items:
-"""
+def refused_too(bad):
+    """Texts with this entry among the events, and of them some with something else that is wrong,
+    or not, before or after it."""
+    text, other = changed('["offer",10]', bad)[0], "{" + ",".join([EVENTS, START, "%s"]) + "}"
+    yield text
+    for old, news in [
+        ('"labels":4', ['"labels":3', '"labels":null', '"labels":1001', '"version":1,"labels":4']),
+        ('"capacity":1', ['"capacity":0', '"capacity":"1"']),
+        ("[[2,99]]", ["[[2,99],[3,98]]", "[[2]]"]),
+        ('["offer",13]', [bad, "1e999", '"\\ud800"', "01", "[1", "1.5", nested(125), nested(126)]),
+        ("]}", ["]", '],"events":[]}', '],"events":0}', '],"note":1}', '],"labels":3}', "]}}",
+                "]} 7", "],}", ",]}"]),
+    ]:
+        yield from (new.join(text.rsplit(old, 1)) for new in news)
+    for more in (CAPACITY_AND_LABELS, '"capacity":1,"labels":3', '"capacity":1',
+                 '"events":["close"]'):
+        yield (other % more).replace('["offer",10]', bad)
 
-# A chain up to the starts of its links.
-SEVEN_WITH = """\
-{"capacity":1,"labels":4,"tree":[{"name":"r"},{"name":"a","parent":"r"},
-{"name":"b","parent":"a"}],"items":[10,11,12,13,14,15,16],"""
 
-# Its worst starts; a second one with a frame too many, after a lawful start and after one with an
-# acknowledgement too many.
-WORST = '{"frames":[[2,99]],"acks":[0],"send":0,"recv":1}'
-OTHER_WORST = '{"frames":[[2,98]],"acks":[0],"send":0,"recv":1}'
-WORST_STARTS = f'"starts":[{WORST},{OTHER_WORST}]'
-TOO_FULL = '{"frames":[[2,98],[2,99]],"acks":[0],"send":0,"recv":1}'
-UNLAWFUL = [
-    (f'"starts":[{WORST},{TOO_FULL}]', TOO_MANY_FRAMES),
-    (f'"starts":[{WORST.replace("[0]", "[0,0]")},{TOO_FULL}]', TOO_MANY_ACKS),
+TEXTS = [
+    # the members in another order, white space, and escapes
+    PLAIN, "{" + ",".join([EVENTS, START, CAPACITY_AND_LABELS]) + "}",
+    " \t\r\n" + PLAIN.replace(",", " ,\n").replace(":", "\t: ") + "\n ",
+    *changed('"capacity"', '"c\\u0061pacity"', '"Capacity"', "capacity", "1"),
+    *changed('"frames"', '"\\u0066rames"', '"frame"'),
+    *changed('"send_frame"', '"send\\u005fframe"', '"SEND_FRAME"', '"send_frame "', '"\\ud83d"'),
+    # numbers in each place of one
+    *(text for old, new in [
+        ('"capacity":1', '"capacity":%s'), ('"labels":4', '"labels":%s'), ("[[2,", "[[%s,"),
+        (",99]", ",%s]"), ("[0]", "[%s]"), ('"send":0', '"send":%s'), ('"recv":1', '"recv":%s'),
+        ('["offer",10]', '["lose_frame",%s]'), ('["offer",11]', '["lose_ack",%s]'),
+        ('["offer",12]', '["offer",%s]'),
+    ] for number_text in WHOLE for plain in changed(old, new % number_text)
+      for text in [plain, by_value(plain)]),
+    *changed(CAPACITY_AND_LABELS, '"capacity":64,"labels":130', '"capacity":64,"labels":129',
+             '"capacity":65,"labels":200', '"capacity":65537,"labels":4'),
+    # labels, each beside the one after it
+    *(text for label in (0, 3, 4, 65535)
+      for text in changed(START, f'"start":{{"acks":[{label}],"send":{label},"recv":3}}')),
+    # each event after an offer, to a link with room and with something in each queue
+    *(text for of in [*sorted(WORDS), ["offer", 4294967295], ["lose_frame", 0], ["lose_frame", 1],
+                      ["lose_frame", 5], ["lose_ack", 0], ["lose_ack", 1], ["lose_ack", 65535]]
+      for plain in [f'{{"capacity":3,"labels":8,"start":{EACH_HALF_FULL},'
+                    f'"events":{json.dumps(events)}}}'
+                    for events in [[of], [["offer", 10], of]]]
+      for text in [plain, by_value(plain)]),
+    # further members, and members that come again
+    *(text for further in FURTHER for old in ("{" + CAPACITY_AND_LABELS, '"recv":1')
+      for text in changed(old, old + ',"note":' + further)),
+    *changed('"labels":4', '"labels":null,"labels":4', '"labels":4,"labels":null',
+             '"labels":9,"labels":4', '"version":3,"labels":4', '"tree":[],"labels":4'),
+    *changed('"send":0', '"send":7,"send":0', '"send":0,"send":-1', '"send":0,"acks":[0]',
+             '"send":0,"frames":[[1,2]],"frames":[[2,99]]', '"send":0,"frames":null'),
+    *changed(EVENTS, '"events":["jump"],' + EVENTS, EVENTS + ',"events":["jump"]',
+             '"events":null', '"events":{}', '"events":"close"', '"events":5', '"events":[]'),
+    # members that are absent, and values of other shapes
+    *changed('"capacity":1,', ""), *changed('"labels":4,', ""), *changed(START + ",", ""),
+    *changed("," + EVENTS, ""), *changed('"send":0,', ""), *changed(',"recv":1', ""),
+    *changed(START, '"start":[]', '"start":null', '"start":7', '"start":{"send":0}'),
+    *changed("[[2,99]]", "[[]]", "[{}]", "[[2]]", "[[2,99,0]]", "[2,99]", "[null]", "null", "{}",
+             '[["2",99]]', *OVERFULL),
+    *changed('"acks":[0]', '"acks":0', '"acks":[[0]]', '"acks":null', '"acks":{}', '"acks":[0,1]',
+             '"acks":["0"]'),
+    *changed('[[2,99]],"acks":[0]', '[[2,99],[3,98]],"acks":[0,1]'),
+    *changed('["offer",13]', '"offer"', '["offer"]', '["offer",13,0]', '["offer",[13]]',
+             '[13,"offer"]', '["close"]', '["close",0]', "[]", "{}", "null", "7", '"jump"',
+             '["jump",0]', '[["offer",13]]', '"lose_frame"', '["lose_frame"]', '{"offer":13}',
+             '["offer","13"]', '["offer",true]', '["offer",null]', '["o\\u0066fer",13]'),
+    *changed("[0]", "[0 0]"), *changed('"start":{', '"start":['),
+    *changed('"recv":1}', '"recv":1]'),
+    *(text for bad in NO_EVENTS for text in refused_too(bad)),
+    # texts that are cut short, go on, or are not UTF-8
+    *broken(PLAIN),
 ]
 
-# Steps of which the second one names no link.
-NO_LINK = [
-    (WORST_STARTS + ',"schedule":[["a","offer"],["r","offer"],["a","offer"]]', NO_SUCH_LINK),
-]
-
-# What is printed of the chain at its worst starts.
-WORST_TEXT = """\
-r depth 0 received 7 acked -
-items: 10 11 12 13 14 15 16
-a depth 1 received 0 acked 0
-items:
-b depth 2 received 0 acked 0
-items:
-"""
-
-# In the tables of cases: the links of a job, and the text of the fault.
-
-PARAMETERS = [
-    ('"links":[]', LINK_COUNT),
-    ('"links":[null,null,null]', LINK_COUNT),
-    ('"links":[null,{"capacity":0,"labels":6}]', CAPACITY),
-    ('"links":[null,{"capacity":70000,"labels":1000}]', CAPACITY),
-    ('"links":[{"capacity":2,"labels":70000},null]', TOO_MANY_LABELS),
-]
-
-# A first link with too few labels before a second one whose capacity is out of range.
-BOTH = [
-    ('"links":[{"capacity":2,"labels":5},{"capacity":0,"labels":4}]', TOO_FEW_LABELS),
-]
-
-# A second link alone with too few labels.
-SECOND = [
-    ('"links":[null,{"capacity":2,"labels":5}]', TOO_FEW_LABELS),
-]
-
-MISSHAPEN = each([
-    '"links":{}',
-    '"links":"links"',
-    '"links":[null,7]',
-    '"links":[null,[2,6]]',
-    '"links":[null,true]',
-    '"links":[null,{}]',
-    '"links":[null,{"capacity":2}]',
-    '"links":[null,{"labels":6}]',
-    '"links":[null,{"capacity":null,"labels":6}]',
-    '"links":[null,{"capacity":2,"labels":6.0}]',
-    '"links":[null,{"capacity":-2,"labels":6}]',
-    '"links":[null,{"capacity":18446744073709551616,"labels":6}]',
-], SHAPE)
-
-ORDER = [
-    ('"links":[],"turns":0', TURNS),
-    ('"links":[],"schedule":[0]', EVENT),
-    ('"links":[{"capacity":0,"labels":0}]', LINK_COUNT),
-]
-
-OWN = [
-    ('"labels":4', SHAPE),
-    ('"capacity":1', SHAPE),
-    ('"capacity":0,"labels":4', CAPACITY),
-    ('"capacity":1,"labels":3', TOO_FEW_LABELS),
-]
-
-# Links that each task refuses.
-BY_EACH_TASK = [
-    ('"links":[null]', LINK_COUNT),
-    ('"links":[]', LINK_COUNT),
-    ('"links":[null,{"capacity":2,"labels":5}]', TOO_FEW_LABELS),
-    ('"links":[{"capacity":65,"labels":200},{"capacity":2,"labels":5}]', CAPACITY),
-    ('"links":3', SHAPE),
-    ('"links":null', SHAPE),
-    ('"links":[null,3]', SHAPE),
-]
-
-# Links of which the second one has room for two frames.
-WIDER = [
-    '"links":[null,{"capacity":2,"labels":6}]',
-    '"links":[{"capacity":1,"labels":4},{"capacity":3,"labels":8}]',
-    '"links":[{"capacity":3,"labels":8},{"capacity":2,"labels":6}]',
-]
-
-# A report of the chain: two lines for each node. How many items arrive is up to the threads.
-REPORT = Like(
-    begins="r depth 0 received 2 acked - ended ",
-    parts=["\na depth 1 received ", "\nb depth 2 received "],
-    lines=6,
-)
-
-ROWS = refused("a lone root has no parameters", LONE_ROOT_WITH, [('"links":[null]', LINK_COUNT)])
-ROWS += refused("refuses link parameters", CHAIN_WITH, PARAMETERS)
-ROWS += refused("refuses the first link of refused parameters", CHAIN_WITH, BOTH)
-ROWS += refused("refuses the first link of refused parameters, where the root is between",
-                ROOT_BETWEEN_WITH, BOTH + SECOND)
-ROWS += refused("refuses links of a wrong shape", CHAIN_WITH, MISSHAPEN)
-ROWS += refused("checks the links last", CHAIN_WITH, ORDER)
-ROWS += refused("checks the job's own parameters where each link has its own", OWN_AFTER, OWN)
-ROWS += refused("refuses link parameters in each task", TWO_FRAMES_WITH, BY_EACH_TASK,
-                tasks=OF_TREES)
-ROWS += refused("refuses two frames for a narrow link", TWO_FRAMES_WITH,
-                [('"links":[null,null]', TOO_MANY_FRAMES)], tasks=RUNS, status=3)
-ROWS += refused("holds each link to its own capacity", STILL_WITH, [
-    ('"links":[null,null]', TOO_MANY_FRAMES),
-    ('"links":[{"capacity":2,"labels":6},{"capacity":1,"labels":4}]', TOO_MANY_FRAMES),
-], status=3)
-ROWS += refused("refuses the first unlawful start in file order", SEVEN_WITH, UNLAWFUL, status=3)
-ROWS += refused("refuses the first step that names no link", SEVEN_WITH, NO_LINK, status=3)
-ROWS += [
-    Row("a wider second link has room for two frames", ["tree"],
-        STILL_WITH + '"links":[null,{"capacity":2,"labels":6}]}', out=STILL_TEXT),
-    Row("reads the worst starts", ["tree"], SEVEN_WITH + WORST_STARTS + "}", out=WORST_TEXT),
-]
-ROWS += [
-    Row(f"runs over mixed links: {links}, by {' '.join(words)}", words,
-        TWO_FRAMES_WITH + links + "}", out=REPORT)
-    for links in WIDER
-    for words in [["run", "--mixed"], ["run"]]
-]
+ROWS = [row(place, ["link"], text) for place, text in enumerate(TEXTS)]
+ROWS += [row(place, ["link", "--trace"], TEXTS[place]) for place in range(0, len(TEXTS), 8)]
+# (worked out by hand)
+ROWS += [Row("the worst start", ["link", "--trace"], PLAIN, out=WORST_TEXT + "origins: s0 i3\n")]

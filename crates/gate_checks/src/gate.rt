@@ -2,8 +2,7 @@
 
 ghost use Rattle.std.specs.Prelude.{⊤};
 
-use stab_free::Free;
-use stab_node::Gate;
+use stab_node::{Free, Gate};
 use stab_tree::Tree;
 use std::array;
 use std::sync::Wait;

@@ -4,7 +4,7 @@ use crate::again::{Calls, Made, Row, push_fault};
 use crate::jobs::WORST_START;
 use stab_core::{Event, Link, Origin, origins_text, push_link_text, push_origins_text, trace};
 use stab_frames::Item;
-use stab_script::{LinkJob, read_link_job};
+use stab_script::{LinkJob, read_link_job_by_value};
 use std::alloc::{AllocError, Global};
 
 /// Items, enough of them that both lists of a link grow three times.
@@ -68,7 +68,7 @@ pub enum LinkCall {
 
 /// The job of the worst start.
 fn job_of(alloc: Global) -> Result<LinkJob, AllocError> {
-    read_link_job(alloc, WORST_START.as_bytes())
+    read_link_job_by_value(alloc, WORST_START.as_bytes())
         .ok()
         .ok_or(AllocError)
 }

@@ -8,7 +8,8 @@ use crate::gate::{CountingGate, NODES};
 use crate::jobs::{CHAIN, WIDER_CHAIN};
 use crate::texts::Texts;
 use stab_frames::Item;
-use stab_run::{Job, Report, RunFault, read_job, run_locked, run_mixed, run_words};
+use stab_job::read_job_by_value;
+use stab_run::{Job, Report, RunFault, run_locked, run_mixed, run_words};
 use std::alloc::{AllocError, Global};
 use std::sync::Wait;
 use std::thread::Threads;
@@ -54,11 +55,13 @@ pub fn make_all<R: Threads + Wait + Clock + Send + Sync>(
 
 /// Reads a job, once more where memory was refused.
 fn new_job(alloc: Global, texts: &mut Texts, text: &str) -> Result<Job, AllocError> {
-    if let Ok(job) = read_job(alloc, text.as_bytes()) {
+    if let Ok(job) = read_job_by_value(alloc, text.as_bytes()) {
         return Ok(job);
     }
     texts.tell_refused("", "read_job")?;
-    read_job(alloc, text.as_bytes()).ok().ok_or(AllocError)
+    read_job_by_value(alloc, text.as_bytes())
+        .ok()
+        .ok_or(AllocError)
 }
 
 /// Runs a job, once more where it is refused, and tells what it answers. A call that starts threads

@@ -4,7 +4,7 @@ use crate::again::{Calls, Made, Row, push_answer, push_fault};
 use crate::jobs::STRAY_CHAIN;
 use crate::links::ITEMS;
 use stab_core::{LinkAct, push_link_text};
-use stab_job::{Job, read_job};
+use stab_job::{Job, read_job_by_value};
 use stab_tree::NodeId;
 use stab_treecore::{Openings, TreeEvent, TreeState};
 use std::alloc::{AllocError, Global};
@@ -70,7 +70,7 @@ pub enum ChainCall {
 
 /// The job of a chain.
 fn job_of(alloc: Global) -> Result<Job, AllocError> {
-    read_job(alloc, STRAY_CHAIN.as_bytes())
+    read_job_by_value(alloc, STRAY_CHAIN.as_bytes())
         .ok()
         .ok_or(AllocError)
 }

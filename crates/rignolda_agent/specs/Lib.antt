@@ -14,3 +14,5 @@ pub mod Publishers
 pub mod Runs
 pub mod Merging
 pub mod Waiting
+pub mod Parents
+pub mod Ways

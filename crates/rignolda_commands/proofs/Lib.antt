@@ -5,3 +5,4 @@ pub mod Told
 pub mod Drawn
 pub mod ReadAs
 pub mod Unread
+pub mod UnscheduledLogs

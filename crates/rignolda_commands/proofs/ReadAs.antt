@@ -8,11 +8,11 @@ use Rattle.stab_job.specs.Jobs.{job}
 use Rattle.stab_job.specs.JobValues.{JobValue, network}
 use Rattle.stab_job.specs.Replays.{IsReplayReason}
 use Rattle.stab_job.specs.declared.fault.JobFault.{JobFault}
-use Rattle.stab_job_stream.specs.Parts.{SameMembers, the_schedule}
-use Rattle.stab_job_stream.specs.Unscheduled.{IsUnscheduled, unscheduled}
+use Rattle.stab_job.specs.Parts.{SameMembers, the_schedule}
+use Rattle.stab_job.specs.Unscheduled.{IsUnscheduled, unscheduled}
 use Rattle.stab_json.specs.Checks.{◌>>=◌, ◌or◌, ◌refused_as◌}
 use Rattle.stab_json.specs.Values.{value_of}
-use Rattle.stab_stream.specs.Members.{HasNoOthers}
+use Rattle.stab_script.specs.Members.{HasNoOthers}
 use Rattle.stab_task.specs.Answers.{IsFault}
 use Rattle.stab_task.specs.declared.command.Task.TheVariants.{Link}
 use Rattle.stab_task.specs.declared.fault.CliFault.{CliFault}
@@ -21,7 +21,7 @@ use Rattle.stab_treecore.specs.Network.{IsNetwork}
 use Rattle.stab_treecore.specs.Refusals.{NamesLink}
 use Rattle.stab_treecore.specs.declared.fault.TreeStartFault.{TreeStartFault}
 use Rattle.rignolda_draw.specs.Schedules.{schedule_run_text}
-use Rattle.rignolda_draw_scenario.specs.ScenarioRuns.{scenario_run_text}
+use Rattle.rignolda_draw.specs.ScenarioRuns.{scenario_run_text}
 use Rattle.rignolda_explain.proofs.KnownKinds.{has_tree, job_is_a_tree, read_as_a_link, tree_is_other}
 use Rattle.rignolda_scenario.specs.Counts.{IsUnrun}
 use Rattle.rignolda_scenario.specs.Refusals.{job_refused}

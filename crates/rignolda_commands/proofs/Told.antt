@@ -1,6 +1,6 @@
 -- Why a scenario has no text.
 use Rattle.std.proofs.Common.{◌≡◌, ◌≢◌, ℕ, List, Option, Some, None, Ok, Err, IfSome, inl, inr, refl, sym, subst}
-use Rattle.stab_faults.specs.declared.fault.ChangeFault.TheVariants as change
+use Rattle.stab_treecore.specs.declared.change_fault.ChangeFault.TheVariants as change
 use Rattle.rignolda_scenario.specs.Counts.{IsUnrun}
 use Rattle.rignolda_scenario.specs.Scenarios.{scenario}
 use Rattle.rignolda_scenario.specs.declared.fault.ScenarioFault.{ScenarioFault}

@@ -5,9 +5,9 @@ use Rattle.serde_json.specs.Find.{get}
 use Rattle.stab_job.specs.JobValues.{JobValue, network}
 use Rattle.stab_job.specs.Jobs.{job}
 use Rattle.stab_job.specs.declared.fault.JobFault.TheVariants as tree
-use Rattle.stab_job_stream.specs.Parts.{SameMembers, the_schedule}
-use Rattle.stab_job_stream.proofs.ForCallers.{member_of}
-use Rattle.stab_job_stream.specs.Unscheduled.{unscheduled, IsUnscheduled}
+use Rattle.stab_job.specs.Parts.{SameMembers, the_schedule}
+use Rattle.stab_job.proofs.ForCallers.{member_of}
+use Rattle.stab_job.specs.Unscheduled.{unscheduled, IsUnscheduled}
 use Rattle.stab_json.specs.Values.{value_of}
 use Rattle.stab_report.specs.Texts.{IsNoText}
 use Rattle.stab_task.specs.Answers.{IsFault}
@@ -18,8 +18,8 @@ use Rattle.stab_treecore.specs.Network.{IsNetwork}
 use Rattle.stab_treecore.specs.Refusals.{IsScheduleReason}
 use Rattle.stab_treecore.specs.declared.event.TreeEvent.{TreeEvent}
 use Rattle.stab_treecore.specs.declared.fault.TreeStartFault.{TreeStartFault}
-use Rattle.rignolda_moment.specs.Backlogs.{backlogs}
-use Rattle.rignolda_moment.specs.declared.backlogs.BacklogFault.{BacklogFault}
+use Rattle.rignolda_since.specs.Backlogs.{backlogs}
+use Rattle.rignolda_since.specs.declared.backlogs.BacklogFault.{BacklogFault}
 use Rattle.rignolda_verdict.specs.BoundsTexts.{bounds_text}
 use Rattle.rignolda_commands.specs.Begun.{AreBounds, HasNoBounds, IsBegunUnscheduled}
 use Rattle.rignolda_commands.specs.declared.bounds.BoundsFault.TheVariants as bounds
@@ -46,6 +46,8 @@ no_bounds input its_job fault (whole, read, same) why = (
   why,
   λ is shaped. let refused : IsFault Tree input (task.Job tree.Shape) = subst (IsFault Tree input) is why in
       absurd (let never : job input ≡ Err tree.Shape = refused (λ memory. absurd (cc)) in cc),
+  λ is shaped. let refused : IsFault Tree input (task.Job tree.Version) = subst (IsFault Tree input) is why in
+      absurd (let never : job input ≡ Err tree.Version = refused (λ memory. absurd (cc)) in cc),
 )
 
 -- its bounds

@@ -10,9 +10,9 @@ use Rattle.stab_job.specs.JobValues.{JobValue}
 use Rattle.stab_job.specs.Jobs.{job, job_of_data}
 use Rattle.stab_job.specs.declared.fault.JobFault.{JobFault}
 use Rattle.stab_job.specs.declared.fault.JobFault.TheVariants as job_fault
-use Rattle.stab_job_stream.specs.Unscheduled.{IsUnscheduled}
-use Rattle.stab_job_stream.proofs.ForCallers.{job_by_value, unscheduled_by_value}
-use Rattle.stab_job_stream.specs.Parts.{SameMembers}
+use Rattle.stab_job.specs.Unscheduled.{IsUnscheduled}
+use Rattle.stab_job.proofs.ForCallers.{job_by_value, unscheduled_by_value}
+use Rattle.stab_job.specs.Parts.{SameMembers}
 use Rattle.stab_json.specs.Checks.{◌>>=◌, ◌or◌}
 use Rattle.stab_json.specs.Values.{value_of}
 use Rattle.stab_script.specs.LinkJobs.{link_job, link_job_of_data}

@@ -3,22 +3,26 @@
 -- Example: The bytes of a job whose first start has two frames under the capacity 1 are a job that
 -- cannot begin, and the fault is the one of `stab tree`. A link job of capacity 1 whose start has
 -- two frames cannot begin either, and the fault is the one of `stab link`. The bytes of the worst
--- start have the shape of a link job, so they have no bounds for being that. Source: this project's
--- own.
-use Rattle.std.specs.Prelude.{◌≡◌, ◌≢◌, ℕ, List, Ok, Err}
+-- start are a link job by their looks, so they have no bounds for being that, and so are these with
+-- a member `version` that no job of a tree may have; but not with a member `tree`.
+-- Source: this project's own.
+use Rattle.std.specs.Prelude.{◌≡◌, ◌≢◌, ◌⊎◌, ℕ, List, None, Ok, Err}
 use Rattle.stab_core.specs.Replay.{IsLawful}
 use Rattle.stab_job.specs.JobValues.{JobValue, network}
 use Rattle.stab_job.specs.Jobs.{job}
 use Rattle.stab_job.specs.declared.fault.JobFault.TheVariants as tree
-use Rattle.stab_job_stream.specs.Unscheduled.{unscheduled}
+use Rattle.stab_job.specs.Unscheduled.{unscheduled}
 use Rattle.stab_script.specs.declared.link_job.LinkJob.{LinkJob}
 use Rattle.stab_script.specs.declared.link_job.LinkJobFault.TheVariants as link
+use Rattle.stab_json.specs.Values.{value_of}
 use Rattle.stab_script.specs.LinkJobs.{link_job}
 use Rattle.stab_task.specs.Answers.{IsFault}
 use Rattle.stab_task.specs.declared.command.Task.TheVariants.{Tree}
 use Rattle.stab_task.specs.declared.fault.CliFault.{CliFault}
 use Rattle.stab_treecore.specs.Network.{IsNetwork}
 use Rattle.stab_task.specs.declared.fault.CliFault.TheVariants as task
+use Rattle.rignolda_explain.specs.Kinds.{chosen}
+use Rattle.rignolda_findings.specs.declared.refusal.Kind.TheVariants.{LinkJob as OfLink}
 use Rattle.rignolda_verdict.specs.BoundsTexts.{bounds_text}
 use Rattle.rignolda_commands.specs.declared.bounds.BoundsFault.{BoundsFault}
 use Rattle.rignolda_commands.specs.declared.bounds.BoundsFault.TheVariants as bounds
@@ -48,12 +52,18 @@ IsUnbegun input fault = IsFault Tree input fault
 abbrev pub HasLinkShape : List ℕ → Type 0
 HasLinkShape input = (link_job input ≢ Err link.Json) × (link_job input ≢ Err link.Shape)
 
+-- these bytes are taken for a link job, as by the other commands, and have the shape of one
+abbrev pub IsForLinks : List ℕ → Type 0
+IsForLinks input = (chosen None (value_of input) ≡ OfLink) × HasLinkShape input
+
 -- why these bytes have no bounds: what keeps a job from its answer by `stab tree`, but where they
--- have the shape of a link job in the place of that of a job of a tree
+-- are a link job, which has neither the shape nor the version of a job of a tree
 abbrev pub HasNoBounds : List ℕ → BoundsFault → Type 0
 HasNoBounds input (bounds.Job fault) =
-    IsUnbegun input fault × (fault ≡ task.Job tree.Shape → ¬ HasLinkShape input)
-HasNoBounds input bounds.LinkJob = (job input ≡ Err tree.Shape) × HasLinkShape input
+    IsUnbegun input fault × (fault ≡ task.Job tree.Shape → ¬ IsForLinks input)
+    × (fault ≡ task.Job tree.Version → ¬ IsForLinks input)
+HasNoBounds input bounds.LinkJob =
+    ((job input ≡ Err tree.Shape) ⊎ (job input ≡ Err tree.Version)) × IsForLinks input
 
 -- the text is that of the bounds of the nodes of the job that these bytes are
 pub record AreBounds (input text : List ℕ) : Type 0 where

@@ -21,9 +21,9 @@ use Rattle.rignolda_findings.specs.declared.refusal.Kind.TheVariants as kind
 use Rattle.stab_job.specs.JobValues.{JobValue, network}
 use Rattle.stab_json.specs.Values.{value_of}
 use Rattle.stab_judge.specs.Obeys.{Obeys}
-use Rattle.rignolda_moment.specs.Backlogs.{backlogs}
-use Rattle.rignolda_moment.specs.ObeysSince.{ObeysSince}
-use Rattle.rignolda_moment.specs.VerdictTexts.{SaysSince}
+use Rattle.rignolda_since.specs.Backlogs.{backlogs}
+use Rattle.rignolda_since.specs.ObeysSince.{ObeysSince}
+use Rattle.rignolda_since.specs.VerdictTexts.{SaysSince}
 use Rattle.stab_judge.specs.Reports.{OnePerNode, ReportValue}
 use Rattle.stab_report.specs.Texts.{IsNoText, IsTextOf}
 use Rattle.stab_script.specs.declared.link_job.LinkJob.{LinkJob}

@@ -14,12 +14,13 @@ use Rattle.serde_json.specs.Find.{get}
 use Rattle.stab_core.specs.Replay.{IsLawful}
 use Rattle.rignolda_draw.specs.Runs.{run_text}
 use Rattle.rignolda_draw.specs.Schedules.{schedule_run_text}
-use Rattle.rignolda_draw_scenario.specs.ScenarioRuns.{scenario_run_text}
+use Rattle.rignolda_draw.specs.ScenarioRuns.{scenario_run_text}
 use Rattle.rignolda_explain.specs.Kinds.{chosen}
 use Rattle.rignolda_findings.specs.declared.refusal.Kind.{Kind}
 use Rattle.rignolda_findings.specs.declared.refusal.Kind.TheVariants as kind
 use Rattle.stab_job.specs.JobValues.{JobValue, network}
 use Rattle.stab_job.specs.Jobs.{job as whole_job}
+use Rattle.stab_job.specs.Replays.{IsReplayed as IsReplayedJob}
 use Rattle.stab_json.specs.Values.{value_of}
 use Rattle.rignolda_scenario.specs.Scenarios.{scenario}
 use Rattle.rignolda_scenario.specs.declared.read.Scenario.{Scenario}
@@ -108,3 +109,9 @@ abbrev pub drawn_text : Drawing → List ℕ
 drawn_text (drawing.Link its_job) = run_text its_job
 drawn_text (drawing.Schedule its_job) = schedule_run_text (network its_job) its_job.schedule
 drawn_text (drawing.Whole text) = string_bytes text
+
+-- the run of a link job begins from a lawful start, and that of a schedule is replayed to its end
+abbrev pub IsReplayed : Drawing → Type 0
+IsReplayed (drawing.Link its_job) = IsLawful its_job.params its_job.start
+IsReplayed (drawing.Schedule its_job) = IsReplayedJob its_job
+IsReplayed (drawing.Whole text) = Unit {0}

@@ -4,3 +4,4 @@ pub mod Drawn
 pub mod Explained
 pub mod Statuses
 pub mod Told
+pub mod Judged

@@ -4,8 +4,8 @@
 -- line, so they have status 2.
 -- Source: this project's own.
 use Rattle.std.specs.Prelude.{ℕ}
-use Rattle.rignolda_random.specs.declared.checked.RandomFault.{RandomFault}
-use Rattle.rignolda_random.specs.declared.checked.RandomFault.TheVariants as random
+use Rattle.rignolda_make.specs.declared.checked.RandomFault.{RandomFault}
+use Rattle.rignolda_make.specs.declared.checked.RandomFault.TheVariants as random
 use Rattle.stab_task.specs.Statuses.{status_of}
 use Rattle.rignolda_commands.specs.declared.bounds.BoundsFault.{BoundsFault}
 use Rattle.rignolda_commands.specs.declared.bounds.BoundsFault.TheVariants as bounds

@@ -4,7 +4,7 @@
 -- capacity 1 cannot begin, so the status is 3, as that of `stab tree` is.
 -- Source: this project's own.
 use Rattle.std.specs.Prelude.{◌≡◌, ◌≢◌, ◌⊎◌, ℕ, ◌<◌, List, length, Ok, Err}
-use Rattle.stab_faults.specs.declared.fault.ChangeFault.TheVariants as change
+use Rattle.stab_treecore.specs.declared.change_fault.ChangeFault.TheVariants as change
 use Rattle.stab_job.specs.Jobs.{job}
 use Rattle.stab_job.specs.declared.fault.JobFault.TheVariants.{Memory as no_memory}
 use Rattle.rignolda_scenario.specs.Counts.{IsUnrun}

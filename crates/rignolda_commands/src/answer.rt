@@ -3,10 +3,10 @@ ghost use Rattle.std.specs.Prelude.{IfErr, IfOk, IfSome, OnOk};
 ghost use Rattle.std.specs.Io.KnownBytes.{Appends, Keeps};
 ghost use Rattle.rignolda_commands.specs.Explained.{IsReadIfClean};
 ghost use Rattle.stab_task.specs.Loading.{IsUnloaded};
-ghost use Rattle.rignolda_write.specs.WorstTexts.{IsWorstText};
+ghost use Rattle.rignolda_make.specs.WorstTexts.{IsWorstText};
 
 use rignolda_explain::{explain, explanation_text};
-use rignolda_write::worst_text;
+use rignolda_make::worst_text;
 use stab_frames::Params;
 use stab_task::{CliFault, load, write_text};
 use std::alloc::{AllocError, Global};

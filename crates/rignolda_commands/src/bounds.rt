@@ -1,20 +1,20 @@
 //! The command `bounds`: what the laws allow each node of a job, and what faults cost it.
 
-ghost use Rattle.std.specs.Prelude.{◌≡◌, ◌≢◌, ℕ, List, string_bytes, Err, IfErr, IfOk, IfSome};
+ghost use Rattle.std.specs.Prelude.{◌≡◌, ◌≢◌, ◌⊎◌, ℕ, List, string_bytes, Err, IfErr, IfOk, IfSome};
 ghost use Rattle.std.specs.Prelude.{OnOk, option_map};
 ghost use Rattle.std.specs.Io.KnownBytes.{Appends, Keeps};
 ghost use Rattle.rignolda_commands.specs.Begun.{AreBounds, HasNoBounds};
 ghost use Rattle.serde_json.specs.View.{view};
 ghost use Rattle.stab_job.specs.Jobs.{job};
-ghost use Rattle.stab_job_stream.specs.Unscheduled.{IsUnscheduled};
+ghost use Rattle.stab_job.specs.Unscheduled.{IsUnscheduled};
 ghost use Rattle.stab_json.specs.Values.{value_of};
 
 use crate::job::{begin_job, link_job_of, unscheduled_job_of};
-use rignolda_findings::seems_a_link_job;
+use rignolda_explain::kind_of;
+use rignolda_findings::{Kind, seems_a_link_job};
 use rignolda_verdict::bounds_text;
 use serde_json::Value;
-use stab_job::{Job, JobFault};
-use stab_job_stream::read_plain_job;
+use stab_job::{Job, JobFault, read_plain_job};
 use stab_json::read_value;
 use stab_script::LinkJobFault;
 use stab_task::{CliFault, load, write_text};
@@ -144,7 +144,8 @@ fn bounds_of_value(alloc: Global, value: Option<Value>, bytes: &[u8]) -> Result<
 {
     match unscheduled_job_of(alloc, value.as_ref(), bytes) {
         Ok(job) => bounds_of_job(alloc, &job, bytes),
-        Err(JobFault::Shape) => Err(unshaped(alloc, value, bytes)),
+        Err(JobFault::Shape) => Err(refused(alloc, JobFault::Shape, value, bytes)),
+        Err(JobFault::Version) => Err(refused(alloc, JobFault::Version, value, bytes)),
         Err(fault) => Err(BoundsFault::Job(CliFault::Job(fault))),
     }
 }
@@ -162,18 +163,21 @@ fn bounds_of_job(alloc: Global, its_job: &Job, bytes: &[u8]) -> Result<String, B
     Ok(text)
 }
 
-/// The fault of bytes that have not the shape of a job of a tree, and have this value: they may have
-/// the shape of a link job.
-fn unshaped(alloc: Global, value: Option<Value>, bytes: &[u8]) -> BoundsFault
-    requires { option_map view value ≡ value_of bytes.now }
-    ensures fault { job bytes.now ≡ Err JobFault.Shape → HasNoBounds bytes.now result }
+/// The fault of bytes that have not the shape or the version of a job of a tree, and have this
+/// value: they may be a link job.
+fn refused(alloc: Global, fault: JobFault, value: Option<Value>, bytes: &[u8]) -> BoundsFault
+    requires value { option_map view value ≡ value_of bytes.now }
+    requires fault { (fault ≡ JobFault.Shape) ⊎ (fault ≡ JobFault.Version) }
+    ensures fault { job bytes.now ≡ Err fault → HasNoBounds bytes.now result }
     ensures no_write { result ≢ BoundsFault.Job CliFault.Write }
 {
-    match link_job_of(alloc, value, bytes) {
-        Err(LinkJobFault::Memory) => BoundsFault::Job(CliFault::Memory),
-        Err(LinkJobFault::Json | LinkJobFault::Shape) => {
-            BoundsFault::Job(CliFault::Job(JobFault::Shape))
-        }
-        _ => BoundsFault::LinkJob,
+    let refusal = BoundsFault::Job(CliFault::Job(fault));
+    match kind_of(value.as_ref()) {
+        Kind::Job => refusal,
+        Kind::LinkJob => match link_job_of(alloc, value, bytes) {
+            Err(LinkJobFault::Memory) => BoundsFault::Job(CliFault::Memory),
+            Err(LinkJobFault::Json | LinkJobFault::Shape) => refusal,
+            _ => BoundsFault::LinkJob,
+        },
     }
 }

@@ -5,17 +5,17 @@ ghost use Rattle.serde_json.specs.Data.{Data};
 ghost use Rattle.serde_json.specs.View.{view};
 ghost use Rattle.rignolda_commands.specs.Drawn.{IsDrawn, IsDrawnAs, IsDrawnBy, IsDrawnLink};
 ghost use Rattle.rignolda_commands.specs.Drawn.{IsDrawnScenario, IsDrawnTree, IsUndrawn, IsUndrawnBy};
-ghost use Rattle.rignolda_commands.specs.Drawn.{drawn_text, has_steps, task_of};
+ghost use Rattle.rignolda_commands.specs.Drawn.{IsReplayed, drawn_text, has_steps, task_of};
 ghost use Rattle.rignolda_commands.specs.Told.{IsUntold};
 ghost use Rattle.rignolda_draw.specs.Written.{Begun};
 ghost use Rattle.rignolda_explain.specs.Kinds.{chosen};
 ghost use Rattle.stab_job.specs.Jobs.{job};
-ghost use Rattle.stab_job_stream.specs.Parts.{SameMembers};
-ghost use Rattle.stab_job_stream.specs.Unscheduled.{IsUnscheduled};
+ghost use Rattle.stab_job.specs.Parts.{SameMembers};
+ghost use Rattle.stab_job.specs.Unscheduled.{IsUnscheduled};
 ghost use Rattle.stab_json.specs.Values.{value_of};
 ghost use Rattle.rignolda_scenario.specs.Scenarios.{scenario};
 ghost use Rattle.stab_script.specs.LinkJobs.{link_job};
-ghost use Rattle.stab_stream.specs.Members.{HasNoOthers};
+ghost use Rattle.stab_script.specs.Members.{HasNoOthers};
 ghost use Rattle.stab_task.specs.Answers.{IsFault};
 ghost use Rattle.stab_task.specs.declared.command.Task.TheVariants.{Link, Tree};
 
@@ -27,11 +27,9 @@ use rignolda_explain::kind_of;
 use rignolda_findings::{Kind, seems_a_link_job, seems_to_have_steps};
 use rignolda_scenario::Scenario;
 use serde_json::Value;
-use stab_job::Job;
-use stab_job_stream::read_plain_job;
+use stab_job::{Job, read_plain_job};
 use stab_json::read_value;
-use stab_script::LinkJob;
-use stab_stream::read_plain_link_job;
+use stab_script::{LinkJob, read_plain_link_job};
 use stab_task::{CliFault, load};
 use std::alloc::Global;
 use std::io::{Read, Write};
@@ -78,6 +76,7 @@ fn draw_input<R: Read>(
 ) -> Result<Drawing, StepsFault>
     ensures drawn { IfOk result (λ drawing. IfSome (R.remaining reader.old)
         (λ input. IsDrawn is_picture input (drawn_text drawing))) }
+    ensures replayed { IfOk result IsReplayed }
     ensures fault { IfErr result (λ fault.
         IfSome (R.remaining reader.old) (λ input. IsUndrawn input fault)) }
     ensures no_write { IfErr result (λ fault. fault ≢ StepsFault.Job CliFault.Write) }
@@ -92,6 +91,7 @@ fn draw_input<R: Read>(
 fn draw_bytes(alloc: Global, is_picture: bool, bytes: &[u8]) -> Result<Drawing, StepsFault>
     ensures drawn { IfOk result (λ drawing.
         IsDrawn is_picture bytes.now (drawn_text drawing)) }
+    ensures replayed { IfOk result IsReplayed }
     ensures fault { IfErr result (IsUndrawn bytes.now) }
     ensures no_write { IfErr result (λ fault. fault ≢ StepsFault.Job CliFault.Write) }
 {
@@ -109,6 +109,7 @@ fn draw_bytes(alloc: Global, is_picture: bool, bytes: &[u8]) -> Result<Drawing, 
 fn draw_link_first(alloc: Global, is_picture: bool, bytes: &[u8]) -> Result<Drawing, StepsFault>
     ensures drawn { IfOk result (λ drawing.
         IsDrawn is_picture bytes.now (drawn_text drawing)) }
+    ensures replayed { IfOk result IsReplayed }
     ensures fault { IfErr result (IsUndrawn bytes.now) }
     ensures no_write { IfErr result (λ fault. fault ≢ StepsFault.Job CliFault.Write) }
 {
@@ -130,6 +131,7 @@ fn draw_plain_link(
     requires others { IfSome (value_of bytes.now) HasNoOthers }
     ensures drawn { IfOk result (λ drawing.
         IsDrawn is_picture bytes.now (drawn_text drawing)) }
+    ensures replayed { IfOk result IsReplayed }
     ensures fault { IfErr result (IsUndrawn bytes.now) }
     ensures no_write { IfErr result (λ fault. fault ≢ StepsFault.Job CliFault.Write) }
 {
@@ -142,6 +144,7 @@ fn draw_plain_link(
 fn draw_steps_first(alloc: Global, is_picture: bool, bytes: &[u8]) -> Result<Drawing, StepsFault>
     ensures drawn { IfOk result (λ drawing.
         IsDrawn is_picture bytes.now (drawn_text drawing)) }
+    ensures replayed { IfOk result IsReplayed }
     ensures fault { IfErr result (IsUndrawn bytes.now) }
     ensures no_write { IfErr result (λ fault. fault ≢ StepsFault.Job CliFault.Write) }
 {
@@ -165,6 +168,7 @@ fn draw_plain_steps(
     requires members { (d : Data) × (value_of bytes.now ≡ Some d) × SameMembers d (view members.now) }
     ensures drawn { IfOk result (λ drawing.
         IsDrawn is_picture bytes.now (drawn_text drawing)) }
+    ensures replayed { IfOk result IsReplayed }
     ensures fault { IfErr result (IsUndrawn bytes.now) }
     ensures no_write { IfErr result (λ fault. fault ≢ StepsFault.Job CliFault.Write) }
 {
@@ -186,6 +190,7 @@ fn draw_steps(
     requires { scenario bytes.now ≡ Ok its_scenario.now }
     ensures drawn { IfOk result (λ drawing.
         IsDrawn is_picture bytes.now (drawn_text drawing)) }
+    ensures replayed { IfOk result IsReplayed }
     ensures fault { IfErr result (IsUndrawn bytes.now) }
     ensures no_write { IfErr result (λ fault. fault ≢ StepsFault.Job CliFault.Write) }
 {
@@ -198,6 +203,7 @@ fn draw_steps(
 fn draw_schedule_first(alloc: Global, is_picture: bool, bytes: &[u8]) -> Result<Drawing, StepsFault>
     ensures drawn { IfOk result (λ drawing.
         IsDrawn is_picture bytes.now (drawn_text drawing)) }
+    ensures replayed { IfOk result IsReplayed }
     ensures fault { IfErr result (IsUndrawn bytes.now) }
     ensures no_write { IfErr result (λ fault. fault ≢ StepsFault.Job CliFault.Write) }
 {
@@ -221,6 +227,7 @@ fn draw_job(
     requires members { (d : Data) × (value_of bytes.now ≡ Some d) × SameMembers d (view members.now) }
     ensures drawn { IfOk result (λ drawing.
         IsDrawn is_picture bytes.now (drawn_text drawing)) }
+    ensures replayed { IfOk result IsReplayed }
     ensures fault { IfErr result (IsUndrawn bytes.now) }
     ensures no_write { IfErr result (λ fault. fault ≢ StepsFault.Job CliFault.Write) }
 {
@@ -244,6 +251,7 @@ fn draw_schedule(
     requires steps { has_steps (value_of bytes.now) ≡ false }
     ensures drawn { IfOk result (λ drawing.
         IsDrawn is_picture bytes.now (drawn_text drawing)) }
+    ensures replayed { IfOk result IsReplayed }
     ensures fault { IfErr result (λ fault. IsUndrawn bytes.now (StepsFault.Job fault)) }
     ensures no_write { IfErr result (λ fault. fault ≢ CliFault.Write) }
 {
@@ -256,6 +264,7 @@ fn draw_schedule(
 fn draw_by_value(alloc: Global, is_picture: bool, bytes: &[u8]) -> Result<Drawing, StepsFault>
     ensures drawn { IfOk result (λ drawing.
         IsDrawn is_picture bytes.now (drawn_text drawing)) }
+    ensures replayed { IfOk result IsReplayed }
     ensures fault { IfErr result (IsUndrawn bytes.now) }
     ensures no_write { IfErr result (λ fault. fault ≢ StepsFault.Job CliFault.Write) }
 {
@@ -279,6 +288,7 @@ fn draw_by(
     requires value { option_map view value ≡ value_of bytes.now }
     ensures drawn { IfOk result (λ drawing.
         IsDrawnBy is_scenario is_picture bytes.now (drawn_text drawing)) }
+    ensures replayed { IfOk result IsReplayed }
     ensures fault { IfErr result (IsUndrawnBy is_scenario bytes.now) }
     ensures no_write { IfErr result (λ fault. fault ≢ StepsFault.Job CliFault.Write) }
 {
@@ -301,6 +311,7 @@ fn draw_scenario(
     requires { option_map view value ≡ value_of bytes.now }
     ensures drawn { IfOk result (λ drawing.
         IsDrawnScenario is_picture bytes.now (drawn_text drawing)) }
+    ensures replayed { IfOk result IsReplayed }
     ensures fault { IfErr result (λ fault. IsUntold bytes.now fault) }
     ensures no_write { IfErr result (λ fault. fault ≢ StepsFault.Job CliFault.Write) }
 {
@@ -320,6 +331,7 @@ fn draw_kind(
     requires { option_map view value ≡ value_of bytes.now }
     ensures drawn { IfOk result (λ drawing.
         IsDrawnAs kind is_picture bytes.now (drawn_text drawing)) }
+    ensures replayed { IfOk result IsReplayed }
     ensures fault { IfErr result (IsFault (task_of kind) bytes.now) }
     ensures no_write { IfErr result (λ fault. fault ≢ CliFault.Write) }
 {
@@ -339,6 +351,7 @@ fn draw_link(
     requires { option_map view value ≡ value_of bytes.now }
     ensures drawn { IfOk result (λ drawing.
         IsDrawnLink is_picture bytes.now (drawn_text drawing)) }
+    ensures replayed { IfOk result IsReplayed }
     ensures fault { IfErr result (IsFault (Link false) bytes.now) }
     ensures no_write { IfErr result (λ fault. fault ≢ CliFault.Write) }
 {
@@ -356,6 +369,7 @@ fn draw_link_job(
     requires { link_job bytes.now ≡ Ok job }
     ensures drawn { IfOk result (λ drawing.
         IsDrawnLink is_picture bytes.now (drawn_text drawing)) }
+    ensures replayed { IfOk result IsReplayed }
     ensures fault { IfErr result (IsFault (Link false) bytes.now) }
     ensures no_write { IfErr result (λ fault. fault ≢ CliFault.Write) }
 {
@@ -373,6 +387,7 @@ fn draw_tree(
     requires { option_map view value ≡ value_of bytes.now }
     ensures drawn { IfOk result (λ drawing.
         IsDrawnTree is_picture bytes.now (drawn_text drawing)) }
+    ensures replayed { IfOk result IsReplayed }
     ensures fault { IfErr result (IsFault Tree bytes.now) }
     ensures no_write { IfErr result (λ fault. fault ≢ CliFault.Write) }
 {

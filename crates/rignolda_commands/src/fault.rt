@@ -6,7 +6,7 @@ ghost use Rattle.stab_job.specs.JobValues.{JobValue};
 ghost use Rattle.stab_report.specs.Texts.{IsNoText};
 ghost use Rattle.stab_script.specs.declared.link_job.LinkJob.{LinkJob};
 
-use rignolda_moment::BacklogFault;
+use rignolda_since::BacklogFault;
 use stab_job::JobFault;
 use stab_report::ReportFault;
 use stab_script::LinkJobFault;

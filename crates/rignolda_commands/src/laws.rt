@@ -9,7 +9,7 @@ ghost use Rattle.stab_judge.specs.Obeys.{Obeys};
 ghost use Rattle.stab_judge.specs.Reports.{OnePerNode};
 ghost use Rattle.stab_run.specs.Reports.{Reported, as_report};
 ghost use Rattle.stab_run.specs.Runs.{IsReport};
-ghost use Rattle.stab_links.specs.declared.links.Links.{Links};
+ghost use Rattle.stab_run.specs.declared.links.Links.{Links};
 ghost use Rattle.stab_script.specs.declared.link_job.LinkJob.{LinkJob};
 ghost use Rattle.rignolda_verdict.specs.LinkVerdicts.{ObeysLink};
 

@@ -3,7 +3,8 @@
 //! The layer above uses one fact: what is written is the answer of the command, by the definitions
 //! of the layers below, or a fault says why there is none. And whatever holds of the report of a
 //! run, or of the link that `stab link` prints, is enough for a judge, so that none is refused for
-//! what it says ([`laws`]).
+//! what it says ([`laws`]). [`act_judge`] answers true exactly where the logs of the job that it
+//! reads obey the laws under some start, and writes that they do, or what is broken first.
 #![tactic(auto)]
 
 mod answer;
@@ -12,6 +13,8 @@ mod check;
 mod draw;
 mod fault;
 mod job;
+mod judge;
+mod judge_fault;
 mod kind;
 pub mod laws;
 mod random;
@@ -24,5 +27,7 @@ pub use bounds::{BoundsFault, act_bounds};
 pub use check::act_check;
 pub use draw::act_draw;
 pub use fault::CheckFault;
+pub use judge::act_judge;
+pub use judge_fault::JudgeFault;
 pub use random::{RandomWriteFault, act_random};
 pub use scenario::{StepsFault, act_scenario};

@@ -3,10 +3,10 @@
 ghost use Rattle.std.specs.Prelude.{◌≡◌, ◌≢◌, ℕ, List, Some, Err};
 ghost use Rattle.std.specs.Prelude.{IfErr, OnOk};
 ghost use Rattle.std.specs.Io.KnownBytes.{Appends, Keeps};
-ghost use Rattle.rignolda_random.specs.Options.{options_fault};
-ghost use Rattle.rignolda_random.specs.RandomJobs.{IsRandomText};
+ghost use Rattle.rignolda_make.specs.Options.{options_fault};
+ghost use Rattle.rignolda_make.specs.RandomJobs.{IsRandomText};
 
-use rignolda_random::{DrawOptions, OptionsFault, RandomFault, random_text};
+use rignolda_make::{DrawOptions, OptionsFault, RandomFault, random_text};
 use stab_task::write_text;
 use std::alloc::Global;
 use std::io::Write;

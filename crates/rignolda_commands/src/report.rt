@@ -9,10 +9,10 @@ ghost use Rattle.rignolda_commands.specs.Begun.{IsBegunLink, IsBegunUnscheduled}
 ghost use Rattle.rignolda_commands.specs.Checked.{IsJudged, IsJudgedBy, IsJudgedLink};
 ghost use Rattle.rignolda_commands.specs.Checked.{IsJudgedSince, IsUncheckedLink, IsUncheckedTree};
 ghost use Rattle.rignolda_commands.specs.Checked.{given_backlogs};
-ghost use Rattle.rignolda_moment.specs.Backlogs.{backlogs};
+ghost use Rattle.rignolda_since.specs.Backlogs.{backlogs};
 
 use crate::fault::{CheckFault, unread, unread_link};
-use rignolda_moment::{BacklogFault, read_backlogs, verdict_since};
+use rignolda_since::{BacklogFault, read_backlogs, verdict_since};
 use rignolda_verdict::{link_verdict, read_link_report, verdict};
 use serde_json::Value;
 use stab_frames::{Item, Sequence};

@@ -4,19 +4,18 @@ ghost use Rattle.std.specs.Prelude.{◌≡◌, ◌≢◌, false, string_bytes, A
 ghost use Rattle.std.specs.Io.KnownBytes.{Appends};
 ghost use Rattle.stab_core.specs.Link.{IsReason};
 ghost use Rattle.stab_core.specs.Replay.{IsLawful};
-ghost use Rattle.rignolda_commands.specs.Drawn.{drawn_text};
+ghost use Rattle.rignolda_commands.specs.Drawn.{IsReplayed, drawn_text};
 ghost use Rattle.rignolda_draw.specs.Runs.{run_text};
 ghost use Rattle.rignolda_draw.specs.Schedules.{schedule_run_text};
 ghost use Rattle.rignolda_draw.specs.Written.{Begun, Written};
-ghost use Rattle.rignolda_draw_scenario.specs.ScenarioRuns.{scenario_run_text};
+ghost use Rattle.rignolda_draw.specs.ScenarioRuns.{scenario_run_text};
 ghost use Rattle.stab_job.specs.JobValues.{network};
 ghost use Rattle.stab_job.specs.Replays.{IsReplayReason};
 ghost use Rattle.rignolda_scenario.specs.Counts.{IsUnrun};
 ghost use Rattle.stab_treecore.specs.Network.{IsNetwork};
 ghost use Rattle.stab_treecore.specs.Refusals.{NamesLink};
 
-use rignolda_draw::{OutputFault, write_run, write_schedule_run};
-use rignolda_draw_scenario::scenario_run_text;
+use rignolda_draw::{OutputFault, scenario_run_text, write_run, write_schedule_run};
 use rignolda_picture::{link_picture, scenario_picture, schedule_picture};
 use rignolda_scenario::{Scenario, ScenarioFault};
 use stab_core::{StartFault, run_link};
@@ -46,6 +45,7 @@ pub(crate) fn scenario_run(
 ) -> Result<Drawing, ScenarioFault>
     ensures text { IfOk result (λ drawing.
         is_picture ≡ false → drawn_text drawing ≡ scenario_run_text scenario.now) }
+    ensures replayed { IfOk result IsReplayed }
     ensures refused { IfErr result (IsUnrun scenario.now.job scenario.now.steps) }
 {
     if is_picture {
@@ -61,6 +61,7 @@ pub(crate) fn scenario_run(
 pub(crate) fn link_run(alloc: Global, is_picture: bool, job: LinkJob) -> Result<Drawing, StartFault>
     ensures text { IfOk result (λ drawing.
         is_picture ≡ false → drawn_text drawing ≡ run_text job) }
+    ensures replayed { IfOk result IsReplayed }
     ensures lawful { OnOk result (IsLawful job.params job.start) }
     ensures refused { IfErr result (IsReason job.params job.start) }
 {
@@ -77,6 +78,7 @@ pub(crate) fn link_run(alloc: Global, is_picture: bool, job: LinkJob) -> Result<
 pub(crate) fn tree_run(alloc: Global, is_picture: bool, job: Job) -> Result<Drawing, TreeStartFault>
     ensures text { IfOk result (λ drawing. is_picture ≡ false
         → drawn_text drawing ≡ schedule_run_text (network job) job.schedule) }
+    ensures replayed { IfOk result IsReplayed }
     ensures network { OnOk result (IsNetwork (network job)) }
     ensures named { OnOk result (All (NamesLink job.tree.parents) job.schedule) }
     ensures refused { IfErr result (IsReplayReason job) }
@@ -97,6 +99,7 @@ pub(crate) fn write_drawing<W: Write>(
     writer: &mut W,
     drawing: Drawing,
 ) -> Result<(), CliFault>
+    requires replayed { IsReplayed drawing }
     ensures written { OnOk result
         (Appends (W.contents writer.old) (W.contents writer.new) (drawn_text drawing)) }
     ensures fault { IfErr result (λ fault. fault ≢ CliFault.Write → fault ≡ CliFault.Memory) }
@@ -117,6 +120,7 @@ fn write_first<W: Write>(
     writer: &mut W,
     drawing: Drawing,
 ) -> Result<String, OutputFault>
+    requires replayed { IsReplayed drawing }
     ensures written { IfOk result (λ last. Written (W.contents writer.old)
         (W.contents writer.new) (string_bytes last) (drawn_text drawing)) }
     ensures begun { IfErr result (λ fault. fault ≢ OutputFault.Write

@@ -7,8 +7,8 @@ ghost use Rattle.rignolda_scenario.specs.Counts.{IsUnrun};
 ghost use Rattle.rignolda_scenario.specs.Scenarios.{scenario};
 
 use rignolda_scenario::{ScenarioFault, read_scenario, scenario_text};
-use stab_faults::ChangeFault;
 use stab_task::{CliFault, load, write_text};
+use stab_treecore::ChangeFault;
 use std::alloc::{AllocError, Global};
 use std::io::{Read, Write};
 use thiserror::Error;

@@ -1,3 +1,4 @@
 pub mod Joined
 pub mod Going
 pub mod ForCallers
+mod Played

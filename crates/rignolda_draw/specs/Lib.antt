@@ -3,3 +3,5 @@ pub mod Runs
 pub mod Schedules
 pub mod Rows
 pub mod Written
+pub mod ScenarioRuns
+pub mod ScenarioRows

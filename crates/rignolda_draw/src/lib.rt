@@ -1,15 +1,21 @@
-//! Runs drawn: the text of a link job's run or of a schedule's, a line for each event with its link
-//! after it; and the rows of a run, of which a picture is drawn.
-//!
-//! A scenario is drawn with the same pieces, one line or row at a time: the functions `push_..`.
+//! Runs drawn: the text of the run of a link job, of a schedule or of a scenario, a line for each
+//! event with its link after it; and the rows of a run, of which a picture is drawn.
 //!
 //! Contracts see a text as its bytes. The layer above uses one fact: the line or the row of an
 //! event shows the step of that event from the state that the line or row before it shows.
+//!
+//! A scenario has a line for each act, each round and each fault. Each line begins with the number
+//! of its step, which is the number that `since` names where a scenario is counted, and shows what
+//! that step makes of the tree that the line before it left ([`scenario_run_text`]).
 #![tactic(auto)]
 
+mod act_rows;
 mod cells;
+mod faults;
+mod lines;
 mod next;
 mod output;
+mod rounds;
 mod row;
 mod rows;
 mod run;
@@ -17,9 +23,10 @@ mod schedule;
 mod stopped;
 mod words;
 
-pub use cells::{push_name_cell, push_number_cell, push_state_cells};
-pub use output::{OutputFault, write_block};
+pub use act_rows::scenario_rows;
+pub use lines::scenario_run_text;
+pub use output::OutputFault;
 pub use row::Row;
-pub use rows::{link_rows, push_step_row, schedule_rows};
-pub use run::{push_start_line, write_run};
-pub use schedule::{push_step_line, write_schedule_run};
+pub use rows::{link_rows, schedule_rows};
+pub use run::write_run;
+pub use schedule::write_schedule_run;

@@ -1,7 +1,7 @@
 ghost use Rattle.std.specs.Prelude.{◌≡◌, ◌≢◌, ◌++◌, string_bytes, IfErr, IfOk, OnOk};
 ghost use Rattle.std.specs.Io.KnownBytes.{Keeps};
 ghost use Rattle.stab_core.specs.Link.{link_at};
-ghost use Rattle.stab_core.specs.Replay.{initial};
+ghost use Rattle.stab_core.specs.Replay.{IsLawful, initial};
 ghost use Rattle.stab_core.specs.Step.{step};
 ghost use Rattle.rignolda_draw.specs.Written.{Begun, Written};
 ghost use Rattle.rignolda_draw.specs.Runs.{event_line, event_lines, head, run_text, start_line};
@@ -10,7 +10,7 @@ ghost use Rattle.rignolda_draw.specs.Runs.{state_cells};
 use crate::cells::{push_effect_cell, push_event_cell, push_state_cells};
 use crate::output::{OutputFault, write_block};
 use crate::words::delivered_by;
-use stab_core::{Event, Link};
+use stab_core::{Event, Link, StartFault};
 use stab_script::LinkJob;
 use std::alloc::{AllocError, Global};
 use std::io::Write;
@@ -22,24 +22,35 @@ const HEAD: &str =
 /// Draws the run of a link job: the names of the columns, the link at its start, and a line for
 /// each event with the link after it. All but the last of the text is written; that is handed out.
 ///
-/// The run was replayed before, so nothing but memory is refused.
+/// Whoever replayed the run knows that its start is lawful, so nothing but memory is refused.
 #[tactic(auto, using(crate::proofs::ForCallers::not_begun))]
 pub fn write_run<W: Write>(
     alloc: Global,
     writer: &mut W,
     job: &LinkJob,
 ) -> Result<String, OutputFault>
+    requires lawful { IsLawful job.now.params job.now.start }
     ensures run { IfOk result (λ last. Written (W.contents writer.old) (W.contents writer.new)
         (string_bytes last) (run_text job.now)) }
     ensures begun { IfErr result (λ fault. fault ≢ OutputFault.Write
         → Begun (W.contents writer.old) (W.contents writer.new) (run_text job.now)) }
 {
-    let Ok(mut link) = Link::new(alloc, job.params, &job.start) else {
-        return Err(OutputFault::Memory);
-    };
+    let mut link = begun(alloc, job)?;
     let mut text = first_lines(alloc, &link)?;
     write_event_lines(writer, &mut text, &mut link, job.events.as_slice())?;
     Ok(text)
+}
+
+/// The link of a job at its start, which is lawful.
+fn begun(alloc: Global, job: &LinkJob) -> Result<Link, AllocError>
+    requires lawful { IsLawful job.now.params job.now.start }
+    ensures { IfOk result (λ link. link ≡ link_at job.now.params (initial job.now.start)) }
+{
+    match Link::new(alloc, job.params, &job.start) {
+        Ok(link) => Ok(link),
+        Err(StartFault::Memory) => Err(AllocError),
+        Err(StartFault::TooManyFrames | StartFault::TooManyAcks) => unreachable!(),
+    }
 }
 
 /// The names of the columns, and the line of the start.

@@ -1,9 +1,11 @@
 ghost use Rattle.std.specs.Prelude.{◌↔◌, IsErrOf};
 ghost use Rattle.std.specs.Prelude.{◌≡◌, ◌≢◌, ◌++◌, ◌<◌, length, string_bytes};
-ghost use Rattle.std.specs.Prelude.{[], Some, IfErr, IfOk, OnOk};
+ghost use Rattle.std.specs.Prelude.{[], Some, All, IfErr, IfOk, OnOk};
 ghost use Rattle.std.specs.Io.KnownBytes.{Keeps};
 ghost use Rattle.std.specs.Option.{option_map_or};
 ghost use Rattle.stab_job.specs.JobValues.{network};
+ghost use Rattle.stab_job.specs.Replays.{IsReplayed};
+ghost use Rattle.stab_treecore.specs.TreeReplay.{initial_tree};
 ghost use Rattle.stab_treecore.specs.Refusals.{NamesLink, NamesNoLink};
 ghost use Rattle.stab_treecore.specs.TreeStep.{event_on, next_item, tree_effect, tree_step};
 ghost use Rattle.stab_treecore.specs.WholeTree.{link_into};
@@ -17,10 +19,10 @@ use crate::next::event_on;
 use crate::output::{OutputFault, write_block};
 use crate::run::push_start_line;
 use crate::words::delivered_by;
-use stab_core::{Effect, Event, Link};
+use stab_core::{Effect, Event, Link, StartFault};
 use stab_job::Job;
 use stab_tree::{NodeId, Tree};
-use stab_treecore::{TreeEvent, TreeState, TreeStepFault};
+use stab_treecore::{TreeEvent, TreeStartFault, TreeState, TreeStepFault};
 use std::alloc::{AllocError, Global};
 use std::io::Write;
 
@@ -32,25 +34,38 @@ const HEAD: &str =
 /// for each event with its link after it. All but the last of the text is written; that is handed
 /// out.
 ///
-/// The schedule was replayed before, so nothing but memory is refused.
+/// Whoever replayed the schedule knows that nothing but memory is refused.
 #[tactic(auto, using(crate::proofs::ForCallers::not_begun))]
 pub fn write_schedule_run<W: Write>(
     alloc: Global,
     writer: &mut W,
     job: &Job,
 ) -> Result<String, OutputFault>
+    requires replayed { IsReplayed job.now }
     ensures run { IfOk result (λ last. Written (W.contents writer.old) (W.contents writer.new)
         (string_bytes last) (schedule_run_text (network job.now) job.now.schedule)) }
     ensures begun { IfErr result (λ fault. fault ≢ OutputFault.Write
         → Begun (W.contents writer.old) (W.contents writer.new)
         (schedule_run_text (network job.now) job.now.schedule)) }
 {
-    let Ok(mut state) = job.initial_tree(alloc) else {
-        return Err(OutputFault::Memory);
-    };
+    let mut state = begun(alloc, job)?;
     let mut text = first_lines(alloc, job.tree(), &state)?;
     write_step_lines(writer, &mut text, job.tree(), &mut state, job.schedule())?;
     Ok(text)
+}
+
+/// The tree of a job with each link at its start, where all links begin.
+#[tactic(auto, using(stab_job::proofs::ForCallers::begins_or_memory))]
+fn begun(alloc: Global, job: &Job) -> Result<TreeState, AllocError>
+    requires replayed { IsReplayed job.now }
+    ensures initial { IfOk result (λ state. state ≡ initial_tree (network job.now)) }
+    ensures same_tree { IfOk result (λ state. state.parents ≡ job.now.tree.parents) }
+{
+    match job.initial_tree(alloc) {
+        Ok(state) => Ok(state),
+        Err(TreeStartFault::Start(StartFault::Memory)) => Err(AllocError),
+        Err(_) => unreachable!(),
+    }
 }
 
 /// The names of the columns, and the lines of the links at their starts.
@@ -107,6 +122,7 @@ fn write_step_lines<W: Write>(
     events: &[TreeEvent],
 ) -> Result<(), OutputFault>
     requires same_tree { state.old.parents ≡ tree.now.parents }
+    requires named { All (NamesLink tree.now.parents) events.now }
     ensures lines { OnOk result (Written (W.contents writer.old) (W.contents writer.new)
         (string_bytes text.new)
         (string_bytes text.old ++ step_lines tree.now state.old events.now)) }
@@ -130,6 +146,7 @@ fn write_step_line<W: Write>(
     event: TreeEvent,
 ) -> Result<(), OutputFault>
     requires same_tree { state.old.parents ≡ tree.now.parents }
+    requires named { NamesLink tree.now.parents event }
     ensures line { OnOk result (Written (W.contents writer.old) (W.contents writer.new)
         (string_bytes text.new) (string_bytes text.old ++ step_line tree.now state.old event)) }
     ensures steps { OnOk result (state.new ≡ tree_step state.old event) }
@@ -138,7 +155,8 @@ fn write_step_line<W: Write>(
 {
     match push_step_line(text, tree, state, event) {
         Ok(()) => write_block(writer, text),
-        Err(_) => Err(OutputFault::Memory),
+        Err(TreeStepFault::Memory) => Err(OutputFault::Memory),
+        Err(TreeStepFault::NoSuchLink) => unreachable!(),
     }
 }
 

@@ -10,7 +10,7 @@ use Rattle.stab_job.specs.JobValues.{JobValue}
 use Rattle.stab_job.specs.declared.fault.JobFault.TheVariants as job_fault
 use Rattle.stab_json.specs.Checks.{◌>>=◌, ◌or◌}
 use Rattle.stab_json.specs.Values.{value_of, most_u16, capped}
-use Rattle.stab_stream.specs.Members.{HasNoOthers, IsOther}
+use Rattle.stab_script.specs.Members.{HasNoOthers, IsOther}
 use Rattle.rignolda_explain.specs.Kinds.{chosen}
 use Rattle.rignolda_findings.specs.declared.refusal.Kind.TheVariants as kind
 

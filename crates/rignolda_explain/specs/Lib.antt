@@ -2,3 +2,4 @@ pub mod Kinds
 pub mod Refusals
 pub mod Findings
 pub mod Stops
+pub mod Capacities

@@ -1,18 +1,20 @@
 //! What is wrong with a job of a tree.
 
+use crate::backlogs::look_at_backlogs;
 use crate::links::{
     look_at_count, look_at_link_params, look_at_lists_of_links, look_at_members_of_links,
     look_at_starts,
 };
+use crate::logs::look_at_logs;
 use crate::openings::{look_at_opening_lists, look_at_openings};
 use crate::schedule::{look_at_root_steps, look_at_schedule};
 use crate::scripts::look_at_made_scripts;
+use crate::steps::look_at_steps;
+use crate::tree::{look_at_nodes, look_at_tree};
 use rignolda_findings::{
     Known, Notes, Piece, Place, count_of, list_of, list_or_absent, look_at_items, look_at_members,
     look_at_numbers, look_at_params, look_at_whole,
 };
-use rignolda_nodes::{look_at_nodes, look_at_tree};
-use rignolda_steps::{look_at_backlogs, look_at_logs, look_at_steps};
 use serde_json::Value;
 use stab_job::JobFault;
 use stab_script::MAX_EVENTS;

@@ -1,11 +1,11 @@
 //! What a job says of its links, one entry for each: parameters, starts and scripts.
 
 use crate::scripts::{look_at_script, look_at_script_members};
+use crate::strikes::capacity_at;
 use rignolda_findings::{
     Known, Notes, Piece, Place, START_MEMBERS, count_of, list_or_absent, look_at_begin,
     look_at_members, look_at_numbers, look_at_params, look_at_start,
 };
-use rignolda_steps::capacity_at;
 use serde_json::Value;
 use stab_job::JobFault;
 use stab_tree::{NodeId, Tree};

@@ -9,8 +9,8 @@ ghost use Rattle.rignolda_explain.specs.Stops.{IsStopOf};
 use crate::job::look_at_job;
 use crate::reader::{stop_of_job, stop_of_link_job};
 use rignolda_findings::{Kind, Notes, seems_a_link_job};
-use stab_job_stream::read_plain_job;
-use stab_stream::read_plain_link_job;
+use stab_job::read_plain_job;
+use stab_script::read_plain_link_job;
 use std::alloc::{AllocError, Global};
 
 /// The kind of these bytes and what is found in them, where they are a job in the plain form that

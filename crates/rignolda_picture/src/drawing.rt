@@ -1,11 +1,13 @@
+use crate::canvas::Canvas;
 use crate::ending::draw_ending;
 use crate::events::draw_row;
 use crate::faults::{draw_anew, draw_list, draw_mark, draw_restarted, draw_vanished};
 use crate::head::{draw_event, draw_head, draw_start};
 use crate::page::page;
 use crate::panel::Panel;
+use crate::point::Point;
+use crate::sheet::{ROW, Sheet};
 use rignolda_draw::Row;
-use rignolda_svg::{Canvas, Point, ROW, Sheet};
 use stab_core::Start;
 use stab_frames::{Item, Params};
 use std::alloc::{AllocError, Global};

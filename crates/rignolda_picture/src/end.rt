@@ -1,9 +1,10 @@
 //! What is drawn alike at both ends of a link.
 
+use crate::canvas::Canvas;
+use crate::ink::Ink;
 use crate::panel::Mark;
-use rignolda_svg::{
-    Canvas, Ink, Point, push_arrow, push_circle, push_cross, push_line, push_words,
-};
+use crate::point::Point;
+use crate::shapes::{push_arrow, push_circle, push_cross, push_line, push_words};
 use std::alloc::AllocError;
 
 /// How far a mark in a queue is from the line of the end that put it there.

@@ -1,8 +1,11 @@
 //! How a link ends, drawn.
 
+use crate::canvas::Canvas;
+use crate::ink::Ink;
 use crate::items::Items;
 use crate::panel::{Panel, Wait};
-use rignolda_svg::{Canvas, Ink, Point, push_rectangle, push_text_start, push_words};
+use crate::point::Point;
+use crate::shapes::{push_rectangle, push_text_start, push_words};
 use std::alloc::{AllocError, Global};
 
 /// Draws how a link ends at this height.

@@ -1,10 +1,11 @@
 //! What an event does at the two ends of a link, drawn.
 
+use crate::canvas::Canvas;
+use crate::ink::Ink;
 use crate::panel::{Mark, Panel, Wait, take_at, take_front};
+use crate::point::Point;
+use crate::shapes::{push_boxed, push_counted, push_line, push_text_start, push_words};
 use rignolda_draw::Row;
-use rignolda_svg::{
-    Canvas, Ink, Point, push_boxed, push_counted, push_line, push_text_start, push_words,
-};
 use stab_core::{Effect, Event};
 use stab_frames::{Item, Label};
 use std::alloc::{AllocError, Global};

@@ -1,9 +1,13 @@
 //! What is published, rounds and faults, drawn.
 
+use crate::canvas::Canvas;
 use crate::head::{after_name, push_numbered};
+use crate::ink::Ink;
 use crate::items::Items;
 use crate::panel::Panel;
-use rignolda_svg::{Canvas, Ink, Point, ROW, Sheet, push_line, push_text_start, push_words};
+use crate::point::Point;
+use crate::shapes::{push_line, push_text_start, push_words};
+use crate::sheet::{ROW, Sheet};
 use stab_frames::Item;
 use std::alloc::{AllocError, Global};
 

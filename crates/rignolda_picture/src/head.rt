@@ -1,13 +1,14 @@
 //! What is drawn of a link before its first event, and of each event beside its link.
 
+use crate::canvas::Canvas;
 use crate::events::{ack, frame, label};
+use crate::ink::Ink;
 use crate::panel::{Mark, Panel};
+use crate::point::Point;
+use crate::shapes::{push_counted, push_line, push_rectangle, push_text_start, push_words};
+use crate::sheet::{ROW, Sheet, TOP};
 use crate::words::{effect_word, push_event};
 use rignolda_draw::Row;
-use rignolda_svg::{
-    Canvas, Ink, Point, ROW, Sheet, TOP, push_counted, push_line, push_rectangle, push_text_start,
-    push_words,
-};
 use stab_core::Start;
 use stab_frames::Params;
 use std::alloc::{AllocError, Global};

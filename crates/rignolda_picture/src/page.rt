@@ -1,9 +1,11 @@
 //! What is around a picture: its heading, and the explanation of its signs.
 
-use rignolda_svg::{
-    Canvas, Ink, Point, STYLE, Sheet, push_attribute, push_circle, push_line, push_rectangle,
-    push_words,
-};
+use crate::canvas::Canvas;
+use crate::ink::Ink;
+use crate::point::Point;
+use crate::shapes::{push_attribute, push_circle, push_line, push_rectangle, push_words};
+use crate::sheet::Sheet;
+use crate::style::STYLE;
 use std::alloc::{AllocError, Global};
 
 /// What the reader of a picture has to know first.

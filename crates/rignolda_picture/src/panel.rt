@@ -1,6 +1,6 @@
 use crate::end::End;
 use crate::items::Items;
-use rignolda_svg::Point;
+use crate::point::Point;
 use stab_frames::Item;
 use std::alloc::{AllocError, Global};
 

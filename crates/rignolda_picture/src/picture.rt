@@ -7,8 +7,8 @@ ghost use Rattle.stab_treecore.specs.Network.{IsNetwork};
 ghost use Rattle.stab_treecore.specs.Refusals.{NamesLink};
 
 use crate::drawing::Drawing;
+use crate::sheet::Sheet;
 use rignolda_draw::{Row, link_rows, schedule_rows};
-use rignolda_svg::Sheet;
 use stab_core::{Start, StartFault};
 use stab_job::Job;
 use stab_script::LinkJob;

@@ -5,13 +5,12 @@ ghost use Rattle.rignolda_scenario.specs.Counts.{IsUnrun};
 
 use crate::drawing::Drawing;
 use crate::picture::{add_links, link_of, rows_of, sheet_of};
-use rignolda_draw::Row;
-use rignolda_draw_scenario::scenario_rows;
+use rignolda_draw::{Row, scenario_rows};
 use rignolda_scenario::{Scenario, ScenarioFault, Step};
 use stab_core::Start;
-use stab_faults::Change;
 use stab_frames::Params;
 use stab_tree::{NodeId, Tree};
+use stab_treecore::Change;
 use std::alloc::{AllocError, Global};
 
 /// What the picture of a scenario shows, for those who do not see it.

@@ -5,11 +5,11 @@ use Rattle.stab_core.specs.Link.{LinkValue, link_at}
 use Rattle.stab_core.specs.LinkSetup.{LinkSetup}
 use Rattle.stab_core.specs.LinkState.{LinkState}
 use Rattle.stab_core.specs.declared.event.Event.{Event}
-use Rattle.stab_faults.specs.declared.change.Change.{Change}
-use Rattle.stab_faults.specs.declared.change.Change.TheVariants.{Act, Publish, Strike, Restart}
-use Rattle.stab_faults.specs.Changes.{change_step, changes_replay}
-use Rattle.stab_faults.specs.Moment.{missing_since, old_backlog, strays_since}
-use Rattle.stab_faults.specs.Since.{capacity_at, moment}
+use Rattle.stab_treecore.specs.declared.change.Change.{Change}
+use Rattle.stab_treecore.specs.declared.change.Change.TheVariants.{Act, Publish, Strike, Restart}
+use Rattle.stab_treecore.specs.Changes.{change_step, changes_replay}
+use Rattle.stab_treecore.specs.Moment.{missing_since, old_backlog, strays_since}
+use Rattle.stab_treecore.specs.Since.{capacity_at, moment}
 use Rattle.stab_tree.specs.ByChild.{by_child}
 use Rattle.stab_tree.specs.Nodes.{parent_at}
 use Rattle.stab_tree.proofs.ForCallers.{map-by_child}

@@ -5,8 +5,8 @@ use Rattle.serde_json.specs.Find.{get}
 use Rattle.stab_job.specs.JobValues.{JobValue}
 use Rattle.stab_job.specs.Jobs.{job, job_of_data}
 use Rattle.stab_job.specs.declared.fault.JobFault.TheVariants as job_fault
-use Rattle.stab_job_stream.specs.Parts.{the_schedule, SameMembers}
-use Rattle.stab_job_stream.specs.Unscheduled.{IsUnscheduled, unscheduled}
+use Rattle.stab_job.specs.Parts.{the_schedule, SameMembers}
+use Rattle.stab_job.specs.Unscheduled.{IsUnscheduled, unscheduled}
 use Rattle.stab_json.specs.Checks.{◌>>=◌, ◌or◌, ◌refused_as◌}
 use Rattle.stab_json.specs.Values.{value_of}
 use Rattle.rignolda_scenario.specs.Refusals.{job_refused}

@@ -2,7 +2,7 @@
 use Rattle.std.proofs.Common.{◌≡◌, ℕ, suc, zero, ◌+◌, ◌*◌, List, [], ◌∷◌, ◌++◌, Option, Some, None, Bool, false, length, replicate, refl, sym, zero-mul, suc-mul, arith}
 use Rattle.std.proofs.lemmas.List.{length-append, length-map, length-replicate}
 use Rattle.stab_core.specs.declared.act.LinkAct.TheVariants.{SendFrame, RecvFrame, SendAck, RecvAck}
-use Rattle.stab_faults.specs.declared.change.Change.TheVariants.{Act}
+use Rattle.stab_treecore.specs.declared.change.Change.TheVariants.{Act}
 use Rattle.stab_frames.specs.Parameters.{Parameters}
 use Rattle.stab_rounds.specs.TreePlayed.{act_on, round_from}
 use Rattle.stab_tree.specs.Links.{links_from}

@@ -3,13 +3,13 @@ use Rattle.std.proofs.Common.{◌≡◌, ◌<◌, ◌≤◌, ◌+◌, ℕ, zero,
 use Rattle.std.proofs.lemmas.List.{length-append}
 use Rattle.stab_core.specs.declared.start.StartFault.{StartFault}
 use Rattle.stab_core.specs.declared.start.StartFault.TheVariants as start
-use Rattle.stab_faults.specs.declared.change.Change.{Change}
-use Rattle.stab_faults.specs.declared.fault.ChangeFault.{ChangeFault}
-use Rattle.stab_faults.specs.declared.fault.ChangeFault.TheVariants as change
+use Rattle.stab_treecore.specs.declared.change.Change.{Change}
+use Rattle.stab_treecore.specs.declared.change_fault.ChangeFault.{ChangeFault}
+use Rattle.stab_treecore.specs.declared.change_fault.ChangeFault.TheVariants as change
 use Rattle.stab_core.specs.declared.start.Start.{Start}
 use Rattle.stab_frames.specs.Parameters.{Parameters}
-use Rattle.stab_faults.specs.Changes.{change_step}
-use Rattle.stab_faults.specs.Refusals.{IsChangeReason, IsReasonAt, ReachesChange}
+use Rattle.stab_treecore.specs.Changes.{change_step}
+use Rattle.stab_treecore.specs.ChangeRefusals.{IsChangeReason, IsReasonAt, ReachesChange}
 use Rattle.stab_treecore.specs.Network.{Network}
 use Rattle.stab_treecore.specs.TreeReplay.{initial_tree}
 use Rattle.stab_treecore.specs.WholeTree.{WholeTree}

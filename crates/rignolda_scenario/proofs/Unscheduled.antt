@@ -3,7 +3,7 @@ use Rattle.std.proofs.Common.{◌≡◌, ℕ, List, Ok, refl}
 use Rattle.stab_job.specs.JobValues.{JobValue}
 use Rattle.serde_json.specs.Data.{Data}
 use Rattle.stab_job.specs.Jobs.{job, job_of_data}
-use Rattle.stab_job_stream.specs.Unscheduled.{IsUnscheduled}
+use Rattle.stab_job.specs.Unscheduled.{IsUnscheduled}
 use Rattle.rignolda_scenario.specs.Scenarios.{scenario, scenario_of_data, with_steps, with_steps_of}
 
 -- it is that job with the steps of the bytes

@@ -2,10 +2,10 @@
 -- strays there are at most, and how many of the first published items may be missing.
 -- Source: this project's own.
 use Rattle.std.specs.Prelude.{ℕ, ◌<◌, List, length, take}
-use Rattle.stab_faults.specs.Changes.{changes_replay}
-use Rattle.stab_faults.specs.Moment.{missing_since, published_since, strays_since}
-use Rattle.stab_faults.specs.Refusals.{IsChangeReason}
-use Rattle.stab_faults.specs.Since.{gained, moment}
+use Rattle.stab_treecore.specs.Changes.{changes_replay}
+use Rattle.stab_treecore.specs.Moment.{missing_since, published_since, strays_since}
+use Rattle.stab_treecore.specs.ChangeRefusals.{IsChangeReason}
+use Rattle.stab_treecore.specs.Since.{gained, moment}
 use Rattle.stab_job.specs.JobValues.{JobValue, network}
 use Rattle.stab_treecore.specs.TreeReplay.{initial_tree}
 use Rattle.stab_treecore.specs.WholeTree.{WholeTree}

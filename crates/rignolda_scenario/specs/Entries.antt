@@ -23,7 +23,7 @@ use Rattle.stab_script.specs.Starts.{start}
 use Rattle.stab_tree.specs.Links.{link_place_of}
 use Rattle.stab_tree.specs.Nodes.{Nodes, place_of}
 use Rattle.stab_treecore.specs.declared.event.TreeEvent.{TreeEvent}
-use Rattle.stab_faults.specs.declared.change.Change.TheVariants.{Act, Publish, Strike, Restart}
+use Rattle.stab_treecore.specs.declared.change.Change.TheVariants.{Act, Publish, Strike, Restart}
 use Rattle.rignolda_scenario.specs.declared.fault.StepFault.{StepFault}
 use Rattle.rignolda_scenario.specs.declared.fault.StepFault.TheVariants as fault
 use Rattle.rignolda_scenario.specs.declared.step.Step.{Step}

@@ -7,7 +7,7 @@ use Rattle.std.specs.Prelude.{if◌then◌else◌, Option}
 use Rattle.std.specs.Option.{option_map_or}
 use Rattle.stab_tree.specs.Nodes.{parent_at}
 use Rattle.stab_tree.specs.Steps.{depth_of}
-use Rattle.stab_faults.specs.declared.change.Change.TheVariants.{Strike, Restart}
+use Rattle.stab_treecore.specs.declared.change.Change.TheVariants.{Strike, Restart}
 use Rattle.rignolda_scenario.specs.declared.step.Step.{Step}
 use Rattle.rignolda_scenario.specs.declared.step.Step.TheVariants.{One, Rounds, ReadingRounds}
 

@@ -10,8 +10,8 @@ use Rattle.stab_frames.specs.Parameters.{Parameters}
 use Rattle.stab_rounds.specs.TreePlayed.{act_on, play, round_from}
 use Rattle.stab_tree.specs.Links.{links_of}
 use Rattle.stab_treecore.specs.declared.event.TreeEvent.{TreeEvent}
-use Rattle.stab_faults.specs.declared.change.Change.{Change}
-use Rattle.stab_faults.specs.declared.change.Change.TheVariants.{Act}
+use Rattle.stab_treecore.specs.declared.change.Change.{Change}
+use Rattle.stab_treecore.specs.declared.change.Change.TheVariants.{Act}
 use Rattle.rignolda_scenario.specs.declared.fault.ListFault.{ListFault}
 use Rattle.rignolda_scenario.specs.declared.fault.ListFault.TheVariants as fault
 use Rattle.rignolda_scenario.specs.declared.step.Step.{Step}

@@ -2,8 +2,8 @@
 -- fault, and with refused memory alone where that is the cause.
 -- Source: this project's own.
 use Rattle.stab_core.specs.declared.start.StartFault.TheVariants as start_fault
-use Rattle.stab_faults.specs.declared.fault.ChangeFault.{ChangeFault}
-use Rattle.stab_faults.specs.declared.fault.ChangeFault.TheVariants as change_fault
+use Rattle.stab_treecore.specs.declared.change_fault.ChangeFault.{ChangeFault}
+use Rattle.stab_treecore.specs.declared.change_fault.ChangeFault.TheVariants as change_fault
 use Rattle.stab_job.specs.declared.fault.JobFault.{JobFault}
 use Rattle.stab_job.specs.declared.fault.JobFault.TheVariants as job_fault
 use Rattle.stab_treecore.specs.declared.fault.RestartFault.TheVariants as restart_fault

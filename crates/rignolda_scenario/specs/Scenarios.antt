@@ -13,7 +13,7 @@ use Rattle.stab_json.specs.Checks.{◌>>=◌, ◌>>◌, ◌or◌, ◌when◌, �
 use Rattle.stab_json.specs.Values.{value_of}
 use Rattle.stab_job.specs.Jobs.{job, job_of_data}
 use Rattle.stab_job.specs.JobValues.{JobValue}
-use Rattle.stab_job_stream.specs.Unscheduled.{unscheduled}
+use Rattle.stab_job.specs.Unscheduled.{unscheduled}
 use Rattle.stab_tree.specs.Nodes.{Nodes}
 use Rattle.rignolda_scenario.specs.declared.fault.ScenarioFault.{ScenarioFault}
 use Rattle.rignolda_scenario.specs.declared.fault.ScenarioFault.TheVariants as fault

@@ -11,12 +11,11 @@ ghost use Rattle.rignolda_scenario.specs.Played.{reading_round_on, repeated};
 use crate::fault::{ListFault, ScenarioFault};
 use crate::step::Step;
 use stab_core::LinkAct;
-use stab_faults::Change;
 use stab_job::Job;
 use stab_rounds::round_of_all;
 use stab_script::MAX_EVENTS;
 use stab_tree::NodeId;
-use stab_treecore::TreeEvent;
+use stab_treecore::{Change, TreeEvent};
 use std::alloc::{AllocError, Global};
 
 /// A change that is the same.

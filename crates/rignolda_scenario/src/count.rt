@@ -1,8 +1,8 @@
 //! What a node received since a moment, what it may be, and what was published since.
 
 ghost use Rattle.std.specs.Prelude.{◌≡◌, ◌<◌, ◌≤◌, ◌+◌, ◌*◌, ◌++◌, drop, length, IfOk, OnOk};
-ghost use Rattle.stab_faults.specs.Moment.{old_backlog, published_since};
-ghost use Rattle.stab_faults.specs.Since.{backlog, gained, moment};
+ghost use Rattle.stab_treecore.specs.Moment.{old_backlog, published_since};
+ghost use Rattle.stab_treecore.specs.Since.{backlog, gained, moment};
 ghost use Rattle.stab_treecore.specs.Paths.{path_sum};
 ghost use Rattle.stab_treecore.specs.WholeTree.{source};
 ghost use Rattle.stab_tree.specs.Nodes.{root_of};

@@ -17,13 +17,12 @@ use crate::fault::StepFault;
 use crate::step::Step;
 use serde_json::Value;
 use stab_core::{LinkAct, Start};
-use stab_faults::Change;
 use stab_frames::{Item, Params, Sequence};
 use stab_job::Job;
 use stab_json::{label, read_entries};
 use stab_script::{PartFault, loss_act, plain_act, read_start};
 use stab_tree::{NodeId, Tree};
-use stab_treecore::TreeEvent;
+use stab_treecore::{Change, TreeEvent};
 use std::alloc::Global;
 
 /// Whether a value is this word.

@@ -1,7 +1,6 @@
 use stab_core::StartFault;
-use stab_faults::ChangeFault;
 use stab_job::JobFault;
-use stab_treecore::{RestartFault, TreeStartFault, TreeStepFault};
+use stab_treecore::{ChangeFault, RestartFault, TreeStartFault, TreeStepFault};
 use std::alloc::AllocError;
 use thiserror::Error;
 

@@ -4,8 +4,8 @@ ghost use Rattle.std.specs.Prelude.{◌≡◌, ◌<◌, ◌≤◌, length};
 ghost use Rattle.rignolda_scenario.specs.LastFault.{hits, is_on_path, last_fault};
 
 use crate::step::Step;
-use stab_faults::Change;
 use stab_tree::{NodeId, Tree};
+use stab_treecore::Change;
 
 /// Whether another node is this one, or one above it.
 fn is_on_path(tree: &Tree, node: NodeId, other: NodeId) -> bool

@@ -1,9 +1,9 @@
 //! What a scenario counts obeys the law: a function with an empty body, whose contract is the law.
 
 ghost use Rattle.std.specs.Prelude.{ℕ, ◌<◌, List, length};
-ghost use Rattle.stab_faults.specs.Changes.{Fit};
-ghost use Rattle.stab_faults.specs.Moment.{garbage_since};
-ghost use Rattle.stab_faults.specs.Since.{moment};
+ghost use Rattle.stab_treecore.specs.Changes.{Fit};
+ghost use Rattle.stab_treecore.specs.Moment.{garbage_since};
+ghost use Rattle.stab_treecore.specs.Since.{moment};
 ghost use Rattle.stab_job.specs.JobValues.{JobValue, network};
 ghost use Rattle.stab_treecore.specs.Network.{IsNetwork};
 ghost use Rattle.stab_treecore.specs.TreeLaw.{TreeLaw};
@@ -24,5 +24,5 @@ pub fn scenarios_obey()
         TreeLaw c.strays c.missing (garbage_since (moment (state_since j steps node)) node)
         c.published c.gained }
 {
-    stab_faults::laws::every_schedule_with_faults_obeys_the_tree_law();
+    stab_treecore::change_laws::every_schedule_with_faults_obeys_the_tree_law();
 }

@@ -1,6 +1,6 @@
 //! A scenario: a job of a tree, and steps that happen to it in their order, faults among them.
 //!
-//! A step is a [`Change`](stab_faults::Change) of the tree, or a number of rounds or of reading
+//! A step is a [`Change`](stab_treecore::Change) of the tree, or a number of rounds or of reading
 //! rounds of all its links. [`read_scenario`] reads a job that has one member more, `steps`, and
 //! answers the scenario that the bytes mean, or the first check that they fail, by the definitions
 //! in `specs/`; [`scenario_of_value`] does the same of a value that was read. The layer above uses one fact: the text of [`scenario_text`] says of each node what

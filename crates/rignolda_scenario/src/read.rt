@@ -1,7 +1,7 @@
 ghost use Rattle.std.specs.Prelude.{◌≡◌, ◌≢◌, MatchResult, Ok, Err, IfOk, option_map};
 ghost use Rattle.serde_json.specs.View.{view, items_view};
 ghost use Rattle.stab_job.specs.Jobs.{job};
-ghost use Rattle.stab_job_stream.specs.Unscheduled.{IsUnscheduled};
+ghost use Rattle.stab_job.specs.Unscheduled.{IsUnscheduled};
 ghost use Rattle.rignolda_scenario.specs.Scenarios.{listed_steps, numbered, scenario, steps_after};
 ghost use Rattle.rignolda_scenario.specs.Scenarios.{scenario_of_data, steps_of, steps_of_bytes};
 ghost use Rattle.rignolda_scenario.specs.Scenarios.{with_steps_of};
@@ -11,8 +11,7 @@ use crate::fault::{ScenarioFault, StepFault};
 use crate::step::Step;
 use serde_json::Value;
 use stab_frames::Sequence;
-use stab_job::{Job, JobFault};
-use stab_job_stream::{read_unscheduled_job, unscheduled_job_of_value};
+use stab_job::{Job, JobFault, read_unscheduled_job, unscheduled_job_of_value};
 use std::alloc::Global;
 
 /// A job of a tree, and the steps that happen to it.

@@ -1,4 +1,4 @@
-use stab_faults::Change;
+use stab_treecore::Change;
 
 /// What happens next in a scenario.
 #[derive(Debug, Drop)]

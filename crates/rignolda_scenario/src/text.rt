@@ -2,8 +2,8 @@
 
 ghost use Rattle.std.specs.Prelude.{◌≡◌, ◌<◌, ◌≤◌, ◌++◌, ℕ, [], slice_index_or, take, length};
 ghost use Rattle.std.specs.Prelude.{string_bytes, IfErr, IfOk, OnOk};
-ghost use Rattle.stab_faults.specs.Moment.{missing_since, strays_since};
-ghost use Rattle.stab_faults.specs.Since.{capacity_at, moment};
+ghost use Rattle.stab_treecore.specs.Moment.{missing_since, strays_since};
+ghost use Rattle.stab_treecore.specs.Since.{capacity_at, moment};
 ghost use Rattle.stab_job.specs.JobValues.{network};
 ghost use Rattle.stab_tree.specs.Steps.{depth_of};
 ghost use Rattle.stab_treecore.specs.NodeLaws.{capacity_into};
@@ -20,12 +20,11 @@ use crate::hits::last_fault;
 use crate::read::Scenario;
 use crate::step::Step;
 use stab_core::{push_items_line, push_number};
-use stab_faults::run_changes;
 use stab_frames::Item;
 use stab_job::Job;
 use stab_judge::Judge;
 use stab_tree::NodeId;
-use stab_treecore::TreeState;
+use stab_treecore::{TreeState, run_changes};
 use std::alloc::{AllocError, Global};
 
 /// Steps of a job, and the tree after them.

@@ -3,7 +3,7 @@ use crate::line::{Word, rignolda, word_of};
 use crate::random::random_request;
 use clap::error::ErrorKind;
 use clap::{ArgMatches, Error};
-use rignolda_random::DrawOptions;
+use rignolda_make::DrawOptions;
 use stab_frames::{Params, ParamsFault};
 use std::alloc::{AllocError, Global};
 

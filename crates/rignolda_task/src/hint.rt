@@ -1,7 +1,6 @@
 //! What is said after a fault of which the kind of the job may be the reason.
 
-use rignolda_commands::{BoundsFault, CheckFault};
-use rignolda_judge::JudgeFault;
+use rignolda_commands::{BoundsFault, CheckFault, JudgeFault};
 use stab_job::JobFault;
 use stab_script::LinkJobFault;
 use stab_task::CliFault;

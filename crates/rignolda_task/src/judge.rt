@@ -2,7 +2,7 @@
 
 use crate::hint::hint_of_judge;
 use crate::program::{FOUND, say_that_it_reads, unopened};
-use rignolda_judge::{JudgeFault, act_judge};
+use rignolda_commands::{JudgeFault, act_judge};
 use std::rt::Files;
 use std::{fs, io};
 

@@ -2,7 +2,7 @@
 //!
 //! A [`Request`] is what the words of a command line name; [`parse`] finds it, or gives the text of
 //! help, of the version or of a mistake. [`run`] does what is asked for, by the calls of
-//! `rignolda_commands` and `rignolda_judge`, and gives the status.
+//! `rignolda_commands`, and gives the status.
 #![tactic(auto)]
 
 mod bounds;

@@ -3,7 +3,7 @@
 use crate::command::{Request, mistake, mistake_of};
 use clap::error::ErrorKind;
 use clap::{ArgMatches, Error};
-use rignolda_random::{DrawOptions, OptionsFault};
+use rignolda_make::{DrawOptions, OptionsFault};
 use std::alloc::{AllocError, Global};
 
 /// The random job of the options that are named, or of their defaults.

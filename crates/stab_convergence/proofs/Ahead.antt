@@ -23,14 +23,14 @@ use Rattle.stab_treecore.specs.TreeStep.{link_after, next_item, tree_step}
 use Rattle.stab_treecore.specs.WholeTree.{WholeTree, link_into, received, source}
 use Rattle.stab_treecore.proofs.ForChanges.{differ, unchosen}
 use Rattle.stab_treecore.proofs.Linked.{same_kind}
-use Rattle.stab_faults.specs.declared.change.Change.{Change}
-use Rattle.stab_faults.specs.declared.change.Change.TheVariants.{Act, Publish, Restart, Strike}
-use Rattle.stab_faults.specs.Changes.{change_step, changes_replay}
-use Rattle.stab_faults.specs.Hits.{Spare}
-use Rattle.stab_faults.specs.Since.{IsState, acked_at}
-use Rattle.stab_faults.proofs.Grown.{prefix_behind, prefix_no_longer}
-use Rattle.stab_faults.proofs.Kept.{none_or_some, Leaves, OnPath, path_up, Since, since_act, since_at_first, since_left, strike_leaves, restart_leaves, publish_leaves}
-use Rattle.stab_faults.proofs.NodesSince.{root_alone}
+use Rattle.stab_treecore.specs.declared.change.Change.{Change}
+use Rattle.stab_treecore.specs.declared.change.Change.TheVariants.{Act, Publish, Restart, Strike}
+use Rattle.stab_treecore.specs.Changes.{change_step, changes_replay}
+use Rattle.stab_treecore.specs.Hits.{Spare}
+use Rattle.stab_treecore.specs.Since.{IsState, acked_at}
+use Rattle.stab_treecore.proofs.Grown.{prefix_behind, prefix_no_longer}
+use Rattle.stab_treecore.proofs.Kept.{none_or_some, Leaves, OnPath, path_up, Since, since_act, since_at_first, since_left, strike_leaves, restart_leaves, publish_leaves}
+use Rattle.stab_treecore.proofs.NodesSince.{root_alone}
 use Rattle.stab_rounds.specs.Rounds.{IsWithin}
 use Rattle.stab_rounds.proofs.Drains.{Drained, top, under, drained_step}
 use Rattle.stab_rounds.proofs.Links.{after_event, quiet_after}

@@ -10,15 +10,15 @@ use Rattle.stab_treecore.specs.Paths.{sum_above, lists_above}
 use Rattle.stab_treecore.specs.TreeLaw.{TreeLaw}
 use Rattle.stab_treecore.specs.WholeTree.{WholeTree}
 use Rattle.stab_treecore.proofs.ForChanges.{larger_bounds, law_below, root_law}
-use Rattle.stab_faults.specs.declared.change.Change.{Change}
-use Rattle.stab_faults.specs.Changes.{changes_replay}
-use Rattle.stab_faults.specs.Hits.{Spare}
-use Rattle.stab_faults.specs.Since.{IsState, backlog, capacity_at, gained, queued_at}
-use Rattle.stab_faults.proofs.Beneath.{law_beneath}
-use Rattle.stab_faults.proofs.Grown.{prefix_behind}
-use Rattle.stab_faults.proofs.Kept.{OnPath, Since, path_up}
-use Rattle.stab_faults.proofs.NodesSince.{link_since, since_spared}
-use Rattle.stab_faults.proofs.Obeying.{ObeysSince}
+use Rattle.stab_treecore.specs.declared.change.Change.{Change}
+use Rattle.stab_treecore.specs.Changes.{changes_replay}
+use Rattle.stab_treecore.specs.Hits.{Spare}
+use Rattle.stab_treecore.specs.Since.{IsState, backlog, capacity_at, gained, queued_at}
+use Rattle.stab_treecore.proofs.Beneath.{law_beneath}
+use Rattle.stab_treecore.proofs.Grown.{prefix_behind}
+use Rattle.stab_treecore.proofs.Kept.{OnPath, Since, path_up}
+use Rattle.stab_treecore.proofs.NodesSince.{link_since, since_spared}
+use Rattle.stab_treecore.proofs.Obeying.{ObeysSince}
 use Rattle.stab_convergence.specs.Exact.{IsExact, IsPathClean}
 use Rattle.stab_convergence.proofs.Acts.{spare_first, spare_later}
 use Rattle.stab_convergence.proofs.Exactly.{stays_exact}

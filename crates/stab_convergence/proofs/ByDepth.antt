@@ -11,9 +11,9 @@ use Rattle.stab_tree.proofs.ForCallers.{child_is_deeper}
 use Rattle.stab_treecore.specs.Paths.{sum_above}
 use Rattle.stab_treecore.specs.SharperLaw.{peak_above}
 use Rattle.stab_treecore.specs.WholeTree.{WholeTree}
-use Rattle.stab_faults.specs.Moment.{fewest_since, published_since}
-use Rattle.stab_faults.specs.Since.{IsState, capacity_at, gained, moment}
-use Rattle.stab_faults.proofs.Kept.{none_or_some}
+use Rattle.stab_treecore.specs.Moment.{fewest_since, published_since}
+use Rattle.stab_treecore.specs.Since.{IsState, capacity_at, gained, moment}
+use Rattle.stab_treecore.proofs.Kept.{none_or_some}
 use Rattle.stab_convergence.specs.Meanwhile.{IsEnough}
 
 few_of : (number : ℕ → ℕ) (bound : ℕ) (up : Option ℕ) → ((w : ℕ) → number w ≤ bound) → option_map_or number up 0 ≤ bound

@@ -18,15 +18,15 @@ use Rattle.stab_treecore.specs.TreeLaw.{CompleteLaw}
 use Rattle.stab_treecore.specs.WholeTree.{WholeTree, received}
 use Rattle.stab_treecore.proofs.Members.{enough_up_to}
 use Rattle.stab_treecore.proofs.SharperNodes.{peak_no_more}
-use Rattle.stab_faults.specs.declared.change.Change.{Change}
-use Rattle.stab_faults.specs.Changes.{changes_replay}
-use Rattle.stab_faults.specs.Hits.{Spare}
-use Rattle.stab_faults.specs.Moment.{fewest_since, missing_since, published_above, published_since}
-use Rattle.stab_faults.specs.Since.{IsState, acked_at, backlog, capacity_at, gained, moment}
-use Rattle.stab_faults.proofs.Kept.{none_or_some, OnPath, path_up}
-use Rattle.stab_faults.proofs.NodesSince.{feed_counts, sharper_complete_since, since_spared}
-use Rattle.stab_faults.proofs.Obeying.{ObeysSince}
-use Rattle.stab_faults.proofs.Beneath.{spare_up}
+use Rattle.stab_treecore.specs.declared.change.Change.{Change}
+use Rattle.stab_treecore.specs.Changes.{changes_replay}
+use Rattle.stab_treecore.specs.Hits.{Spare}
+use Rattle.stab_treecore.specs.Moment.{fewest_since, missing_since, published_above, published_since}
+use Rattle.stab_treecore.specs.Since.{IsState, acked_at, backlog, capacity_at, gained, moment}
+use Rattle.stab_treecore.proofs.Kept.{none_or_some, OnPath, path_up}
+use Rattle.stab_treecore.proofs.NodesSince.{feed_counts, sharper_complete_since, since_spared}
+use Rattle.stab_treecore.proofs.Obeying.{ObeysSince}
+use Rattle.stab_treecore.proofs.Beneath.{spare_up}
 use Rattle.stab_convergence.specs.Converged.{HasConverged}
 use Rattle.stab_convergence.specs.Exact.{IsPathClean}
 use Rattle.stab_convergence.specs.Meanwhile.{IsEnough}

@@ -10,14 +10,14 @@ use Rattle.stab_tree.specs.Steps.{Reaches, ancestor}
 use Rattle.stab_treecore.specs.declared.event.TreeEvent.{TreeEvent}
 use Rattle.stab_treecore.specs.TreeReplay.{tree_replay}
 use Rattle.stab_treecore.specs.WholeTree.{WholeTree, received}
-use Rattle.stab_faults.specs.declared.change.Change.{Change}
-use Rattle.stab_faults.specs.Changes.{changes_replay}
-use Rattle.stab_faults.specs.Hits.{Spare}
-use Rattle.stab_faults.specs.Since.{IsState, acked_at, gained, moment}
-use Rattle.stab_faults.proofs.Contained.{changes-append}
-use Rattle.stab_faults.proofs.Kept.{none_or_some, OnPath, path_up}
-use Rattle.stab_faults.proofs.NodesSince.{complete_since, since_spared}
-use Rattle.stab_faults.proofs.Obeying.{ObeysSince}
+use Rattle.stab_treecore.specs.declared.change.Change.{Change}
+use Rattle.stab_treecore.specs.Changes.{changes_replay}
+use Rattle.stab_treecore.specs.Hits.{Spare}
+use Rattle.stab_treecore.specs.Since.{IsState, acked_at, gained, moment}
+use Rattle.stab_treecore.proofs.Contained.{changes-append}
+use Rattle.stab_treecore.proofs.Kept.{none_or_some, OnPath, path_up}
+use Rattle.stab_treecore.proofs.NodesSince.{complete_since, since_spared}
+use Rattle.stab_treecore.proofs.Obeying.{ObeysSince}
 use Rattle.stab_rounds.specs.Kinds.{Kind}
 use Rattle.stab_rounds.specs.TreeRounds.{IsHandedOn}
 use Rattle.stab_rounds.proofs.Drains.{Drained, top, under, drained_over}

@@ -10,14 +10,14 @@ use Rattle.stab_core.proofs.ForCallers.{prefix_of_itself, prefix_of_prefix}
 use Rattle.stab_tree.specs.Nodes.{Nodes, parent_at, root_of}
 use Rattle.stab_tree.specs.Steps.{Reaches, ancestor}
 use Rattle.stab_treecore.specs.WholeTree.{WholeTree, received}
-use Rattle.stab_faults.specs.declared.change.Change.{Change}
-use Rattle.stab_faults.specs.declared.change.Change.TheVariants.{Act, Publish, Restart, Strike}
-use Rattle.stab_faults.specs.Changes.{changes_replay}
-use Rattle.stab_faults.specs.Hits.{Spare, SpareLink}
-use Rattle.stab_faults.specs.Since.{IsState, acked_at, gained}
-use Rattle.stab_faults.proofs.Grown.{prefix_behind}
-use Rattle.stab_faults.proofs.Kept.{none_or_some, OnPath, path_up, Since}
-use Rattle.stab_faults.proofs.NodesSince.{since_spared}
+use Rattle.stab_treecore.specs.declared.change.Change.{Change}
+use Rattle.stab_treecore.specs.declared.change.Change.TheVariants.{Act, Publish, Restart, Strike}
+use Rattle.stab_treecore.specs.Changes.{changes_replay}
+use Rattle.stab_treecore.specs.Hits.{Spare, SpareLink}
+use Rattle.stab_treecore.specs.Since.{IsState, acked_at, gained}
+use Rattle.stab_treecore.proofs.Grown.{prefix_behind}
+use Rattle.stab_treecore.proofs.Kept.{none_or_some, OnPath, path_up, Since}
+use Rattle.stab_treecore.proofs.NodesSince.{since_spared}
 use Rattle.stab_rounds.specs.TreeRounds.{IsHandedOn}
 use Rattle.stab_convergence.specs.Exact.{IsExact, IsPathClean, IsWaiting}
 use Rattle.stab_convergence.proofs.Settled.{Passes, passes}

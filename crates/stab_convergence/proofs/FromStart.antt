@@ -17,12 +17,12 @@ use Rattle.stab_treecore.specs.Paths.{path_sum, sum_above}
 use Rattle.stab_treecore.specs.TreeReplay.{initial_tree, opened}
 use Rattle.stab_treecore.specs.WholeTree.{WholeTree, received}
 use Rattle.stab_treecore.proofs.ForChanges.{opening_is_run}
-use Rattle.stab_faults.specs.declared.change.Change.{Change}
-use Rattle.stab_faults.specs.Changes.{changes_replay}
-use Rattle.stab_faults.specs.Hits.{Spare}
-use Rattle.stab_faults.specs.Since.{IsState, backlog, capacity_at, moment}
-use Rattle.stab_faults.proofs.Obeying.{ObeysSince, PassesOnExactly}
-use Rattle.stab_faults.proofs.States.{opening_fed}
+use Rattle.stab_treecore.specs.declared.change.Change.{Change}
+use Rattle.stab_treecore.specs.Changes.{changes_replay}
+use Rattle.stab_treecore.specs.Hits.{Spare}
+use Rattle.stab_treecore.specs.Since.{IsState, backlog, capacity_at, moment}
+use Rattle.stab_treecore.proofs.Obeying.{ObeysSince, PassesOnExactly}
+use Rattle.stab_treecore.proofs.States.{opening_fed}
 use Rattle.stab_rounds.proofs.TreeSteps.{At, fixed_of, IsSound, known, linked, of_link, root_has, run_is_sound}
 use Rattle.stab_rounds.specs.Kinds.{Kind}
 use Rattle.stab_rounds.proofs.ByKind.{times}

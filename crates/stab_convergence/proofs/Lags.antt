@@ -13,7 +13,7 @@ use Rattle.stab_tree.proofs.ForCallers.{child_is_deeper, holds_at_every_depth}
 use Rattle.stab_treecore.specs.Paths.{path_sum, sum_above}
 use Rattle.stab_treecore.specs.WholeTree.{WholeTree, received, source}
 use Rattle.stab_treecore.proofs.ForChanges.{sum_above-add}
-use Rattle.stab_faults.specs.Since.{IsState, backlog, capacity_at}
+use Rattle.stab_treecore.specs.Since.{IsState, backlog, capacity_at}
 use Rattle.stab_rounds.proofs.Coming.{to_come, few_idle, few_coming}
 use Rattle.stab_rounds.proofs.ByKind.{times}
 use Rattle.stab_rounds.proofs.Most.{Most, top, next_most, received_few}

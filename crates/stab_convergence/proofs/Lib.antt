@@ -12,3 +12,11 @@ pub mod Ahead
 pub mod Meanwhile
 pub mod Onwards
 pub mod ByDepth
+pub mod FedLink
+pub mod StartKinds
+pub mod TreeRuns
+pub mod Refitted
+pub mod PathSums
+pub mod NoSmaller
+pub mod Downwards
+pub mod Reached

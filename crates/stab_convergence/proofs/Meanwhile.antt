@@ -14,16 +14,16 @@ use Rattle.stab_tree.specs.Steps.{Reaches, depth_of}
 use Rattle.stab_tree.proofs.ForCallers.{child_is_deeper}
 use Rattle.stab_treecore.specs.TreeReplay.{tree_replay}
 use Rattle.stab_treecore.specs.WholeTree.{WholeTree, received}
-use Rattle.stab_faults.specs.declared.change.Change.{Change}
-use Rattle.stab_faults.specs.Changes.{changes_replay}
-use Rattle.stab_faults.specs.Hits.{Spare}
-use Rattle.stab_faults.specs.Moment.{Moment, SharperCompleteSince, fewest_since, garbage_since, missing_since, published_above, published_since, strays_since}
-use Rattle.stab_faults.specs.Since.{IsState, acked_at, capacity_at, gained, moment}
-use Rattle.stab_faults.proofs.Contained.{changes-append}
-use Rattle.stab_faults.proofs.Grown.{dropped_front, prefix_no_longer}
-use Rattle.stab_faults.proofs.Kept.{none_or_some, OnPath, path_up}
-use Rattle.stab_faults.proofs.NodesSince.{sharper_complete_since, since_spared}
-use Rattle.stab_faults.proofs.Obeying.{ObeysSince, PassesOnExactly}
+use Rattle.stab_treecore.specs.declared.change.Change.{Change}
+use Rattle.stab_treecore.specs.Changes.{changes_replay}
+use Rattle.stab_treecore.specs.Hits.{Spare}
+use Rattle.stab_treecore.specs.Moment.{Moment, SharperCompleteSince, fewest_since, garbage_since, missing_since, published_above, published_since, strays_since}
+use Rattle.stab_treecore.specs.Since.{IsState, acked_at, capacity_at, gained, moment}
+use Rattle.stab_treecore.proofs.Contained.{changes-append}
+use Rattle.stab_treecore.proofs.Grown.{dropped_front, prefix_no_longer}
+use Rattle.stab_treecore.proofs.Kept.{none_or_some, OnPath, path_up}
+use Rattle.stab_treecore.proofs.NodesSince.{sharper_complete_since, since_spared}
+use Rattle.stab_treecore.proofs.Obeying.{ObeysSince, PassesOnExactly}
 use Rattle.stab_treecore.specs.Paths.{path_sum}
 use Rattle.stab_treecore.specs.SharperLaw.{SharperCompleteLaw}
 use Rattle.stab_treecore.specs.TreeLaw.{CompleteLaw}

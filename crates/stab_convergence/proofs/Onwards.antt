@@ -19,12 +19,12 @@ use Rattle.stab_tree.specs.Steps.{Reaches, ancestor}
 use Rattle.stab_treecore.specs.declared.event.TreeEvent.{TreeEvent}
 use Rattle.stab_treecore.specs.TreeReplay.{tree_replay}
 use Rattle.stab_treecore.specs.WholeTree.{WholeTree, received}
-use Rattle.stab_faults.specs.Since.{IsState, acked_at, capacity_at}
-use Rattle.stab_faults.proofs.Contained.{dropped_behind}
-use Rattle.stab_faults.proofs.Grown.{drop-past, prefix_dropped, prefix_no_longer, replay_delivers}
-use Rattle.stab_faults.proofs.Kept.{none_or_some, OnPath, path_up, Since}
-use Rattle.stab_faults.proofs.NodesSince.{has_link}
-use Rattle.stab_faults.proofs.Obeying.{PassesOnExactly}
+use Rattle.stab_treecore.specs.Since.{IsState, acked_at, capacity_at}
+use Rattle.stab_treecore.proofs.Contained.{dropped_behind}
+use Rattle.stab_treecore.proofs.Grown.{drop-past, prefix_dropped, prefix_no_longer, replay_delivers}
+use Rattle.stab_treecore.proofs.Kept.{none_or_some, OnPath, path_up, Since}
+use Rattle.stab_treecore.proofs.NodesSince.{has_link}
+use Rattle.stab_treecore.proofs.Obeying.{PassesOnExactly}
 use Rattle.stab_rounds.proofs.TreeSteps.{acked_few, known, linked, of_link, offered_few, received_grows}
 use Rattle.stab_convergence.proofs.Ahead.{Ahead, past, same}
 use Rattle.stab_convergence.proofs.Lags.{fixed_at}

@@ -6,15 +6,15 @@ use Rattle.stab_core.specs.LinkLaw.{LinkLaw}
 use Rattle.stab_treecore.specs.Network.{IsNetwork, Network}
 use Rattle.stab_treecore.specs.TreeReplay.{initial_tree, tree_replay}
 use Rattle.stab_treecore.specs.WholeTree.{WholeTree}
-use Rattle.stab_faults.specs.declared.change.Change.{Change}
-use Rattle.stab_faults.specs.declared.change.Change.TheVariants.{Act}
-use Rattle.stab_faults.specs.Changes.{Fit, changes_replay}
-use Rattle.stab_faults.specs.Hits.{Spare}
-use Rattle.stab_faults.specs.Since.{IsState, capacity_at, moment}
-use Rattle.stab_faults.proofs.Contained.{changes-append}
-use Rattle.stab_faults.proofs.Obeying.{ObeysSince}
-use Rattle.stab_faults.proofs.Running.{fit_front}
-use Rattle.stab_faults.proofs.Schedules.{schedule_state}
+use Rattle.stab_treecore.specs.declared.change.Change.{Change}
+use Rattle.stab_treecore.specs.declared.change.Change.TheVariants.{Act}
+use Rattle.stab_treecore.specs.Changes.{Fit, changes_replay}
+use Rattle.stab_treecore.specs.Hits.{Spare}
+use Rattle.stab_treecore.specs.Since.{IsState, capacity_at, moment}
+use Rattle.stab_treecore.proofs.Contained.{changes-append}
+use Rattle.stab_treecore.proofs.Obeying.{ObeysSince}
+use Rattle.stab_treecore.proofs.Running.{fit_front}
+use Rattle.stab_treecore.proofs.Schedules.{schedule_state}
 use Rattle.stab_rounds.specs.Kinds.{reading}
 use Rattle.stab_rounds.specs.ReadingRounds.{offer, reading_from}
 use Rattle.stab_rounds.specs.TreeRounds.{acts_on, IsOpen}

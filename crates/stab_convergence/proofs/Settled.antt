@@ -7,12 +7,12 @@ use Rattle.std.proofs.lemmas.List.{append-nil, length-append, length-drop}
 use Rattle.stab_core.proofs.PassedOn.{clean_link}
 use Rattle.stab_tree.specs.Nodes.{Nodes, parent_at}
 use Rattle.stab_treecore.specs.WholeTree.{WholeTree, received}
-use Rattle.stab_faults.specs.declared.change.Change.{Change}
-use Rattle.stab_faults.specs.Changes.{changes_replay}
-use Rattle.stab_faults.specs.Hits.{SpareLink}
-use Rattle.stab_faults.specs.Since.{IsState, acked_at, capacity_at, gained}
-use Rattle.stab_faults.proofs.Contained.{contained}
-use Rattle.stab_faults.proofs.Grown.{dropped_front, front_and_rest}
+use Rattle.stab_treecore.specs.declared.change.Change.{Change}
+use Rattle.stab_treecore.specs.Changes.{changes_replay}
+use Rattle.stab_treecore.specs.Hits.{SpareLink}
+use Rattle.stab_treecore.specs.Since.{IsState, acked_at, capacity_at, gained}
+use Rattle.stab_treecore.proofs.Contained.{contained}
+use Rattle.stab_treecore.proofs.Grown.{dropped_front, front_and_rest}
 use Rattle.stab_convergence.specs.Exact.{PassesAll}
 
 -- a front that is as long is the whole

@@ -2,9 +2,9 @@
 -- above it.
 -- Source: this project's own.
 use Rattle.std.specs.Prelude.{◌≡◌, ℕ, List, Some}
-use Rattle.stab_faults.specs.Moment.{Moment, garbage_since, missing_since, published_since}
-use Rattle.stab_faults.specs.Moment.{strays_since}
-use Rattle.stab_faults.specs.Since.{gained, moment}
+use Rattle.stab_treecore.specs.Moment.{Moment, garbage_since, missing_since, published_since}
+use Rattle.stab_treecore.specs.Moment.{strays_since}
+use Rattle.stab_treecore.specs.Since.{gained, moment}
 use Rattle.stab_rounds.specs.TreeRounds.{IsHandedOn}
 use Rattle.stab_tree.specs.Nodes.{parent_at}
 use Rattle.stab_tree.specs.Steps.{Reaches}

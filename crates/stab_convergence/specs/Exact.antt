@@ -8,7 +8,7 @@ use Rattle.std.specs.Prelude.{◌≡◌, ℕ, zero, suc, ◌+◌, ◌*◌, ◌�
 use Rattle.std.specs.Prelude.{Some, None}
 use mathlib.Core.List.{IsPrefix}
 use Rattle.stab_convergence.specs.Converged.{IsPathHandedOn}
-use Rattle.stab_faults.specs.Since.{acked_at, capacity_at, gained}
+use Rattle.stab_treecore.specs.Since.{acked_at, capacity_at, gained}
 use Rattle.stab_tree.specs.Nodes.{parent_at, root_of}
 use Rattle.stab_tree.specs.Steps.{Reaches}
 use Rattle.stab_treecore.specs.WholeTree.{WholeTree, received}

@@ -4,3 +4,4 @@ pub mod Arrival
 pub mod Exact
 pub mod Greatest
 pub mod Meanwhile
+pub mod Misses

@@ -8,9 +8,9 @@ use Rattle.std.specs.Prelude.{◌≡◌, ◌≤◌, ℕ, ◌+◌, ◌*◌, List,
 use mathlib.Core.List.{IsPrefix}
 use Rattle.stab_convergence.specs.Converged.{IsPathHandedOn}
 use Rattle.stab_convergence.specs.Exact.{IsPathClean}
-use Rattle.stab_faults.specs.Moment.{fewest_since, garbage_since, missing_since, published_since}
-use Rattle.stab_faults.specs.Moment.{strays_since}
-use Rattle.stab_faults.specs.Since.{capacity_at, gained, moment}
+use Rattle.stab_treecore.specs.Moment.{fewest_since, garbage_since, missing_since, published_since}
+use Rattle.stab_treecore.specs.Moment.{strays_since}
+use Rattle.stab_treecore.specs.Since.{capacity_at, gained, moment}
 use Rattle.stab_tree.specs.Nodes.{parent_at, root_of}
 use Rattle.stab_tree.specs.Steps.{Reaches}
 use Rattle.stab_treecore.specs.Paths.{path_sum}

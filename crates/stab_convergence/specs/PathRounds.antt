@@ -8,10 +8,10 @@
 use Rattle.std.specs.Prelude.{◌≡◌, ℕ, zero, suc, ◌+◌, ◌*◌, ◌≤◌, List, [], ◌∷◌, ◌++◌, length, Some, false}
 use Rattle.std.specs.Option.{option_map_or}
 use Rattle.stab_core.specs.Link.{LinkValue}
-use Rattle.stab_faults.specs.declared.change.Change.{Change}
-use Rattle.stab_faults.specs.declared.change.Change.TheVariants.{Act, Publish, Restart, Strike}
-use Rattle.stab_faults.specs.Moment.{Moment}
-use Rattle.stab_faults.specs.Since.{capacity_at}
+use Rattle.stab_treecore.specs.declared.change.Change.{Change}
+use Rattle.stab_treecore.specs.declared.change.Change.TheVariants.{Act, Publish, Restart, Strike}
+use Rattle.stab_treecore.specs.Moment.{Moment}
+use Rattle.stab_treecore.specs.Since.{capacity_at}
 use Rattle.stab_rounds.specs.Kinds.{Kind, rounds_among, rounds_an_item}
 use Rattle.stab_rounds.specs.TreeRounds.{acts_on}
 use Rattle.stab_tree.specs.Nodes.{parent_at}

@@ -8,12 +8,12 @@ ghost use Rattle.stab_convergence.specs.Meanwhile.{HasAllBefore, IsEnough};
 ghost use Rattle.stab_convergence.specs.PathRounds.{IsPathOpen, PathRounds, TakesAtMost};
 ghost use Rattle.stab_convergence.specs.PathRounds.{acts_among, rounds_since};
 ghost use mathlib.Core.List.{IsPrefix};
-ghost use Rattle.stab_faults.specs.declared.change.Change.{Change};
-ghost use Rattle.stab_faults.specs.Changes.{Fit, changes_replay};
-ghost use Rattle.stab_faults.specs.Hits.{Spare, SpareLink};
-ghost use Rattle.stab_faults.specs.Moment.{fewest_since, missing_since, published_since};
-ghost use Rattle.stab_faults.specs.Since.{IsState, acked_at, backlog, capacity_at, gained, moment};
-ghost use Rattle.stab_faults.specs.Since.{queued_at};
+ghost use Rattle.stab_treecore.specs.declared.change.Change.{Change};
+ghost use Rattle.stab_treecore.specs.Changes.{Fit, changes_replay};
+ghost use Rattle.stab_treecore.specs.Hits.{Spare, SpareLink};
+ghost use Rattle.stab_treecore.specs.Moment.{fewest_since, missing_since, published_since};
+ghost use Rattle.stab_treecore.specs.Since.{IsState, acked_at, backlog, capacity_at, gained, moment};
+ghost use Rattle.stab_treecore.specs.Since.{queued_at};
 ghost use Rattle.stab_rounds.specs.Kinds.{Kind, plain, reading};
 ghost use Rattle.stab_rounds.specs.TreePlayed.{play_reads};
 ghost use Rattle.stab_rounds.specs.TreeRounds.{IsOpen};
@@ -182,7 +182,7 @@ pub fn faults_beneath_a_converged_node()
 /// And no fault costs more further down. A link that has acknowledged `2c + 2` items since any
 /// state, and all that its parent has, passes on exactly what its parent receives, strays too, as
 /// long as no fault touches it, whatever faults there are above. Where it has not acknowledged all,
-/// `stab_faults::laws::clean_links_contain_faults` says from which place on.
+/// `stab_treecore::change_laws::clean_links_contain_faults` says from which place on.
 pub fn settled_links_add_nothing()
     ensures { (tree : Nodes) (s : WholeTree) (before after : List Change) (w parent : ℕ)
         → IsState tree s → parent_at s.parents w ≡ Some parent

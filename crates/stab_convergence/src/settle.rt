@@ -1,10 +1,10 @@
 ghost use Rattle.std.specs.Prelude.{◌≡◌, ◌<◌, ◌≤◌, ◌⊎◌, ℕ, List, ◌++◌, IfOk, IfErr, length};
 ghost use Rattle.stab_convergence.specs.Converged.{HasConverged};
 ghost use Rattle.stab_convergence.specs.PathRounds.{rounds_since};
-ghost use Rattle.stab_faults.specs.Changes.{changes_replay};
-ghost use Rattle.stab_faults.specs.Hits.{Spare};
-ghost use Rattle.stab_faults.specs.Refusals.{IsChangeReason};
-ghost use Rattle.stab_faults.specs.Since.{capacity_at, moment};
+ghost use Rattle.stab_treecore.specs.Changes.{changes_replay};
+ghost use Rattle.stab_treecore.specs.Hits.{Spare};
+ghost use Rattle.stab_treecore.specs.ChangeRefusals.{IsChangeReason};
+ghost use Rattle.stab_treecore.specs.Since.{capacity_at, moment};
 ghost use Rattle.stab_rounds.specs.TreePlayed.{play_reads};
 ghost use Rattle.stab_rounds.specs.TreeRounds.{IsOpen};
 ghost use Rattle.stab_tree.specs.NodeOpenings.{FitTree};
@@ -13,10 +13,9 @@ ghost use Rattle.stab_treecore.specs.TreeReplay.{initial_tree, tree_replay};
 
 use crate::laws;
 use stab_core::Start;
-use stab_faults::{Change, ChangeFault};
 use stab_frames::{Item, Params};
 use stab_tree::{Openings, Tree};
-use stab_treecore::{TreeState, TreeStepFault};
+use stab_treecore::{Change, ChangeFault, TreeState, TreeStepFault};
 use std::alloc::Global;
 
 /// The whole tree after these changes, and then after `rounds` reading rounds of every link, each
@@ -54,7 +53,7 @@ pub fn run_and_settle(
         → rounds_since 1 (moment m) node ≤ rounds
         → HasConverged s state node) }
 {
-    let mut state = stab_faults::run_changes(
+    let mut state = stab_treecore::run_changes(
         alloc, params, tree, published, starts, openings, changes,
     )?;
     stab_rounds::apply_reading_rounds(alloc, tree, &mut state, capacity, rounds)?;

@@ -9,3 +9,8 @@ pub mod Refused
 pub mod Rescheduled
 pub mod Scheduled
 pub mod Schedules
+pub mod Lists
+pub mod Steps
+pub mod Parts
+pub mod Named
+pub mod Kept

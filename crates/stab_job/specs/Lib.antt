@@ -10,3 +10,6 @@ pub mod JobMembers
 pub mod BorrowedMembers
 pub mod Jobs
 pub mod ReadParts
+pub mod Parts
+pub mod Steps
+pub mod Unscheduled

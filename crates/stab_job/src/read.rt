@@ -51,7 +51,7 @@ const MAX_TURNS: u64 = 1_000_000;
 /// The job that these bytes mean, or the first check that they fail; memory may be refused before a
 /// later check.
 #[tactic(auto, using(stab_json::proofs::ForCallers::some_bytes))]
-pub fn read_job(alloc: Global, bytes: &[u8]) -> Result<Job, JobFault>
+pub fn read_job_by_value(alloc: Global, bytes: &[u8]) -> Result<Job, JobFault>
     ensures job { MatchResult result
         (λ its_job. job bytes.now ≡ Ok its_job)
         (λ fault. fault ≢ JobFault.Memory → job bytes.now ≡ Err fault) }

@@ -3,3 +3,8 @@ pub mod Rooms
 pub mod SameActs
 pub mod SameCalls
 pub mod Starts
+pub mod Bytes
+pub mod Places
+pub mod Runs
+pub mod Codes
+pub mod Marks

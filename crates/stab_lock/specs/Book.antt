@@ -14,7 +14,7 @@ use Rattle.stab_core.specs.Link.{LinkValue, link_at, Grows}
 use Rattle.stab_core.specs.LinkState.{LinkState}
 use Rattle.stab_core.specs.Replay.{initial, replay}
 use Rattle.stab_core.specs.Step.{effect}
-use Rattle.stab_history.specs.History.{IsLast, most_events}
+use Rattle.stab_lock.specs.History.{IsLast, most_events}
 
 pub record Book : Type 0 where
   pub params : Parameters

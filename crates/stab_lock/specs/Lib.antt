@@ -4,3 +4,6 @@ pub mod Settling
 pub mod Ends
 pub mod Scripted
 pub mod Taken
+pub mod History
+pub mod CodesInside
+pub mod HistoryInside

@@ -6,12 +6,12 @@ ghost use Rattle.stab_core.specs.LinkLaw.{LinkLaw};
 ghost use Rattle.stab_core.specs.LinkState.{LinkState};
 ghost use Rattle.stab_core.specs.Replay.{IsLawful, start_items};
 ghost use Rattle.stab_core.specs.Step.{effect, step};
-ghost use Rattle.stab_history.specs.History.{most_events};
+ghost use Rattle.stab_lock.specs.History.{most_events};
 ghost use Rattle.stab_lock.specs.Book.{Book, book_of, state_of, link_of, book_after, MayRefuse};
 
+use crate::history::History;
 use stab_core::{Effect, Event, Link, Start, StartFault};
 use stab_frames::{Item, Params};
-use stab_history::History;
 use std::alloc::{AllocError, Global};
 use std::marker::Model;
 

@@ -10,8 +10,8 @@ use Rattle.stab_tree.specs.Links.{links_from, links_of}
 use Rattle.stab_tree.specs.Nodes.{parent_at}
 use Rattle.stab_tree.specs.ByChild.{by_child}
 use Rattle.stab_tree.proofs.ForCallers.{linked_nodes, map-by_child, not_of_nothing}
-use Rattle.stab_scatter.proofs.ForCallers.{by_parent_at, same_maps}
-use Rattle.stab_scatter.specs.Scattering.{by_parent, to_children}
+use Rattle.stab_node.proofs.ByParent.{by_parent_at, same_maps}
+use Rattle.stab_node.specs.Scattering.{by_parent, to_children}
 
 -- ---- by parent
 

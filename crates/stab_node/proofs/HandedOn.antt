@@ -19,7 +19,7 @@ use Rattle.stab_tree.specs.NodeOpenings.{opening_at}
 use Rattle.stab_node.proofs.Firsts.{first_at_root, initial_at_child}
 use Rattle.stab_node.specs.InitialItems.{initial_at}
 use Rattle.stab_node.specs.ByNode.{ended_at, entry_into, received_at}
-use Rattle.stab_scatter.specs.Scattering.{by_parent}
+use Rattle.stab_node.specs.Scattering.{by_parent}
 
 -- a node that a link leads into begins with its opening
 first_below : {A : Type 0} (root : ℕ) (published : List ℕ) (openings : List (List ℕ)) (parents : List (Option ℕ)) (xs : List A) (child : ℕ) (x : A)

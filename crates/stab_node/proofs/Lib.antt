@@ -8,3 +8,6 @@ pub mod Joined
 pub mod Worked
 pub mod HandedOn
 pub mod Offers
+pub mod Scattered
+pub mod ByParent
+pub mod GatheredByParent

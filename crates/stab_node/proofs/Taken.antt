@@ -4,7 +4,7 @@ use Rattle.std.proofs.lemmas.List.{append-nil, map-append, map-id, length-append
 use Rattle.std.proofs.lemmas.List.FromFn.{map-range_with_len_more}
 use Rattle.std.specs.List.{range_with_len}
 use Rattle.stab_tree.specs.ByChild.{by_child}
-use Rattle.stab_scatter.proofs.ForCallers.{next_parent}
+use Rattle.stab_node.proofs.ByParent.{next_parent}
 
 module _ {A : Type 0} (parents : List (Option ℕ)) (i : ℕ) (in_list : i < length parents) where
   -- nothing belongs to a link into the root

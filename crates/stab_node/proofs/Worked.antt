@@ -8,8 +8,8 @@ use Rattle.std.specs.List.{AllZip, range_with_len}
 use Rattle.stab_ends.specs.Accounts.{ReceiverAccount, SenderAccount, new_receiver, new_sender}
 use Rattle.stab_node.specs.Work.{AreNew}
 use Rattle.stab_tree.specs.ByChild.{by_child}
-use Rattle.stab_scatter.proofs.ForCallers.{all_to_children}
-use Rattle.stab_scatter.specs.Scattering.{by_parent, to_children}
+use Rattle.stab_node.proofs.ByParent.{all_to_children}
+use Rattle.stab_node.specs.Scattering.{by_parent, to_children}
 use Rattle.stab_node.specs.FirstFault.{AreOver, IsFirstOf, IsReasonAmong, StopsAt}
 use Rattle.stab_node.specs.Runs.{IsWorkersReason}
 use Rattle.stab_node.specs.Turns.{IsRefused}

@@ -6,3 +6,4 @@ pub mod ByNode
 pub mod FirstFault
 pub mod InitialItems
 pub mod Runs
+pub mod Scattering

@@ -2,8 +2,8 @@ ghost use Rattle.std.specs.Prelude.{◌≡◌, [], ◌∷◌, ◌++◌, IfOk, On
 ghost use Rattle.std.specs.Prelude.{option_to_list};
 
 use crate::account::{Ended, NodeAccount};
+use crate::queue::Queue;
 use stab_frames::{Item, Sequence};
-use stab_scatter::Queue;
 use std::alloc::{AllocError, Global};
 
 /// The accounts of all nodes, taken apart: each part by node, in file order, and of the upper ends

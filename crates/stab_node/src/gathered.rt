@@ -1,12 +1,12 @@
 ghost use Rattle.std.specs.Prelude.{◌≡◌, IfOk, is_some, length, map};
 ghost use Rattle.stab_tree.specs.Links.{links_of};
 ghost use Rattle.stab_tree.specs.ByChild.{by_child};
-ghost use Rattle.stab_scatter.specs.Scattering.{by_parent, child_counts};
+ghost use Rattle.stab_node.specs.Scattering.{by_parent, child_counts};
 
 use crate::account::{Ended, NodeAccount};
 use crate::columns::{Columns, take_apart};
+use crate::gather::gather_by_parent;
 use stab_frames::{Item, Sequence};
-use stab_scatter::gather_by_parent;
 use stab_tree::Tree;
 use std::alloc::{AllocError, Global};
 

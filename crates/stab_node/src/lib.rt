@@ -11,18 +11,28 @@
 //!
 //! Contracts say where each thing goes by two functions from the parents of a tree and a list with
 //! one entry per link: `by_child` has beside each node what belongs to the link into it, and
-//! `by_parent` what belongs to the links to its children.
+//! `by_parent` what belongs to the links to its children, which are a queue.
+//!
+//! [`Free`] is the gate of `stab run`, which refuses no turn and keeps the workers of a run near
+//! each other: what it knows of a turn that it let begin is nothing, and of one that it refused
+//! that there is none. How the workers wait for each other decides how fast a run is, on a machine
+//! of its own and beside other programs; no contract speaks of it.
 #![tactic(auto)]
 
 mod account;
+mod by_parent;
 mod columns;
 mod downs;
 mod fault;
 mod first;
+mod free;
 mod gate;
+mod gather;
 mod gathered;
+mod queue;
 mod run;
 mod scatter;
+mod seat;
 mod upstream;
 mod worker;
 mod worker_ends;
@@ -31,6 +41,7 @@ mod workers_fault;
 
 pub use account::{Ended, NodeAccount};
 pub use fault::NodeFault;
+pub use free::Free;
 pub use gate::Gate;
 pub use gathered::Gathered;
 pub use run::run_workers;

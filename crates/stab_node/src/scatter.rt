@@ -1,10 +1,11 @@
 ghost use Rattle.std.specs.Prelude.{◌≡◌, ◌<◌, ◌+◌, ◌∷◌, IfOk, drop, length, map};
 ghost use Rattle.std.specs.List.{range_with_len};
 ghost use Rattle.stab_tree.specs.ByChild.{by_child};
-ghost use Rattle.stab_scatter.specs.Scattering.{by_parent};
+ghost use Rattle.stab_node.specs.Scattering.{by_parent};
 
+use crate::by_parent::scatter_by_parent;
+use crate::queue::Queue;
 use crate::worker_ends::WorkerEnds;
-use stab_scatter::{Queue, scatter_by_parent};
 use stab_tree::{NodeId, Tree};
 use std::alloc::{AllocError, Global};
 

@@ -17,19 +17,19 @@ use Rattle.stab_treecore.specs.Network.{Network}
 use Rattle.stab_node.proofs.ForCallers.{holds_by_child, length-by_child}
 use Rattle.stab_node.specs.ByNode.{entry_into, received_at}
 use Rattle.stab_word.specs.Interleaving.{AnInterleavingExplains}
-use Rattle.stab_links.specs.AnyLinks.{HasSent, IsFollowed, IsOneOf, IsScriptOf, given_to, kind_of, received_by, sent_by}
+use Rattle.stab_run.specs.AnyLinks.{HasSent, IsFollowed, IsOneOf, IsScriptOf, given_to, kind_of, received_by, sent_by}
 use Rattle.stab_node.specs.Work.{HasOffered, OffersUnlessRefused}
-use Rattle.stab_links.specs.AnyEnds.{MayRefuseOffer}
+use Rattle.stab_run.specs.AnyEnds.{MayRefuseOffer}
 use Rattle.stab_run.specs.ByScript.{AreByLockedScript, AreByScript}
-use Rattle.stab_links.specs.LinkKinds.{LinkKind, behind_lock, kind_for, two_words}
-use Rattle.stab_links.specs.Settled.{IsSettled, IsSettledByScript}
+use Rattle.stab_run.specs.LinkKinds.{LinkKind, behind_lock, kind_for, two_words}
+use Rattle.stab_run.specs.Settled.{IsSettled, IsSettledByScript}
 use Rattle.stab_run.specs.LinkRuns.{AllOfEach, AreSettled, IsJobRun, acked_of}
 use Rattle.stab_run.specs.Reports.{OnePerNode, Reported, acked_at}
 use Rattle.stab_run.specs.Runs.{AreExplained, HandsOn, RootHas}
-use Rattle.stab_links.specs.Scripted.{FollowPlans, IsLetThrough, LinkPlan, ScriptedRecvFinished, ScriptedSendFinished, ack_stores, frame_stores, plan}
-use Rattle.stab_links.specs.declared.any_link.AnyLink.{AnyLink}
-use Rattle.stab_links.specs.declared.any_link.AnyLink.TheVariants.{Lock, Word}
-use Rattle.stab_links.specs.declared.links.Links.{Links}
+use Rattle.stab_run.specs.Scripted.{FollowPlans, IsLetThrough, LinkPlan, ScriptedRecvFinished, ScriptedSendFinished, ack_stores, frame_stores, plan}
+use Rattle.stab_run.specs.declared.any_link.AnyLink.{AnyLink}
+use Rattle.stab_run.specs.declared.any_link.AnyLink.TheVariants.{Lock, Word}
+use Rattle.stab_run.specs.declared.links.Links.{Links}
 use Rattle.stab_run.proofs.OfKinds.{IsWord}
 use Rattle.stab_run.proofs.Paired.{entry_mapped, paired_entry, same_entry}
 use Rattle.stab_tree.proofs.ForCallers.{no_link_into}

@@ -6,3 +6,5 @@ pub mod Unlawful
 pub mod Settlements
 pub mod Explained
 pub mod Complete
+pub mod Different
+pub mod InOrder

@@ -3,9 +3,9 @@ use Rattle.std.proofs.Common.{◌≡◌, ◌==◌, ◌<◌, ℕ, List, [], ◌�
 use Rattle.std.proofs.lemmas.List.Elements.{All-cons, All-nil}
 use Rattle.stab_frames.specs.Parameters.{Parameters}
 use Rattle.stab_core.specs.LinkSetup.{LinkSetup}
-use Rattle.stab_links.specs.LinkKinds.{HaveOnePlace, IsLarge, IsLocked, LinkKind, behind_lock, two_words}
-use Rattle.stab_links.specs.declared.links.Links.{Links}
-use Rattle.stab_links.specs.declared.links.Links.TheVariants.{Locked, Words, Mixed}
+use Rattle.stab_run.specs.LinkKinds.{HaveOnePlace, IsLarge, IsLocked, LinkKind, behind_lock, two_words}
+use Rattle.stab_run.specs.declared.links.Links.{Links}
+use Rattle.stab_run.specs.declared.links.Links.TheVariants.{Locked, Words, Mixed}
 
 -- where the parameters of all links have the capacity that a run asks for, so have those of one
 pub one_of_all : (links : Links) (params : List Parameters) (place : ℕ) (p : Parameters) → place < length params → p ≡ get_or params place p

@@ -7,11 +7,11 @@ use Rattle.stab_node.specs.declared.account.Ended.{Ended}
 use Rattle.stab_node.specs.Runs.{HaveAsked, IsWorkersReason}
 use Rattle.stab_node.specs.declared.workers_fault.WorkersFault.{WorkersFault}
 use Rattle.stab_node.specs.declared.workers_fault.WorkersFault.TheVariants as workers
-use Rattle.stab_links.specs.LinkKinds.{HaveOnePlace, IsLarge}
+use Rattle.stab_run.specs.LinkKinds.{HaveOnePlace, IsLarge}
 use Rattle.stab_run.specs.LinkRuns.{HoldsInto}
 use Rattle.stab_run.specs.RunFaults.{CanStart, IsRunReason, IsSettlingReason, IsStartReason, of_workers}
-use Rattle.stab_links.specs.declared.links.Links.{Links}
-use Rattle.stab_links.specs.declared.links.Links.TheVariants.{Mixed, Words}
+use Rattle.stab_run.specs.declared.links.Links.{Links}
+use Rattle.stab_run.specs.declared.links.Links.TheVariants.{Mixed, Words}
 use Rattle.stab_run.specs.declared.run_fault.RunFault.{RunFault}
 use Rattle.stab_run.specs.declared.run_fault.RunFault.TheVariants as run
 use Rattle.stab_run.proofs.OfKinds.{locked_is_large, no_lock_of_words}

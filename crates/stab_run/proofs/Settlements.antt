@@ -12,10 +12,10 @@ use Rattle.stab_tree.specs.Nodes.{parent_at}
 use Rattle.stab_tree.proofs.ForCallers.{no_link_into}
 use Rattle.stab_tree.specs.ByChild.{by_child}
 use Rattle.stab_node.specs.ByNode.{entry_into}
-use Rattle.stab_links.specs.AnyLinks.{IsFollowed, given_to, received_by, sent_by}
-use Rattle.stab_links.specs.Scripted.{ScriptedRecvFinished, ScriptedSendFinished}
-use Rattle.stab_links.specs.declared.any_link.AnyLink.{AnyLink}
-use Rattle.stab_links.specs.Settled.{IsSettled}
+use Rattle.stab_run.specs.AnyLinks.{IsFollowed, given_to, received_by, sent_by}
+use Rattle.stab_run.specs.Scripted.{ScriptedRecvFinished, ScriptedSendFinished}
+use Rattle.stab_run.specs.declared.any_link.AnyLink.{AnyLink}
+use Rattle.stab_run.specs.Settled.{IsSettled}
 use Rattle.stab_run.specs.LinkRuns.{AllOfEach, AreSettled, HoldsOfFirst, IsFirstRefused, SettledBefore, acked_of}
 
 -- what is left of one list with an entry for each link is what it has from this node on

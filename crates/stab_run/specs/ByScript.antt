@@ -21,10 +21,10 @@ use Rattle.stab_word.specs.declared.view.SendStep.{SendStep}
 use Rattle.stab_word.specs.declared.view.RecvStep.{RecvStep}
 use Rattle.stab_node.specs.ByNode.{entry_into, received_at}
 use Rattle.stab_node.specs.Work.{HasOffered}
-use Rattle.stab_links.specs.LinkKinds.{behind_lock, kind_for, two_words}
+use Rattle.stab_run.specs.LinkKinds.{behind_lock, kind_for, two_words}
 use Rattle.stab_run.specs.Reports.{Reported, acked_at}
-use Rattle.stab_links.specs.Scripted.{IsLetThrough, ack_stores, frame_stores}
-use Rattle.stab_links.specs.declared.links.Links.{Links}
+use Rattle.stab_run.specs.Scripted.{IsLetThrough, ack_stores, frame_stores}
+use Rattle.stab_run.specs.declared.links.Links.{Links}
 use mathlib.Core.List.{IsPrefix}
 
 -- Some steps of the two ends of the link into a child, interleaved, explain what the report says of

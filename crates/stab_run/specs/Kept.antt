@@ -1,8 +1,8 @@
 -- Of which kinds the links are that a report keeps.
 -- Source: this project's own.
 use Rattle.std.specs.Prelude.{List, [], map}
-use Rattle.stab_links.specs.AnyLinks.{kind_of}
-use Rattle.stab_links.specs.LinkKinds.{LinkKind}
+use Rattle.stab_run.specs.AnyLinks.{kind_of}
+use Rattle.stab_run.specs.LinkKinds.{LinkKind}
 use Rattle.stab_run.specs.declared.kept_links.KeptLinks.{KeptLinks}
 use Rattle.stab_run.specs.declared.kept_links.KeptLinks.TheVariants.{None, Kept}
 

@@ -4,3 +4,8 @@ pub mod LinkRuns
 pub mod Kept
 pub mod ByScript
 pub mod Runs
+pub mod AnyEnds
+pub mod Scripted
+pub mod LinkKinds
+pub mod Settled
+pub mod AnyLinks

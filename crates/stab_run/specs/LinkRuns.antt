@@ -5,11 +5,11 @@ use Rattle.std.specs.Prelude.{◌≡◌, ◌<◌, ℕ, List, [], ◌∷◌, map,
 use Rattle.stab_core.specs.LinkSetup.{LinkSetup}
 use Rattle.stab_ends.specs.Accounts.{SenderAccount, ReceiverAccount}
 use Rattle.stab_job.specs.JobValues.{JobValue}
-use Rattle.stab_links.specs.AnyEnds.{MayRefuseOffer}
-use Rattle.stab_links.specs.AnyLinks.{HasReceived, HasSent, received_by, sent_by}
-use Rattle.stab_links.specs.Scripted.{ScriptedRecvFinished, ScriptedSendFinished, plan}
-use Rattle.stab_links.specs.Settled.{IsSettled}
-use Rattle.stab_links.specs.declared.any_link.AnyLink.{AnyLink}
+use Rattle.stab_run.specs.AnyEnds.{MayRefuseOffer}
+use Rattle.stab_run.specs.AnyLinks.{HasReceived, HasSent, received_by, sent_by}
+use Rattle.stab_run.specs.Scripted.{ScriptedRecvFinished, ScriptedSendFinished, plan}
+use Rattle.stab_run.specs.Settled.{IsSettled}
+use Rattle.stab_run.specs.declared.any_link.AnyLink.{AnyLink}
 use Rattle.stab_lock.specs.declared.settle.SettleFault.{SettleFault}
 use Rattle.stab_node.specs.declared.account.Ended.{Ended}
 use Rattle.stab_node.specs.ByNode.{entry_into}

@@ -6,7 +6,7 @@ use Rattle.std.specs.Prelude.{◌≡◌, ℕ, Bool, true, false, List, length, m
 use Rattle.std.specs.Prelude.{slice_index_or}
 use Rattle.stab_node.specs.declared.account.Ended.{Ended}
 use Rattle.stab_node.specs.declared.account.Ended.TheVariants.{Upstream, Turns}
-use Rattle.stab_links.specs.LinkKinds.{LinkKind}
+use Rattle.stab_run.specs.LinkKinds.{LinkKind}
 use Rattle.stab_report.specs.Reports.{ReportValue}
 
 -- by node in file order: what it received, how many items are acknowledged on the link into it, and

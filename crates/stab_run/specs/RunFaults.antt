@@ -10,11 +10,11 @@ use Rattle.stab_job.specs.JobValues.{JobValue, network}
 use Rattle.stab_ends.specs.Accounts.{SenderAccount, ReceiverAccount}
 use Rattle.stab_node.specs.declared.account.Ended.{Ended}
 use Rattle.stab_node.specs.Runs.{HaveAsked, IsWorkersReason}
-use Rattle.stab_links.specs.AnyLinks.{MayDiffer}
-use Rattle.stab_links.specs.LinkKinds.{HaveOnePlace, IsLocked}
+use Rattle.stab_run.specs.AnyLinks.{MayDiffer}
+use Rattle.stab_run.specs.LinkKinds.{HaveOnePlace, IsLocked}
 use Rattle.stab_run.specs.LinkRuns.{HoldsInto, IsFirstRefused}
 use Rattle.stab_run.specs.Runs.{IsFirstUnlawful}
-use Rattle.stab_links.specs.declared.links.Links.{Links}
+use Rattle.stab_run.specs.declared.links.Links.{Links}
 use Rattle.stab_run.specs.declared.run_fault.RunFault.{RunFault}
 use Rattle.stab_run.specs.declared.run_fault.RunFault.TheVariants as run
 use Rattle.stab_node.specs.declared.workers_fault.WorkersFault.{WorkersFault}

@@ -24,9 +24,9 @@ use Rattle.stab_treecore.specs.NodeLaws.{most_missing, most_strays, path_garbage
 use Rattle.stab_treecore.specs.TreeLaw.{CompleteLaw, TreeLaw}
 use Rattle.stab_node.specs.ByNode.{ended_at, entry_into, received_at}
 use Rattle.stab_run.specs.ByScript.{AreByLockedScript, AreByScript}
-use Rattle.stab_links.specs.LinkKinds.{HaveOnePlace, kind_for}
+use Rattle.stab_run.specs.LinkKinds.{HaveOnePlace, kind_for}
 use Rattle.stab_run.specs.Reports.{OnePerNode, Reported, acked_at}
-use Rattle.stab_links.specs.declared.links.Links.{Links}
+use Rattle.stab_run.specs.declared.links.Links.{Links}
 
 -- the root has the published items, and no link leads into it
 pub record RootHas (net : Network) (r : Reported) : Type 0 where

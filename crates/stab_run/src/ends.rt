@@ -3,17 +3,17 @@
 ghost use Rattle.std.specs.List.{AllZip};
 ghost use Rattle.std.specs.Prelude.{◌≡◌, ◌∷◌, ◌<◌, All, IfErr, IfOk, length, map};
 ghost use Rattle.stab_ends.specs.Accounts.{new_receiver, new_sender};
-ghost use Rattle.stab_links.specs.AnyLinks.{IsOpenedBy, Receives, Sends};
-ghost use Rattle.stab_links.specs.Scripted.{plan};
+ghost use Rattle.stab_run.specs.AnyLinks.{IsOpenedBy, Receives, Sends};
+ghost use Rattle.stab_run.specs.Scripted.{plan};
 ghost use Rattle.stab_node.specs.Runs.{HaveAsked, IsWorkersReason};
 ghost use Rattle.stab_run.specs.LinkRuns.{IsJobRun};
 ghost use Rattle.stab_tree.specs.Links.{links_of};
 
+use crate::any_link::{AnyLink, AnyOpening};
+use crate::scripted_recv::{ScriptedRecv, ScriptedRecvDone};
+use crate::scripted_send::{ScriptedSend, ScriptedSendDone};
 use stab_acts::Script;
 use stab_job::Job;
-use stab_links::{
-    AnyLink, AnyOpening, ScriptedRecv, ScriptedRecvDone, ScriptedSend, ScriptedSendDone,
-};
 use stab_node::{Gate, Gathered, WorkersFault, run_workers};
 use std::alloc::{AllocError, Global};
 use std::collections::VecDeque;

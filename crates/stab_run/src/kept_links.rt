@@ -1,4 +1,4 @@
-use stab_links::AnyLink;
+use crate::any_link::AnyLink;
 use std::snapshot::Snapshot;
 
 /// The links of a run before they were settled, in file order of the children, as its report keeps

@@ -4,7 +4,7 @@
 ghost use Rattle.std.specs.Prelude.{◌≡◌, ◌≢◌, ◌↔◌, ℕ, All, IfOk, IfErr, IsErrAnd, IsTrue, length};
 ghost use Rattle.stab_job.specs.JobValues.{network};
 ghost use Rattle.stab_lock.specs.declared.settle.SettleFault.{SettleFault};
-ghost use Rattle.stab_links.specs.LinkKinds.{IsLarge};
+ghost use Rattle.stab_run.specs.LinkKinds.{IsLarge};
 ghost use Rattle.stab_run.specs.LinkRuns.{HoldsInto};
 ghost use Rattle.stab_run.specs.RunFaults.{IsRunReason};
 ghost use Rattle.stab_run.specs.Runs.{IsReport, TreeLawByDepth};
@@ -12,12 +12,12 @@ ghost use Rattle.stab_node.specs.ByNode.{received_at};
 ghost use Rattle.stab_node.specs.Runs.{HaveAsked};
 
 use crate::laws;
+use crate::links::Links;
 use crate::report::Report;
 use crate::run::run;
 use crate::run_fault::RunFault;
 use stab_frames::Params;
 use stab_job::Job;
-use stab_links::Links;
 use stab_lock::SettleFault;
 use stab_node::Gate;
 use std::alloc::Global;

@@ -2,17 +2,20 @@
 
 ghost use Rattle.std.specs.List.{AllZip};
 ghost use Rattle.std.specs.Prelude.{◌≡◌, ◌<◌, ◌∷◌, All, IfErr, IfOk, OnOk, length, map};
-ghost use Rattle.stab_links.specs.AnyLinks.{HasReceived, HasSent, IsFollowed, IsOneOf, MayDiffer};
-ghost use Rattle.stab_links.specs.AnyLinks.{given_to, received_by, sent_by};
+ghost use Rattle.stab_run.specs.AnyLinks.{HasReceived, HasSent, IsFollowed, IsOneOf, MayDiffer};
+ghost use Rattle.stab_run.specs.AnyLinks.{given_to, received_by, sent_by};
 ghost use Rattle.stab_run.specs.LinkRuns.{AllOfEach, AreSettled, HoldsOfFirst, IsFirstSettled};
 ghost use Rattle.stab_run.specs.LinkRuns.{acked_of};
 ghost use Rattle.stab_run.specs.RunFaults.{IsSettlingReason};
 ghost use Rattle.stab_tree.specs.Links.{links_of};
 ghost use Rattle.stab_tree.specs.ByChild.{by_child};
 
+use crate::any_link::AnyLink;
+use crate::links::Links;
 use crate::run_fault::RunFault;
+use crate::scripted_recv::ScriptedRecvDone;
+use crate::scripted_send::ScriptedSendDone;
 use stab_ends::Settled;
-use stab_links::{AnyLink, Links, ScriptedRecvDone, ScriptedSendDone};
 use stab_lock::SettleFault;
 use stab_tree::{NodeId, Tree};
 use std::alloc::Global;

@@ -6,16 +6,17 @@ ghost use Rattle.stab_core.specs.Link.{IsReason};
 ghost use Rattle.stab_core.specs.LinkSetup.{CanBegin, setups};
 ghost use Rattle.stab_core.specs.Replay.{IsLawful};
 ghost use Rattle.stab_frames.specs.Parameters.{AreLawful};
-ghost use Rattle.stab_links.specs.AnyLinks.{IsOneOf, IsOpenedBy, IsScriptOf, given_to, kind_of};
-ghost use Rattle.stab_links.specs.LinkKinds.{HaveOnePlace, kind_for};
+ghost use Rattle.stab_run.specs.AnyLinks.{IsOneOf, IsOpenedBy, IsScriptOf, given_to, kind_of};
+ghost use Rattle.stab_run.specs.LinkKinds.{HaveOnePlace, kind_for};
 ghost use Rattle.stab_run.specs.RunFaults.{IsStartReason};
 ghost use Rattle.stab_tree.specs.Links.{links_of};
 
+use crate::any_link::{AnyLink, AnyOpening};
+use crate::links::Links;
 use crate::run_fault::RunFault;
 use stab_acts::Script;
 use stab_core::{Start, StartFault};
 use stab_frames::Params;
-use stab_links::{AnyLink, AnyOpening, Links};
 use stab_tree::Tree;
 use std::alloc::{AllocError, Global};
 

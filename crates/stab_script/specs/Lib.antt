@@ -4,3 +4,7 @@ pub mod LinkMembers
 pub mod LinkJobs
 pub mod ScriptEntries
 pub mod MadeScripts
+pub mod Standing
+pub mod Members
+pub mod Leads
+pub mod Plain

@@ -86,7 +86,7 @@ impl Drop for LinkJob {
 /// The link job that these bytes mean, or the first check that they fail; memory may be refused
 /// before a later check.
 #[tactic(auto, using(stab_json::proofs::ForCallers::some_bytes))]
-pub fn read_link_job(alloc: Global, bytes: &[u8]) -> Result<LinkJob, LinkJobFault>
+pub fn read_link_job_by_value(alloc: Global, bytes: &[u8]) -> Result<LinkJob, LinkJobFault>
     ensures job { MatchResult result
         (λ job. link_job bytes.now ≡ Ok job)
         (λ fault. fault ≢ LinkJobFault.Memory → link_job bytes.now ≡ Err fault) }

@@ -10,8 +10,9 @@ use Rattle.stab_core.specs.LinkSetup.{CanBegin, LinkSetup, setup, setups}
 use Rattle.stab_core.specs.Replay.{IsLawful}
 use Rattle.stab_job.specs.JobValues.{JobValue, network}
 use Rattle.stab_job.specs.Jobs.{job as whole_job}
+use Rattle.stab_job.proofs.ForCallers.{not_lawful, not_all_begin, first_of, all_named}
 use Rattle.stab_run.specs.Runs.{IsFirstUnlawful}
-use Rattle.stab_links.specs.declared.links.Links.{Links}
+use Rattle.stab_run.specs.declared.links.Links.{Links}
 use Rattle.stab_run.specs.declared.run_fault.RunFault.{RunFault}
 use Rattle.stab_run.specs.declared.run_fault.RunFault.TheVariants as run
 use Rattle.stab_script.specs.declared.link_job.LinkJob.{LinkJob as OneLink}
@@ -38,13 +39,6 @@ use Rattle.stab_task.specs.declared.file.LoadFault.TheVariants as load
 
 -- ---- one link
 
--- a start that is refused, and not for memory, is not lawful
-not_lawful : (link : LinkSetup) (fault : StartFault) → fault ≢ no_memory_at_start → IsReason link.params link.start fault
-    → IsLawful link.params link.start → ⊥
-not_lawful link TooManyFrames named reason lawful = absurd (omega (arith, lawful.frames, reason))
-not_lawful link TooManyAcks named reason lawful = absurd (omega (arith, lawful.acks, reason.1))
-not_lawful link no_memory_at_start named reason lawful = named refl
-
 -- it is refused for one reason
 one_reason : (link : LinkSetup) (f g : StartFault) → f ≢ no_memory_at_start → g ≢ no_memory_at_start
     → IsReason link.params link.start f → IsReason link.params link.start g → f ≡ g
@@ -58,12 +52,6 @@ one_reason link TooManyAcks no_memory_at_start f_named g_named first second = ab
 
 -- ---- the links of a tree
 
--- where a start is refused, not all links can begin
-not_all_begin : (links : List LinkSetup) (fault : StartFault) → fault ≢ no_memory_at_start → IsFirstFault links fault → All CanBegin links → ⊥
-not_all_begin [] fault named first all = first
-not_all_begin (link ∷ links) fault named (inl here) all = not_lawful link fault named here (All-head CanBegin link links all).1
-not_all_begin (link ∷ links) fault named (inr later) all = not_all_begin links fault named later.1 (All-tail CanBegin link links all)
-
 -- the first fault among the starts is one
 one_first : (links : List LinkSetup) (f g : StartFault) → f ≢ no_memory_at_start → g ≢ no_memory_at_start
     → IsFirstFault links f → IsFirstFault links g → f ≡ g
@@ -72,21 +60,6 @@ one_first (link ∷ links) f g f_named g_named (inl here) (inl here_too) = one_r
 one_first (link ∷ links) f g f_named g_named (inl here) (inr later) = absurd (not_lawful link f f_named here later.0.1)
 one_first (link ∷ links) f g f_named g_named (inr later) (inl here) = absurd (not_lawful link g g_named here later.0.1)
 one_first (link ∷ links) f g f_named g_named (inr later) (inr later_too) = one_first links f g f_named g_named later.1 later_too.1
-
--- links that cannot begin, and not for memory, have such a first fault
-first_of : (links : List LinkSetup) (fault : StartFault) → fault ≢ no_memory_at_start → IsOpeningReason links fault → IsFirstFault links fault
-first_of links TooManyFrames named reason = reason
-first_of links TooManyAcks named reason = reason
-first_of links no_memory_at_start named reason = absurd (named refl)
-
--- no event of a schedule names no link where all of them name links
-all_named : (t : WholeTree) (events : List TreeEvent) → All (NamesLink t.parents) events
-    → ReachesEvent (λ now e. NamesNoLink now.parents e) t events → ⊥
-all_named t [] all reaches = reaches
-all_named t (e ∷ es) all (inl none) =
-    let some : IsSome (parent_at t.parents e.child) = All-head (NamesLink t.parents) e es all in
-    cc
-all_named t (e ∷ es) all (inr later) = all_named (tree_step t e) es (All-tail (NamesLink t.parents) e es all) later.1
 
 -- a schedule is refused for one reason
 one_of_schedule : (job : JobValue) (f g : TreeStartFault) → IsOfSchedule f → IsOfSchedule g

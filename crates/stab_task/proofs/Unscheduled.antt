@@ -3,8 +3,8 @@
 use Rattle.std.proofs.Common.{◌≡◌, ℕ, List, Result, Ok, Err, IfErr, subst, sym}
 use Rattle.stab_job.specs.JobValues.{JobValue}
 use Rattle.stab_job.specs.Jobs.{job}
-use Rattle.stab_job_stream.specs.Unscheduled.{unscheduled, IsUnscheduled}
-use Rattle.stab_links.specs.declared.links.Links.{Links}
+use Rattle.stab_job.specs.Unscheduled.{unscheduled, IsUnscheduled}
+use Rattle.stab_run.specs.declared.links.Links.{Links}
 use Rattle.stab_run.specs.ByScript.{IsByScript, IsByLockedScript}
 use Rattle.stab_run.specs.Reports.{Reported}
 use Rattle.stab_run.specs.Runs.{IsReport}

@@ -27,7 +27,7 @@ use Rattle.stab_report.specs.Texts.{report_text}
 use Rattle.stab_run.specs.Reports.{Reported, as_report}
 use Rattle.stab_run.specs.RunFaults.{IsRunReason}
 use Rattle.stab_run.specs.Runs.{IsReport}
-use Rattle.stab_links.specs.declared.links.Links.{Links}
+use Rattle.stab_run.specs.declared.links.Links.{Links}
 use Rattle.stab_run.specs.declared.run_fault.RunFault.{RunFault}
 use Rattle.stab_treecore.specs.Network.{IsNetwork}
 use Rattle.stab_treecore.specs.Refusals.{NamesLink}

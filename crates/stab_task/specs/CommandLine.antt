@@ -17,8 +17,8 @@ use Rattle.clap.specs.declared.builder.command.Command.TheViews.{out-Command as 
 use Rattle.clap.specs.declared.builder.action.ArgAction.TheVariants.{SetTrue}
 use Rattle.clap.specs.declared.parser.matches.ValueSource.{ValueSource}
 use Rattle.clap.specs.declared.parser.matches.ValueSource.TheVariants as source
-use Rattle.stab_links.specs.declared.links.Links.{Links}
-use Rattle.stab_links.specs.declared.links.Links.TheVariants.{Locked, Words, Mixed}
+use Rattle.stab_run.specs.declared.links.Links.{Links}
+use Rattle.stab_run.specs.declared.links.Links.TheVariants.{Locked, Words, Mixed}
 use Rattle.stab_task.specs.declared.command.Task.{Task}
 use Rattle.stab_task.specs.declared.command.Task.TheVariants.{Link, Tree, Run}
 use Rattle.stab_task.specs.declared.fault.CliFault.{CliFault}

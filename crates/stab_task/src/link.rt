@@ -12,8 +12,7 @@ use crate::fault::CliFault;
 use stab_core::{
     Link, Origin, StartFault, Tracer, link_text, push_origins_text, run_link, run_traced,
 };
-use stab_script::{LinkJob, LinkJobFault};
-use stab_stream::replay_plain_link_job;
+use stab_script::{LinkJob, LinkJobFault, replay_plain_link_job};
 use std::alloc::{AllocError, Global};
 
 /// The text of a link job, with the origins of what it delivers where they are asked for.
@@ -109,9 +108,9 @@ fn read_job(alloc: Global, bytes: &[u8], by_value: bool) -> Result<LinkJob, Link
     ensures memory { result ≡ Err LinkJobFault.Memory → 0 < length bytes.now }
 {
     if by_value {
-        stab_script::read_link_job(alloc, bytes)
+        stab_script::read_link_job_by_value(alloc, bytes)
     } else {
-        stab_stream::read_link_job(alloc, bytes)
+        stab_script::read_link_job(alloc, bytes)
     }
 }
 

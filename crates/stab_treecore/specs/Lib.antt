@@ -12,3 +12,10 @@ pub mod TreeLaw
 pub mod TreeReplay
 pub mod TreeStep
 pub mod WholeTree
+pub mod Changes
+pub mod Hits
+pub mod Moment
+pub mod Since
+pub mod EdgeSince
+pub mod Example
+pub mod ChangeRefusals

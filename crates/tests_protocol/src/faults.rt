@@ -4,10 +4,11 @@
 use crate::chain::{After, STRAY, chain, is_as, narrow, start};
 use stab_convergence::run_and_settle;
 use stab_core::{LinkAct, Start};
-use stab_faults::{Change, ChangeFault, run_changes};
 use stab_frames::{Item, Sequence};
 use stab_tree::NodeId;
-use stab_treecore::{RestartFault, StrikeFault, TreeEvent, TreeStepFault};
+use stab_treecore::{
+    Change, ChangeFault, RestartFault, StrikeFault, TreeEvent, TreeStepFault, run_changes,
+};
 use std::alloc::Global;
 use std::process::Abort;
 

@@ -2,7 +2,7 @@
 //! are compared place by place.
 
 use stab_core::Event;
-use stab_history::History;
+use stab_lock::History;
 use std::alloc::{AllocError, Global};
 
 /// One of each kind, with the largest item and the largest place.

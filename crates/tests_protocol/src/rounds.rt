@@ -2,12 +2,17 @@
 //! that no program makes. The values are worked out by hand, and by `tests/check_laws.py`, which
 //! has rules of its own.
 
+ghost use Rattle.std.specs.Prelude.{◌≡◌};
+
 use crate::chain::{After, STRAY, chain, is_as, narrow, start, worst_starts};
 use stab_core::{Event, Link, link_text};
+use stab_frames::Params;
 use stab_rounds::{
     apply_reading_round, count_rounds, pass_on, reading_round_of_all, run_reading_rounds,
     run_rounds,
 };
+use std::alloc::Global;
+use std::process::Abort;
 
 const TAKE_FRAME: Event = Event::RecvFrame { keep: false };
 
@@ -105,6 +110,20 @@ fn counts_rounds(rt: HostRuntime) {
     }
 }
 
+/// The link of capacity 1 at its worst start.
+fn at_its_worst_start(rt: &(impl Abort + Alloc<A = Global>), params: Params) -> Link
+    ensures { result.params ≡ params }
+{
+    let start = start(rt, &[STRAY], &[0]);
+    Link::new(rt.alloc(), params, &start).expect(rt, "a link")
+}
+
+/// Sees that this is the text of a link.
+fn assert_is(rt: &(impl Abort + Alloc<A = Global>), link: &Link, text: &str) {
+    let its_text = link_text(rt.alloc(), link).expect(rt, "memory");
+    assert!(rt; its_text.as_str() == text, "{its_text}");
+}
+
 /// What three rounds with the item 10 make of the link of capacity 1 at its worst start.
 const PASSED_ON: &str = "\
 delivered: 99 10 10
@@ -120,11 +139,9 @@ closed: no
 #[test]
 fn three_rounds_pass_an_item_on(rt: HostRuntime) {
     let params = narrow(&rt)[0];
-    let start = start(&rt, &[STRAY], &[0]);
-    let mut link = Link::new(rt.alloc(), params, &start).expect(&rt, "a link");
+    let mut link = at_its_worst_start(&rt, params);
     pass_on(&mut link, params, 10).expect(&rt, "memory");
-    let text = link_text(rt.alloc(), &link).expect(&rt, "memory");
-    assert!(rt; text.as_str() == PASSED_ON, "{text}");
+    assert_is(&rt, &link, PASSED_ON);
 }
 
 /// What one reading round makes of it.
@@ -142,11 +159,9 @@ closed: no
 #[test]
 fn one_reading_round_passes_an_item_on(rt: HostRuntime) {
     let params = narrow(&rt)[0];
-    let start = start(&rt, &[STRAY], &[0]);
-    let mut link = Link::new(rt.alloc(), params, &start).expect(&rt, "a link");
+    let mut link = at_its_worst_start(&rt, params);
     apply_reading_round(&mut link, params, 10).expect(&rt, "memory");
-    let text = link_text(rt.alloc(), &link).expect(&rt, "memory");
-    assert!(rt; text.as_str() == READ, "{text}");
+    assert_is(&rt, &link, READ);
 }
 
 /// By `tests/check_laws.py`. Sixteen rounds are said to be enough: 3 * (3 + 1 + 1) + 1.

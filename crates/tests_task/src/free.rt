@@ -1,8 +1,7 @@
 //! The gate of a run of `stab`.
 
 use serde_json::Value;
-use stab_free::Free;
-use stab_node::Gate;
+use stab_node::{Free, Gate};
 use stab_tree::read_tree;
 
 /// A chain of three nodes.

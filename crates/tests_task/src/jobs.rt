@@ -1,6 +1,6 @@
 //! The scripts and the turns of a job, and the places of its links.
 
-use stab_job::{Job, JobFault, read_job};
+use stab_job::{Job, JobFault, read_job_by_value};
 use stab_script::{HalfScript, InAct, OutAct, Script};
 use stab_tree::NodeId;
 use std::alloc::{AllocError, Global};
@@ -67,7 +67,7 @@ const CHAIN_WITH: &str = r#"{"capacity":1,"labels":4,"items":[10],
 /// The job of that chain and these members.
 fn chain(alloc: Global, members: &str) -> Result<Job, JobFault> {
     let text = [CHAIN_WITH, members, "}"].concat(alloc)?;
-    read_job(alloc, text.as_bytes())
+    read_job_by_value(alloc, text.as_bytes())
 }
 
 /// Whether a chain with these members has as many turns, and these scripts.
@@ -153,7 +153,7 @@ fn reads_letters(alloc: Global, outs: &str, ins: &str) -> Result<bool, JobFault>
         r#""},null]}"#,
     ]
     .concat(alloc)?;
-    Ok(is_long(&read_job(alloc, text.as_bytes())?))
+    Ok(is_long(&read_job_by_value(alloc, text.as_bytes())?))
 }
 
 #[test]
@@ -169,7 +169,7 @@ fn reads_100000_letters(rt: HostRuntime) -> Result<(), JobFault> {
 fn link_place(alloc: Global, node: u16) -> Result<Option<u16>, JobFault> {
     let text = r#"{"capacity":1,"labels":4,"items":[],
         "tree":[{"name":"b","parent":"a"},{"name":"r"},{"name":"a","parent":"r"}]}"#;
-    let job = read_job(alloc, text.as_bytes())?;
+    let job = read_job_by_value(alloc, text.as_bytes())?;
     Ok(job.tree().link_place(NodeId::new(node)))
 }
 

@@ -1,6 +1,6 @@
 //! How the options of a random job are refused, which the command line refuses before.
 
-use rignolda_random::{DrawOptions, OptionsFault, RandomFault, random_text};
+use rignolda_make::{DrawOptions, OptionsFault, RandomFault, random_text};
 use stab_frames::ParamsFault;
 use std::alloc::Global;
 

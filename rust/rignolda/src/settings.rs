@@ -2,8 +2,7 @@
 //!
 //! The root has a [`Publisher`]: changes that wait are merged, and a round brings all settings
 //! anew. Every agent has a [`Table`], which says of each body whether it is to be applied; where
-//! that takes longer than they come, [`Waiting`] merges them. A [`Folder`] has a file for each, and
-//! a [`Batch`] puts several to the disk at once.
+//! that takes longer than they come, [`Waiting`] merges them.
 //!
 //! So after any fault of any agents all have the root's settings after two rounds: one under way,
 //! and a whole one. A round needs [enough harmless items](Publisher::begin_round), and gets to all
@@ -29,30 +28,14 @@ use crate::net::{is_plain, Body, BODY_BYTES};
 use std::collections::BTreeMap;
 use std::sync::Arc;
 
-mod batch;
-#[cfg(unix)]
-mod floor;
-#[cfg(unix)]
-mod folder;
 mod groups;
 pub(crate) mod proved;
 mod publisher;
-#[cfg(unix)]
-mod source;
 mod waiting;
 
-pub use batch::Batch;
-#[cfg(unix)]
-pub use floor::{read_floor, write_floor};
-#[cfg(unix)]
-pub use folder::{remove, Folder};
 pub use groups::{is_group, of_group, parts, published_by, shown, that_counts, values_of};
 pub use proved::Taker;
 pub use publisher::{differences, Published, Publisher};
-#[cfg(unix)]
-pub use source::{
-    no_key, read_folder, read_folder_by, read_plain, too_many, write_folder, Faults, Found, Kept,
-};
 pub use waiting::{Change, Value, Waiting};
 
 /// The longest key of a setting, in bytes.

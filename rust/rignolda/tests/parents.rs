@@ -12,7 +12,7 @@ fn way(cost: u16, names: &[&str]) -> Way {
 
 /// An agent with children and so many parents.
 fn agent(parents: usize) -> Parents {
-    Parents::new("x", vec![None; parents], true)
+    Parents::new("x", vec![None; parents]).with_children()
 }
 
 #[test]
@@ -20,7 +20,7 @@ fn the_way_is_the_parents_and_a_step() {
     assert_eq!(agent(0).says(), &way(0, &["x"]), "a root");
     assert_eq!(agent(3).says(), &way(NONE, &["x"]), "a head");
     let says = |at: usize, prices: [Option<u16>; 3], heard: &Way| {
-        let mut x = Parents::new("x", prices, true);
+        let mut x = Parents::new("x", prices).with_children();
         x.took(at, heard.clone());
         x.says().clone()
     };
@@ -115,7 +115,7 @@ fn who_has_no_parent_takes_one_without_a_root_only_where_no_circle_comes_of_it()
         agent(1).looked(0, &way(1, &["x", "a"])),
         Err(ParentError::Circle)
     );
-    let mut leaf = Parents::new("x", [None, None], false);
+    let mut leaf = Parents::new("x", [None, None]);
     assert_eq!(
         leaf.looked(0, &lost),
         Err(ParentError::NoRoot),
@@ -148,7 +148,7 @@ fn nobody_looks_where_nothing_could_be_better() {
 
 #[test]
 fn a_parent_of_version_1_counts_as_a_root_where_it_is_the_first_or_nobody_is_below() {
-    let leaf = Parents::new("x", [None, None], false);
+    let leaf = Parents::new("x", [None, None]);
     let cost = |x: &Parents| [x.old(0).cost, x.old(1).cost];
     assert_eq!(cost(&agent(2)), [0, NONE]);
     assert_eq!(cost(&leaf), [0, 0]);
@@ -184,7 +184,7 @@ impl Net {
                 .iter()
                 .map(|_| (random.below(5) == 0).then(|| random.below(20) as u16))
                 .collect();
-            let parents = Parents::new(&format!("n{at}"), prices, true);
+            let parents = Parents::new(&format!("n{at}"), prices).with_children();
             let (is_connected, queue) = (false, VecDeque::new());
             agents.push(Agent {
                 parents,

@@ -42,7 +42,7 @@ fn requests_that_come_together_are_answered_one_after_the_other() {
     let mut requests = asked(&mut server, now);
     for (number, byte) in (0_u32..3).zip(*b"abc") {
         assert_eq!(requests.iter().map(|it| it.1).collect::<Vec<_>>(), [byte]);
-        server.answer(requests[0].0, &[byte], false);
+        server.answer(requests[0].0, &[byte]);
         // (nothing more comes, so nothing fires: what is left is due by itself)
         let is_due = server.deadline().map_or(false, |at| at <= now);
         assert_eq!(is_due, number < 2, "{number}");
@@ -74,7 +74,7 @@ fn nothing_is_waited_for_that_changes_nothing() {
     // (the client has closed its end, which can be read all the time, and nobody is to read it)
     assert_eq!(clients(&server), []);
     let (answer, ticket) = (vec![b'!'; 4 << 20], requests[0].0);
-    server.answer(ticket, &answer, false);
+    server.answer(ticket, &answer);
     assert_eq!(
         clients(&server),
         [true],
@@ -110,7 +110,7 @@ fn clients_without_a_request_keep_no_other_out() {
             requests.extend(asked(&mut server, at(round * 10 + turn)));
         }
         assert_eq!(requests.len(), 1, "{round}");
-        server.answer(requests[0].0, b"!", true);
+        server.answer_last(requests[0].0, b"!");
         let mut answer = Vec::new();
         client.read_to_end(&mut answer).unwrap();
         assert_eq!(answer, b"!", "{round}");
@@ -124,7 +124,7 @@ fn clients_without_a_request_keep_no_other_out() {
     for turn in 1..9 {
         assert!(asked(&mut server, at(100 + turn)).is_empty());
     }
-    server.answer(request[0].0, b"!", true);
+    server.answer_last(request[0].0, b"!");
     let mut answer = Vec::new();
     waits.read_to_end(&mut answer).unwrap();
     assert_eq!(answer, b"!");

@@ -3,7 +3,7 @@ use crate::certificate::{names, private_key, read, reason, unix_time, unverified
 use crate::{Listener, Tls};
 use openssl::error::ErrorStack;
 use openssl::ssl::{
-    Error, ErrorCode, Ssl, SslContext, SslMethod, SslMode, SslOptions, SslSessionCacheMode,
+    Error, ErrorCode, Ssl, SslContext, SslMethod, SslMode, SslOptions, SslRef, SslSessionCacheMode,
     SslStream, SslVerifyMode, SslVersion,
 };
 use openssl::x509::X509Ref;
@@ -119,15 +119,17 @@ impl Maker {
             Err(e) if e.raw_os_error() != Some(115) => return Err(e),
             _ => (),
         }
-        self.line(socket, domain == Domain::UNIX, false)
+        self.line(socket, domain == Domain::UNIX, SslRef::set_connect_state)
     }
 
     /// Takes the next connection of a listener.
     pub fn accept(&self, listener: &Listener) -> io::Result<Line> {
-        self.line(serve::Listener::accept(listener)?, listener.is_unix(), true)
+        let socket = serve::Listener::accept(listener)?;
+        self.line(socket, listener.is_unix(), SslRef::set_accept_state)
     }
 
-    fn line(&self, socket: Socket, is_unix: bool, accepted: bool) -> io::Result<Line> {
+    /// A line of a socket. By TLS it is told which end it is.
+    fn line(&self, socket: Socket, is_unix: bool, end: fn(&mut SslRef)) -> io::Result<Line> {
         if is_unix {
             return Ok(Line::Plain(socket));
         }
@@ -138,10 +140,7 @@ impl Maker {
         socket.set_tcp_user_timeout(Some(self.timeout))?;
         let Some(context) = &self.tls else { return Ok(Line::Plain(socket)) };
         let mut ssl = Ssl::new(context)?;
-        match accepted {
-            true => ssl.set_accept_state(),
-            false => ssl.set_connect_state(),
-        }
+        end(&mut ssl);
         let stream = SslStream::new(ssl, Bounded { socket, left: HANDSHAKE_BYTES })?;
         let (greeted, expires) = (false, i64::MAX);
         Ok(Line::Tls(Box::new(Secure { stream, greeted, expires, waits: [false; 2] })))

@@ -2,10 +2,9 @@
 //!
 //! An agent's files are read by whoever asks, and not by the agent: so they show what is there now,
 //! and nobody sees more than the rights of the folder let him.
+use crate::source::{no_key, read_folder, read_plain};
 use crate::{digest, Compared, Key, Keys, Seen};
-use rignolda::settings::{
-    is_key, is_newer, no_key, read_folder, read_plain, that_counts, VALUE_BYTES,
-};
+use rignolda::settings::{is_key, is_newer, that_counts, VALUE_BYTES};
 use serde::Serialize;
 use std::collections::BTreeSet;
 use std::io::{self, ErrorKind};

@@ -12,7 +12,11 @@ use std::collections::BTreeMap;
 use std::time::{SystemTime, UNIX_EPOCH};
 
 pub mod ask;
+mod error;
 pub mod files;
+pub mod source;
+
+pub use error::{at, ErrorAt};
 
 #[derive(Clone, Debug, Deserialize, PartialEq, Serialize)]
 #[serde(tag = "do", rename_all = "kebab-case", deny_unknown_fields)]

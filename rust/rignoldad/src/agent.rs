@@ -3,11 +3,12 @@
 use crate::apply::{Applied, Applier, Outcome};
 use crate::config::{plain, Address, Apply, Config, Fault, Parent};
 use crate::control::{self, Asked, Server, Shown};
-use crate::digest::Published;
+use crate::digest::{Ends, Published};
 use crate::fact;
 use crate::journal;
 use crate::metrics;
 use crate::page;
+use crate::refused::Refused;
 use crate::root::Root;
 use crate::serve::Ticket;
 use crate::standby::{Change, Standby};
@@ -19,9 +20,10 @@ use rignolda::net::{Body, Handler, Peers, Way};
 use rignolda::settings::{furthest, older, table_of, Meaning, Table, Taker};
 use rignolda_redis::Stores;
 use rignolda_tls::{Caller, Line, Listener, Maker};
-use rignoldactl::{ChildStatus, Compared, Request, Response, Seen, Standby as Role, Status};
+use rignoldactl::{
+    at, ChildStatus, Compared, ErrorAt, Request, Response, Seen, Standby as Role, Status,
+};
 use std::collections::{BTreeMap, HashSet};
-use std::fmt::Display;
 use std::io::{self, ErrorKind, Read};
 use std::os::unix::io::{AsRawFd, RawFd};
 use std::os::unix::net::{UnixDatagram, UnixStream};
@@ -39,8 +41,10 @@ const SAYS_AGAIN: Duration = Duration::from_secs(30);
 /// After how long the clock is looked at again at the latest, since it may be set.
 const CLOCK: Duration = Duration::from_secs(10);
 
-/// How often the state is looked at as a whole.
-const CHECKS: Duration = Duration::from_secs(1);
+/// After how long the state is looked at as a whole again, once each second: where something came
+/// meanwhile, and at the latest. (A parent says its way every two seconds, so mostly an idle agent
+/// is woken once for both.)
+const CHECKS: [Duration; 2] = [Duration::from_millis(900), Duration::from_millis(1_100)];
 /// For how long nobody is accepted where no descriptor was left.
 const FULL: Duration = Duration::from_millis(100);
 /// How many faults of the root's folder its status names.
@@ -54,7 +58,7 @@ const OTHER: usize = 1 << (usize::BITS - 1);
 const WAKE: Token = Token(usize::MAX);
 
 /// The answer to a request; nothing where it comes later.
-type Answer = Result<Option<Response>, String>;
+type Answer = Result<Option<Response>, Refused>;
 
 pub struct Agent {
     path: PathBuf,
@@ -111,26 +115,28 @@ struct State {
     round_at: Option<Instant>,
     /// Whether there is something new to say upwards.
     changed: bool,
-    /// Whether files are being applied.
-    applying: bool,
+    /// Since when files are being applied, where some are.
+    applying: Option<Instant>,
     /// Whether each body is a fact of the journal, for trials.
     traces: bool,
     said: Option<Instant>,
 }
 
 /// Runs the agent that this file configures until it is told to end.
-pub fn run(path: &Path, config: Config) -> Result<(), String> {
-    let signals = Signals::new().map_err(|e| format!("signals: {e}"))?;
+pub fn run(path: &Path, config: Config) -> Result<(), ErrorAt> {
+    let signals = Signals::new().map_err(at("signals"))?;
     let mut agent = Agent::new(path, config)?;
     let watchdog = std::env::var("WATCHDOG_USEC").ok().and_then(|text| text.parse().ok());
     // (a sign so often that one which is late by a few is in time)
     let watchdog = watchdog.map(|micros: u64| Duration::from_micros(micros / 10));
     let mut watched = Instant::now();
+    // (OpenSSL reads its configuration when it is first used: better now than in a round)
+    openssl::sha::sha256(&[]);
     notify("READY=1");
     fact!("start", "{} life {:016x}", agent.config.peers.name, agent.peers.life());
     loop {
         let most = watchdog.unwrap_or(Duration::from_secs(60));
-        let fired = agent.wait(&signals, most).map_err(|e| format!("poll: {e}"))?;
+        let fired = agent.wait(&signals, most).map_err(at("poll"))?;
         if fired.contains(&signals.end.as_raw_fd()) {
             notify("STOPPING=1");
             fact!("end", "{}", agent.config.peers.name);
@@ -148,7 +154,7 @@ pub fn run(path: &Path, config: Config) -> Result<(), String> {
             notify(&format!("STATUS={}", agent.reload_failed));
         }
         agent.turn(&fired, now)?;
-        agent.check(now).map_err(|what| format!("its memory is spoiled: {what}"))?;
+        agent.check(now).map_err(at("its memory is spoiled"))?;
         if watchdog.is_some_and(|part| now >= watched + part) {
             watched = now;
             notify("WATCHDOG=1");
@@ -187,14 +193,15 @@ fn notify(text: &str) {
     }
 }
 
-/// Says where an error of the system was.
-fn of(place: impl Display) -> impl FnOnce(io::Error) -> String {
-    move |error| format!("{place}: {error}")
+/// What is answered where it is refused.
+fn refused(why: Refused) -> Response {
+    Response::Refused(why.to_string())
 }
 
 /// Answers through the server that has this ticket.
-fn say(servers: &mut [Server], ticket: Ticket, bytes: &[u8], is_last: bool) {
-    servers.iter_mut().for_each(|server| server.answer(ticket, bytes, is_last));
+fn say(servers: &mut [Server], ticket: Ticket, response: &Response) {
+    let bytes = control::answer(response);
+    servers.iter_mut().for_each(|server| server.answer(ticket, &bytes));
 }
 
 /// Seconds since 1970, by the clock of the machine.
@@ -217,10 +224,10 @@ fn random() -> io::Result<u64> {
 }
 
 impl State {
-    /// Begins as the root, or as an agent below one, of which nothing has come yet.
-    fn begins(&mut self, is_root: bool, now: Instant) {
+    /// Begins as an agent below a root, of which nothing has come yet.
+    fn begins(&mut self, now: Instant) {
         let taker = Taker::new(self.table.taker.floor);
-        self.is_root = is_root;
+        self.is_root = false;
         self.published = Published::default();
         self.table = Table::default();
         self.table.taker = taker;
@@ -256,12 +263,12 @@ impl State {
     }
 
     /// Takes up what was done about settings.
-    fn applied(&mut self) {
+    fn applied(&mut self, now: Instant) {
         let Some(applier) = &mut self.applier else { return };
         let done = applier.done();
-        let applying = applier.is_busy();
-        self.changed |= !done.is_empty() || self.applying != applying;
-        self.applying = applying;
+        let is_busy = applier.is_busy();
+        self.changed |= !done.is_empty() || self.applying.is_some() != is_busy;
+        self.applying = is_busy.then(|| self.applying.unwrap_or(now));
         let (good, bad): (Vec<_>, _) = done.into_iter().partition(|it| it.status == Outcome::Done);
         let words = |it: Applied| format!("{} {}", it.sequence, it.key);
         journal::lines("applied", good.into_iter().map(words));
@@ -294,14 +301,16 @@ impl Handler for State {
         // (of the items of a round that nothing follows from, the table that ends it tells)
         self.changed |= !takes || meaning != Meaning::Harmless;
         if self.is_root {
-            self.published.take(sequence, &meaning, is_table && self.table.heard.looks);
+            let is_end = is_table && self.table.heard.looks;
+            let ends = if is_end { Ends::ARound } else { Ends::Nothing };
+            self.published.take(sequence, &meaning, ends);
         }
         // (before a line is written, so that the files wait for nothing)
         if let (true, Some(applier)) = (takes, &mut self.applier) {
             if !applier.take(&meaning, sequence, self.table.heard) {
                 self.table.misses();
             }
-            self.applying |= applier.is_busy();
+            self.applying = self.applying.or_else(|| applier.is_busy().then_some(now));
         }
         if self.table.full && !was_full {
             fact!("full", "{sequence} would be too much: a whole table is waited for");
@@ -334,7 +343,9 @@ impl Handler for State {
         let is_one = self.below.heard(child, report, now);
         let numbers = self.below.numbers(child).into_iter().chain([self.ahead]);
         self.ahead = furthest(self.table.taker.number, numbers);
-        self.knows_groups();
+        if self.below.has_other_groups() {
+            self.knows_groups();
+        }
         is_one
     }
 
@@ -354,23 +365,25 @@ impl Handler for State {
 }
 
 impl Agent {
-    pub fn new(path: &Path, mut config: Config) -> Result<Agent, String> {
+    pub fn new(path: &Path, mut config: Config) -> Result<Agent, ErrorAt> {
         let now = Instant::now();
         let listen = |address: &Address| {
-            Listener::new(address, Some(0o660)).map_err(of(format!("listen: {address}")))
+            Listener::new(address, Some(0o660)).map_err(at(format!("listen: {address}")))
         };
-        let at = |path: &Path| of(format!("control: {}", path.display()));
-        let control = config.control.iter().map(|it| control::server(it).map_err(at(it)));
-        let at = |address| of(format!("metrics: {address}"));
-        let counts = config.metrics.iter().map(|it| control::counts(*it).map_err(at(*it)));
-        let poll = Poll::new().map_err(of("poll"))?;
-        let waker = Waker::new(poll.registry(), WAKE).map_err(of("poll"))?;
+        let control = config
+            .control
+            .iter()
+            .map(|it| control::server(it).map_err(at(format!("control: {}", it.display()))));
+        let counts = config.metrics.iter();
+        let counts = counts.map(|it| control::counts(*it).map_err(at(format!("metrics: {it}"))));
+        let poll = Poll::new().map_err(at("poll"))?;
+        let waker = Waker::new(poll.registry(), WAKE).map_err(at("poll"))?;
         let wake: Arc<dyn Fn() + Send + Sync> = Arc::new(move || drop(waker.wake()));
         let applier = config.apply.as_ref().map(|it| Applier::new(it, wake.clone())).transpose();
-        let applier = applier.map_err(of("apply: its threads cannot be started"))?;
+        let applier = applier.map_err(at("apply: its threads cannot be started"))?;
         let applied = applier.as_ref().map_or(BTreeMap::new(), Applier::settings);
         let standby = Standby::new(&config, now, wake.clone());
-        let mut standby = standby.map_err(of("root: its thread cannot be started"))?;
+        let mut standby = standby.map_err(at("root: its thread cannot be started"))?;
         config.peers.rank = standby.as_ref().and_then(Standby::rank);
         let root = match &mut standby {
             Some(standby) => {
@@ -481,16 +494,16 @@ impl Agent {
         let expires = u64::try_from(self.expires.saturating_sub(unix_now())).unwrap_or(0);
         // (the clock may be set meanwhile)
         let expires = Some(now + Duration::from_secs(expires).min(CLOCK));
-        let files = self.state.applying.then(|| now + ASKS_AGAIN);
+        let files = self.state.applying.map(|_| now + ASKS_AGAIN);
         let more = self.may_publish().then_some(now);
-        let (peers, checks) = (self.peers.deadline(now), Some(self.checked + CHECKS));
+        let (peers, checks) = (self.peers.deadline(now), Some(self.checked + CHECKS[1]));
         let standby = self.state.standby.as_ref().and_then(Standby::deadline);
         let all = [peers, root, standby, report, served, full, files, more, expires, checks];
         all.into_iter().flatten().min().unwrap_or(now + CLOCK)
     }
 
     /// Does all that can be done now. Mostly there is something to read, and nothing else.
-    fn turn(&mut self, fired: &HashSet<RawFd>, now: Instant) -> Result<(), String> {
+    fn turn(&mut self, fired: &HashSet<RawFd>, now: Instant) -> Result<(), ErrorAt> {
         self.peers.read(self.ready.drain(..), now, &mut self.state);
         if self.is_due {
             self.stores.done(&mut self.peers, now, &mut self.state);
@@ -504,7 +517,7 @@ impl Agent {
                 }
                 root.tick(now);
             }
-            self.state.applied();
+            self.state.applied(now);
             self.stand(now)?;
             self.serve(fired, now);
             self.report(now);
@@ -516,7 +529,7 @@ impl Agent {
     }
 
     /// Where it may be promoted, becomes what it is to be.
-    fn stand(&mut self, now: Instant) -> Result<(), String> {
+    fn stand(&mut self, now: Instant) -> Result<(), ErrorAt> {
         let whole = self.state.whole();
         let Some(standby) = &mut self.state.standby else { return Ok(()) };
         whole.into_iter().for_each(|digest| standby.notes(digest));
@@ -528,24 +541,25 @@ impl Agent {
             self.begins_anew(now)?;
         }
         if let Some(Change::Root(number, applied)) = change {
-            self.state.begins(true, now);
+            self.state.begins(now);
+            self.state.is_root = true;
             self.root = begun(&self.config, applied, now, &self.wake)?;
             self.root.iter_mut().for_each(|root| root.begins_above(number));
         }
         for (ticket, done) in answers {
-            let response = done.map_or_else(Response::Refused, |()| Response::Done);
-            say(&mut self.servers, ticket, &control::answer(&response), false);
+            let response = done.map_or_else(refused, |()| Response::Done);
+            say(&mut self.servers, ticket, &response);
         }
         Ok(())
     }
 
     /// Leaves all connections and is there anew, as after a restart, at another place of the tree.
     /// What it applies goes on.
-    fn begins_anew(&mut self, now: Instant) -> Result<(), String> {
+    fn begins_anew(&mut self, now: Instant) -> Result<(), ErrorAt> {
         let asked = self.root.take().map_or(Vec::new(), Root::ends);
-        let refused = control::answer(&Response::Refused("it is not the root any more".into()));
-        asked.into_iter().for_each(|it| say(&mut self.servers, it, &refused, false));
-        self.state.begins(false, now);
+        let refused = Response::Refused("it is not the root any more".into());
+        asked.into_iter().for_each(|it| say(&mut self.servers, it, &refused));
+        self.state.begins(now);
         (self.lines, self.expires) = (BTreeMap::new(), i64::MAX);
         self.ready.clear();
         self.caller = Caller::new(self.wake.clone());
@@ -558,7 +572,7 @@ impl Agent {
     /// Each second: brings back what has a bound, and says what else cannot be, as after a fault of
     /// the machine's memory. What two places say must be the same.
     fn check(&mut self, now: Instant) -> Result<(), &'static str> {
-        if self.checked <= now && now < self.checked + CHECKS {
+        if self.checked <= now && now < self.checked + CHECKS[0] {
             return Ok(());
         }
         self.checked = now;
@@ -675,12 +689,12 @@ impl Agent {
     fn answer(&mut self) {
         let sequence = self.state.table.taker.number;
         for (ticket, done) in self.root.iter_mut().flat_map(Root::answers) {
-            let response = done.map_or_else(Response::Refused, |()| Response::Published(sequence));
-            say(&mut self.servers, ticket, &control::answer(&response), false);
+            let response = done.map_or_else(refused, |()| Response::Published(sequence));
+            say(&mut self.servers, ticket, &response);
         }
         if let Some((tickets, diff)) = self.root.as_mut().and_then(Root::diffs) {
-            let answer = control::answer(&Response::Diff(diff));
-            tickets.into_iter().for_each(|it| say(&mut self.servers, it, &answer, false));
+            let response = Response::Diff(diff);
+            tickets.into_iter().for_each(|it| say(&mut self.servers, it, &response));
         }
     }
 
@@ -688,7 +702,10 @@ impl Agent {
 
     fn reports_at(&self) -> Instant {
         let often = REPORTS.max(EACH * self.state.below.agents());
-        self.reported + if self.state.changed { often.min(SAYS_AGAIN) } else { SAYS_AGAIN }
+        let at =
+            self.reported + if self.state.changed { often.min(SAYS_AGAIN) } else { SAYS_AGAIN };
+        // (it is said once for files and what they follow from, unless they take long)
+        self.state.applying.map_or(at, |since| at.max(since + REPORTS))
     }
 
     /// Says upwards what there is to watch, where that changed or a while went by.
@@ -820,17 +837,18 @@ impl Agent {
     fn serve(&mut self, fired: &HashSet<RawFd>, now: Instant) {
         let asked = self.servers.iter_mut().flat_map(|server| server.ready(fired, now));
         for (ticket, asked) in asked.collect::<Vec<_>>() {
-            let (answer, is_last) = match asked {
-                Asked::Shown(what) => (self.shown(&what, now).into_bytes(), true),
-                Asked::Request(request) => {
-                    let response = request.and_then(|it| self.request(ticket, it, now));
-                    match response.unwrap_or_else(|why| Some(Response::Refused(why))) {
-                        Some(response) => (control::answer(&response), false),
-                        None => continue,
-                    }
+            match asked {
+                Asked::Shown(what) => {
+                    let shown = self.shown(&what, now).into_bytes();
+                    self.servers.iter_mut().for_each(|it| it.answer_last(ticket, &shown));
                 }
-            };
-            say(&mut self.servers, ticket, &answer, is_last);
+                Asked::Request(request) => {
+                    let request = request.map_err(Refused::from);
+                    let response = request.and_then(|it| self.request(ticket, it, now));
+                    let response = response.unwrap_or_else(|why| Some(refused(why)));
+                    response.into_iter().for_each(|it| say(&mut self.servers, ticket, &it));
+                }
+            }
         }
         self.root.iter_mut().for_each(Root::commit);
     }
@@ -861,15 +879,15 @@ impl Agent {
                 let digest = self.state.whole();
                 let seen = furthest(self.state.table.taker.number, self.state.numbers());
                 let standby = self.state.standby.as_mut();
-                let standby = standby.ok_or("its [root] has no `standby`")?;
+                let standby = standby.ok_or(Refused::NoStandby)?;
                 return standby.promote(!as_is, seen, digest, ticket).map(|()| None);
             }
             (Request::Demote, _) => {
                 let standby = self.state.standby.as_mut();
-                let standby = standby.ok_or("its [root] has no `standby`")?;
+                let standby = standby.ok_or(Refused::NoStandby)?;
                 return standby.demote(ticket).map(|()| None);
             }
-            (_, None) => return Err("it is not the root".into()),
+            (_, None) => return Err(Refused::NotRoot),
             (Request::Key { key }, _) => {
                 return Ok(Some(Response::Key(self.state.published.key(&key))));
             }
@@ -916,7 +934,7 @@ impl Agent {
             return Err(nothing("a root is one from its start alone".into()));
         }
         new.peers.rank = self.config.peers.rank;
-        self.maker = maker(&new).map_err(nothing)?;
+        self.maker = maker(&new).map_err(|why| nothing(why.to_string()))?;
         let late = self.config.take(new).join(", ");
         if let (Some(applier), Some(apply)) = (&mut self.state.applier, &self.config.apply) {
             applier.reload(apply);
@@ -949,9 +967,9 @@ fn silence(config: &Config) -> Duration {
     (config.peers.ack_timeout * 5).max(Duration::from_secs(5))
 }
 
-fn maker(config: &Config) -> Result<Maker, String> {
+fn maker(config: &Config) -> Result<Maker, ErrorAt> {
     let (name, tls) = (&config.peers.name, config.tls.as_ref());
-    let maker = Maker::new(tls, silence(config)).map_err(|e| format!("tls: {e}"))?;
+    let maker = Maker::new(tls, silence(config)).map_err(at("tls"))?;
     if maker.names().is_some_and(|all| !all.contains(name)) {
         fact!("certificate", "no DNS name of its SAN is `{name}`: others refuse this agent");
     }
@@ -959,8 +977,8 @@ fn maker(config: &Config) -> Result<Maker, String> {
 }
 
 /// The connections of an agent that begins.
-fn peers(config: &Config, now: Instant) -> Result<Peers<Line, Address>, String> {
-    let life = random().map_err(of("/dev/urandom"))?;
+fn peers(config: &Config, now: Instant) -> Result<Peers<Line, Address>, ErrorAt> {
+    let life = random().map_err(at("/dev/urandom"))?;
     let mut peers = Peers::new(config.peers.clone(), life, config.backlog, now);
     // (the others are for children that came, files and control)
     peers.bound_waiting((descriptors() / 4).max(1));
@@ -973,7 +991,7 @@ fn begun(
     applied: BTreeMap<String, Vec<u8>>,
     now: Instant,
     wake: &Arc<dyn Fn() + Send + Sync>,
-) -> Result<Option<Root<Ticket>>, String> {
+) -> Result<Option<Root<Ticket>>, ErrorAt> {
     let root = config.root.as_ref().map(|it| Root::new(it, applied, now, wake.clone()));
-    root.transpose().map_err(of("root: its thread cannot be started"))
+    root.transpose().map_err(at("root: its thread cannot be started"))
 }

@@ -16,12 +16,14 @@
 use crate::config::{is_key, Apply};
 use crate::digest::Digest;
 use crate::fact;
+use crate::floor::{read_floor, write_floor};
+use crate::folder::{remove, Folder};
 use crate::hooks::{self, Hook, Runs, INPUT, PENDING};
 use rignolda::net::LOST;
 use rignolda::settings::{
-    older, parts, read_floor, read_folder, read_plain, remove, shown, write_floor, Change, Folder,
+    older, parts, shown, Change, Heard, Meaning, Waiting, SETTINGS, VALUE_BYTES,
 };
-use rignolda::settings::{Heard, Meaning, Waiting, SETTINGS, VALUE_BYTES};
+use rignoldactl::source::{read_folder, read_plain};
 use std::cell::Cell;
 use std::collections::{BTreeMap, BTreeSet};
 use std::fmt;

@@ -57,7 +57,15 @@ struct Check<'a> {
 }
 
 impl Check<'_> {
-    fn say(&mut self, at: usize, is_warning: bool, key: &str, text: impl Into<String>) {
+    fn say(&mut self, at: usize, key: &str, text: impl Into<String>) {
+        self.add(at, false, key, text);
+    }
+
+    fn warn(&mut self, at: usize, key: &str, text: impl Into<String>) {
+        self.add(at, true, key, text);
+    }
+
+    fn add(&mut self, at: usize, is_warning: bool, key: &str, text: impl Into<String>) {
         let line = line_of(&self.texts[at], key);
         self.faults.push((at, Fault { line, key: key.into(), text: text.into(), is_warning }));
     }
@@ -82,15 +90,15 @@ impl Check<'_> {
             let tests = if path.is_dir() { "-r -x" } else { "-r -f" };
             let is_well = self.may("root.settings", path, tests) && config.control.is_some();
             if standby && path.is_file() {
-                self.say(0, false, "root.settings", "is no folder: `promote` is refused");
+                self.say(0, "root.settings", "is no folder: `promote` is refused");
             } else if is_well && path.is_dir() && !self.test("-w", path) {
                 let what = if standby { "promote" } else { "publish" };
                 let text = format!("cannot be written: `{what}` is refused");
-                self.say(0, !standby, "root.settings", text);
+                self.add(0, !standby, "root.settings", text);
             }
         }
         if let Some(apply) = &config.apply {
-            refusal(apply).iter().for_each(|why| self.say(0, false, "apply.folder", why));
+            refusal(apply).iter().for_each(|why| self.say(0, "apply.folder", why));
             // (what is lacking there is made, and what is above it by a unit)
             let nearest = apply.folder.ancestors().take(2).find(|it| it.is_dir());
             nearest.map(|it| self.may("apply.folder", it, "-r -w -x"));
@@ -100,7 +108,7 @@ impl Check<'_> {
             let Address::Unix(path) = it else { continue };
             self.may(key, path.parent().unwrap_or(&path), "-w -x");
             if fs::symlink_metadata(&path).is_ok_and(|it| !it.file_type().is_socket()) {
-                self.say(0, false, key, format!("`{}` is there, and no socket", path.display()));
+                self.say(0, key, format!("`{}` is there, and no socket", path.display()));
             }
         }
     }
@@ -122,7 +130,7 @@ impl Check<'_> {
         if !why.is_empty() {
             // (a start makes what is beneath /run)
             let is_warning = is_missing && path.starts_with("/run");
-            self.say(0, is_warning, key, format!("`{}` {why}", path.display()));
+            self.add(0, is_warning, key, format!("`{}` {why}", path.display()));
         }
         why.is_empty()
     }
@@ -130,7 +138,7 @@ impl Check<'_> {
     fn tls(&mut self, name: &str, tls: &Tls) {
         let may = tls.files().map(|(file, path)| self.may(&format!("tls.{file}"), path, "-r -f"));
         for fault in tls.faults(name, may) {
-            self.say(0, fault.is_warning, &format!("tls.{}", fault.file), fault.text);
+            self.add(0, fault.is_warning, &format!("tls.{}", fault.file), fault.text);
         }
     }
 
@@ -142,7 +150,7 @@ impl Check<'_> {
         for (at, it) in all.iter().enumerate() {
             if let Some(other) = places.insert(&it.peers.name, at) {
                 let text = format!("it is that of {} too", paths[other].display());
-                self.say(at, false, "name", text);
+                self.say(at, "name", text);
             }
         }
         // (of these each may be the only one)
@@ -150,7 +158,7 @@ impl Check<'_> {
         for at in roots.iter().skip(1).filter(|_| !are_standbys) {
             let first = paths[roots[0]].display();
             let text = format!("{first} is the root too, and not both have `standby`");
-            self.say(*at, false, "root", text);
+            self.say(*at, "root", text);
         }
         let mut above = vec![Vec::new(); all.len()];
         for (at, it) in all.iter().enumerate() {
@@ -160,10 +168,10 @@ impl Check<'_> {
                         above[at].push(*up);
                         self.link(all, at, *up, parent.address.as_ref());
                     }
-                    Some(None) => self.say(at, false, "parents", format!("no file has `{parent}`")),
+                    Some(None) => self.say(at, "parents", format!("no file has `{parent}`")),
                     None => {
                         above[at].extend(roots.first());
-                        self.say(at, true, "parents", format!("`{parent}` has no name to look at"));
+                        self.warn(at, "parents", format!("`{parent}` has no name to look at"));
                     }
                 }
             }
@@ -174,19 +182,19 @@ impl Check<'_> {
                 let place = places.get(name);
                 if !place.is_some_and(|place| above[*place].contains(&at)) {
                     let text = format!("`{name}` has not this one as a parent");
-                    self.say(at, place.is_none() || address.is_none(), "children", text);
+                    self.add(at, place.is_none() || address.is_none(), "children", text);
                 }
             }
         }
         if roots.is_empty() {
-            self.say(0, false, "root", "no file has [root]");
+            self.say(0, "root", "no file has [root]");
         }
         for root in &roots {
             for other in roots.iter().filter(|other| *other != root) {
                 if may_be_promoted(&all[*root]) && !above[*root].contains(other) {
                     let name = &all[*other].peers.name;
                     let text = format!("`{name}` is missing: two roots look at each other");
-                    self.say(*root, false, "parents", text);
+                    self.say(*root, "parents", text);
                 }
             }
         }
@@ -215,11 +223,11 @@ impl Check<'_> {
             let way = std::iter::successors(Some(at), next).take(WAY);
             let way: Vec<_> = way.map(|at| &*all[at].peers.name).collect();
             let text = format!("no way leads to the root{name}: {}", way.join(", "));
-            self.say(at, false, "parents", text);
+            self.say(at, "parents", text);
         }
         let least: u32 = 2 * depths.into_iter().flatten().max().unwrap_or(0) + 3;
         if all[root].root.as_ref().is_some_and(|root| root.harmless < least) {
-            self.say(root, false, "root.harmless", format!("in this tree it is at least {least}"));
+            self.say(root, "root.harmless", format!("in this tree it is at least {least}"));
         }
     }
 
@@ -230,30 +238,31 @@ impl Check<'_> {
         let from = match &upper.peers.children {
             Children::Any => None,
             Children::Named(names) if names.contains_key(name) => names[name].as_ref(),
-            _ => return self.say(up, false, "children", format!("`{name}` is missing")),
+            _ => return self.say(up, "children", format!("`{name}` is missing")),
         };
         if to.or(from).is_none() {
             let text = format!("neither it nor `{name}` has an address of the other");
-            self.say(up, false, "children", text);
+            self.say(up, "children", text);
         }
         let ends = [(low, "parents", to, upper), (up, "children", from, lower)];
         for (at, key, address, other) in ends {
             let (Some(address), name) = (address, &other.peers.name) else { continue };
-            let is_there = |unsure| match address {
-                Address::Redis { .. } => to == from,
-                _ => other.listen.iter().any(|it| leads(address, it).unwrap_or(unsure)),
+            // (of some it is not known)
+            let are_there: Vec<_> = match address {
+                Address::Redis { .. } => vec![Some(to == from)],
+                _ => other.listen.iter().map(|it| leads(address, it)).collect(),
             };
-            if !is_there(false) {
+            if !are_there.contains(&Some(true)) {
                 let text = format!("no `listen` of `{name}` is `{address}`");
-                self.say(at, is_there(true), key, text);
+                self.add(at, are_there.contains(&None), key, text);
             }
             if matches!(address, Address::Tcp(_)) && lower.tls.is_some() != upper.tls.is_some() {
-                self.say(at, false, key, format!("one of it and `{name}` alone has [tls]"));
+                self.say(at, key, format!("one of it and `{name}` alone has [tls]"));
             }
         }
         if upper.peers.evict <= lower.peers.ack_timeout {
             let text = format!("it has to be longer than the `ack_timeout` of `{name}`");
-            self.say(up, false, "link.evict", text);
+            self.say(up, "link.evict", text);
         }
     }
 }

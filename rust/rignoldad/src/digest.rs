@@ -33,6 +33,13 @@ impl Digest {
     }
 }
 
+/// What a body ends.
+#[derive(Clone, Copy, Debug, PartialEq, Eq)]
+pub enum Ends {
+    ARound,
+    Nothing,
+}
+
 /// What a root published, as digests.
 #[derive(Debug, Default)]
 pub struct Published {
@@ -57,13 +64,15 @@ struct Files {
 }
 
 impl Files {
-    /// Notes what they are from a body with this number on, which may end a `round`.
-    fn note(&mut self, number: u64, round: bool) {
-        if round {
+    /// Notes what they are from a body with this number on.
+    fn note(&mut self, number: u64, ends: Ends) {
+        if ends == Ends::ARound {
             self.since.iter_mut().for_each(|(.., rounds)| *rounds = rounds.saturating_add(1));
             self.since.retain(|(at, _, rounds)| *rounds <= ROUNDS && !is_newer(*at, number));
         }
-        if round || self.since.front().is_none_or(|(_, digest, _)| *digest != self.sum) {
+        if ends == Ends::ARound
+            || self.since.front().is_none_or(|(_, digest, _)| *digest != self.sum)
+        {
             self.since.push_front((number, self.sum, 0));
             self.since.truncate(CHANGES);
         }
@@ -71,9 +80,9 @@ impl Files {
 }
 
 impl Published {
-    /// Takes a body that is published with this number, and may end a `round`. Nothing has to have
-    /// been right before: of agents that are at a round's table or later all is known from it.
-    pub fn take(&mut self, number: u64, meaning: &Meaning<'_>, round: bool) {
+    /// Takes a body that is published with this number. Nothing has to have been right before: of
+    /// agents that are at a round's table or later all is known from it.
+    pub fn take(&mut self, number: u64, meaning: &Meaning<'_>, ends: Ends) {
         self.number = number;
         self.files.entry(Vec::new()).or_default();
         match meaning {
@@ -86,7 +95,7 @@ impl Published {
             }
         }
         self.take_keys(number, meaning);
-        self.files.values_mut().for_each(|files| files.note(number, round));
+        self.files.values_mut().for_each(|files| files.note(number, ends));
     }
 
     /// Takes changes, which have all values of the keys of files that they have some of.
@@ -124,7 +133,7 @@ impl Published {
         let sum = sums(&self.each);
         for groups in all.into_iter().take(GROUPS.saturating_sub(self.files.len())) {
             let mut files = Files { sum: sum(groups), ..Files::default() };
-            files.note(self.number, false);
+            files.note(self.number, Ends::Nothing);
             self.files.insert(groups.into(), files);
         }
     }
@@ -262,10 +271,10 @@ mod tests {
         };
         let (old, new) = (of(b"old"), of(b"new"));
         assert_eq!(published.compared(&seen(5, old)), Compared::NotKnown);
-        published.take(10, &table(b"old"), true);
-        published.take(11, &Meaning::Harmless, false);
-        published.take(12, &with(b"new"), false);
-        published.take(13, &Meaning::Harmless, false);
+        published.take(10, &table(b"old"), Ends::ARound);
+        published.take(11, &Meaning::Harmless, Ends::Nothing);
+        published.take(12, &with(b"new"), Ends::Nothing);
+        published.take(13, &Meaning::Harmless, Ends::Nothing);
         let is = |at, digest| published.compared(&seen(at, digest));
         assert_eq!([is(10, old), is(11, old), is(12, new), is(13, new)], [Compared::Same; 4]);
         assert_eq!([is(10, new), is(11, new), is(12, old), is(13, old)], [Compared::Differs; 4]);
@@ -274,16 +283,16 @@ mod tests {
         let none = Seen { applies: false, ..seen(13, old) };
         assert_eq!(published.compared(&none), Compared::Nothing);
         // a table between rounds takes nothing away, and those of rounds do after a while
-        published.take(14, &table(b"old"), false);
+        published.take(14, &table(b"old"), Ends::Nothing);
         for number in 15..15 + u64::from(ROUNDS) {
-            published.take(number, &table(b"new"), true);
+            published.take(number, &table(b"new"), Ends::ARound);
             assert_eq!(published.compared(&seen(14, old)), Compared::Same);
             assert_eq!(published.compared(&seen(14, new)), Compared::Differs);
             assert_eq!(published.compared(&seen(number, new)), Compared::Same);
         }
-        published.take(90, &table(b"new"), true);
+        published.take(90, &table(b"new"), Ends::ARound);
         assert_eq!(published.compared(&seen(14, old)), Compared::NotKnown);
-        published.take(91, &Meaning::Table(vec![]), false);
+        published.take(91, &Meaning::Table(vec![]), Ends::Nothing);
         assert_eq!(published.compared(&seen(91, 0)), Compared::Same);
         assert_eq!(published.compared(&seen(90, new)), Compared::Same);
     }
@@ -299,8 +308,8 @@ mod tests {
             let files = BTreeMap::from([(Vec::new(), files)]);
             let mut published = Published { number: 77, files, ..Default::default() };
             published.each.insert("none".into(), 5);
-            published.take(20, &Meaning::Table(vec![("key", Some(b"value"))]), true);
-            published.take(21, &Meaning::Harmless, false);
+            published.take(20, &Meaning::Table(vec![("key", Some(b"value"))]), Ends::ARound);
+            published.take(21, &Meaning::Harmless, Ends::Nothing);
             let mut digest = Digest::default();
             digest.set("key", Some(b"value"));
             for at in 20..=21 {
@@ -321,25 +330,25 @@ mod tests {
         };
         let mut it = Published::default();
         assert_eq!(is(&it), (0, 0, 0, 0));
-        it.take(10, &Meaning::Table(with(b"1")), true);
+        it.take(10, &Meaning::Table(with(b"1")), Ends::ARound);
         assert_eq!(is(&it), (of(b"1"), 10, 0, 0));
-        it.take(11, &Meaning::Changes(with(b"2")), false);
-        it.take(12, &Meaning::Changes(with(b"2")), false);
-        it.take(13, &Meaning::Table(with(b"2")), true);
+        it.take(11, &Meaning::Changes(with(b"2")), Ends::Nothing);
+        it.take(12, &Meaning::Changes(with(b"2")), Ends::Nothing);
+        it.take(13, &Meaning::Table(with(b"2")), Ends::ARound);
         assert_eq!(is(&it), (of(b"2"), 11, of(b"1"), 10));
-        it.take(14, &Meaning::Table(with(b"3")), true);
+        it.take(14, &Meaning::Table(with(b"3")), Ends::ARound);
         assert_eq!(is(&it), (of(b"3"), 14, of(b"2"), 11));
         // (what is unset is that since all settings are as they are)
-        it.take(15, &Meaning::Changes(vec![("key", None)]), false);
-        it.take(16, &Meaning::Harmless, false);
+        it.take(15, &Meaning::Changes(vec![("key", None)]), Ends::Nothing);
+        it.take(16, &Meaning::Harmless, Ends::Nothing);
         assert_eq!(is(&it), (0, 15, 0, 0));
-        it.take(17, &Meaning::Changes(with(b"3")), false);
-        it.take(18, &Meaning::Table(vec![]), true);
+        it.take(17, &Meaning::Changes(with(b"3")), Ends::Nothing);
+        it.take(18, &Meaning::Table(vec![]), Ends::ARound);
         assert_eq!((is(&it), it.keys.len()), ((0, 18, 0, 0), 0));
         // whatever its memory holds, of who is at a table or later all is known from that
         let spoilt = Key { digest: of(b"4"), number: u64::MAX / 3, old: 1, old_number: 2 };
         it.keys.insert("key".into(), spoilt);
-        it.take(20, &Meaning::Table(with(b"4")), true);
+        it.take(20, &Meaning::Table(with(b"4")), Ends::ARound);
         assert_eq!((it.key("key").all.digest, it.key("key").all.number), (of(b"4"), 20));
     }
 
@@ -358,7 +367,11 @@ mod tests {
         let [none, canary, both, other] =
             [&[][..], &["canary"], &["eu", "canary"], &["us"]].map(group);
         let mut it = Published::default();
-        it.take(10, &Meaning::Table(all(&[("a", "1"), ("a..canary", "2"), ("b..eu", "3")])), true);
+        it.take(
+            10,
+            &Meaning::Table(all(&[("a", "1"), ("a..canary", "2"), ("b..eu", "3")])),
+            Ends::ARound,
+        );
         let lists = [&none, &canary, &both, &other];
         it.knows(lists.map(|groups| &groups[..]));
         let is = |it: &Published, at, expected: [&[(&str, &str)]; 4]| {
@@ -376,13 +389,13 @@ mod tests {
         it.take(
             11,
             &Meaning::Changes(all(&[("a", "1"), ("a..canary", "2"), ("a..eu", "4")])),
-            false,
+            Ends::Nothing,
         );
         is(&it, 11, [&[("a", "1")], &[("a", "2")], &[("a", "4"), ("b", "3")], &[("a", "1")]]);
         is(&it, 10, first);
         let mut changes = all(&[("a", "5"), ("c", "6")]);
         changes.extend([("a..canary", None), ("a..eu", None)]);
-        it.take(12, &Meaning::Changes(changes), false);
+        it.take(12, &Meaning::Changes(changes), Ends::Nothing);
         let all_have = &[("a", "5"), ("c", "6")][..];
         is(&it, 12, [all_have, all_have, &[("a", "5"), ("b", "3"), ("c", "6")], all_have]);
         // of groups that nobody has any more, and then has again, older numbers are not known
@@ -393,7 +406,7 @@ mod tests {
         assert_eq!(it.compared(&seen), Compared::Differs);
         assert_eq!(it.compared(&Seen { files: 11, ..seen }), Compared::NotKnown);
         assert_eq!((it.key("b").all.digest, it.key("b").groups.len()), (0, 1));
-        it.take(13, &Meaning::Table(all(&[("a..us", "7")])), true);
+        it.take(13, &Meaning::Table(all(&[("a..us", "7")])), Ends::ARound);
         is(&it, 13, [&[], &[], &[], &[("a", "7")]]);
     }
 
@@ -402,7 +415,7 @@ mod tests {
         let mut published = Published::default();
         for number in 1..=2 * CHANGES as u64 {
             let value = number.to_be_bytes();
-            published.take(number, &Meaning::Changes(vec![("key", Some(&value))]), false);
+            published.take(number, &Meaning::Changes(vec![("key", Some(&value))]), Ends::Nothing);
         }
         assert_eq!(published.files[&[][..]].since.len(), CHANGES);
         assert_eq!(published.at(&[], CHANGES as u64), None);

@@ -1,11 +1,11 @@
 //! The disk that has the root's settings. A thread does what may have to wait for it.
+use crate::batch::{write_folder, Kept};
 use crate::depth::{too_deep, TOO_DEEP};
+use crate::refused::Refused;
 use inotify::{Inotify, WatchMask};
 use rignolda::net::{Worker, BODY_BYTES};
-use rignolda::settings::{
-    no_key, parts, published_by, read_folder_by, read_plain, shown, too_many, write_folder, Faults,
-    Found, Kept, SETTINGS, VALUE_BYTES,
-};
+use rignolda::settings::{parts, published_by, shown, SETTINGS, VALUE_BYTES};
+use rignoldactl::source::{no_key, read_folder_by, read_plain, too_many, Faults, Found};
 use std::collections::BTreeSet;
 use std::fs;
 use std::io::{self, ErrorKind};
@@ -36,12 +36,15 @@ pub enum Done {
     Read(Result<Found, Empty>),
     /// These alone changed.
     Keys(Vec<Kept>),
-    /// And whether somebody else has changed something meanwhile.
-    Written(Vec<Written>, bool),
+    /// And whether `others` have changed something meanwhile.
+    Written {
+        all: Vec<Written>,
+        others: bool,
+    },
 }
 
 /// A change, and why it was not done.
-pub type Written = (Kept, Result<(), String>);
+pub type Written = (Kept, Result<(), Refused>);
 
 /// Why there are no settings.
 pub struct Empty {
@@ -93,7 +96,7 @@ impl Place {
                 Ok(value) => self.write(vec![(parts(&key).0.into(), Some(value)), (key, None)]),
                 Err(error) => {
                     let why = format!("{}: {error}", shown(&key));
-                    Done::Written(vec![((key, None), Err(why))], false)
+                    Done::Written { all: vec![((key, None), Err(why.into()))], others: false }
                 }
             },
         }
@@ -152,13 +155,13 @@ impl Place {
             true => changes.iter().map(|_| Err("all settings are in one file".into())).collect(),
             false => {
                 let done = write_folder(&self.settings, &changes).into_iter();
-                done.map(|it| it.map_err(|e| e.to_string())).collect()
+                done.map(|it| it.map_err(|e| e.to_string().into())).collect()
             }
         };
         let own = changes.iter().zip(&done).filter(|(_, done)| done.is_ok());
         self.note(own.map(|((key, _), _)| shown(key).into()).collect());
         let others = self.keys.as_ref().is_none_or(|keys| !keys.is_empty());
-        Done::Written(changes.into_iter().zip(done).collect(), others)
+        Done::Written { all: changes.into_iter().zip(done).collect(), others }
     }
 
     /// Reads all settings, and waits for changes from before that. Where another folder takes the

@@ -3,7 +3,8 @@
 //! One is run for each change of a key. Others are each for the keys that some patterns name, with
 //! one run for all of these that changed together.
 use crate::config::Apply;
-use rignolda::settings::{older, remove, Change, Waiting};
+use crate::folder::remove;
+use rignolda::settings::{older, Change, Waiting};
 use std::collections::BTreeSet;
 use std::fs::{self, File, OpenOptions};
 use std::io::{self, Seek, Write};

@@ -6,17 +6,21 @@
 
 pub mod agent;
 pub mod apply;
+pub mod batch;
 pub mod check;
 pub mod config;
 pub mod control;
 pub mod depth;
 pub mod digest;
 pub mod disk;
+pub mod floor;
+pub mod folder;
 pub mod hold;
 pub mod hooks;
 pub mod journal;
 pub mod metrics;
 pub mod page;
+pub mod refused;
 pub mod root;
 pub mod standby;
 pub mod tree;

@@ -41,7 +41,7 @@ fn main() -> ExitCode {
                 Ok(()) => Vec::new(),
                 Err(why) => {
                     rignoldad::journal::flush();
-                    let _ = writeln!(stderr(), "rignoldad: {}", plain(&why));
+                    let _ = writeln!(stderr(), "rignoldad: {}", plain(&why.to_string()));
                     return ExitCode::FAILURE;
                 }
             },

@@ -3,15 +3,17 @@
 //! Nothing here waits for the disk: a thread does, and says what it found. A round, and each table,
 //! is of what the folder had when it was asked for; where the disk does not answer in time, it is
 //! of what was known before.
+use crate::batch::Kept;
 use crate::config::Root as Config;
 use crate::disk::{self, Done, Empty, Job, Written};
 use crate::fact;
 use crate::hold;
+use crate::refused::Refused;
 use rignolda::net::{Worker, BODY_BYTES};
 use rignolda::settings::{
-    differences, entry_bytes, no_key, parts, published_by, Faults, Found, Kept, Published,
-    Publisher, SETTINGS,
+    differences, entry_bytes, parts, published_by, Published, Publisher, SETTINGS,
 };
+use rignoldactl::source::{no_key, Faults, Found};
 use rignoldactl::Diff;
 use std::collections::{BTreeMap, BTreeSet};
 use std::io;
@@ -101,7 +103,7 @@ enum Writing<W> {
 }
 
 /// To whom, and that all is published, or why something is not.
-pub type Answer<W> = (W, Result<(), String>);
+pub type Answer<W> = (W, Result<(), Refused>);
 
 impl<W> Root<W> {
     /// Begins to read the folder, in a thread that calls `wake` whenever it has something to say.
@@ -235,12 +237,12 @@ impl<W> Root<W> {
 
     /// Publishes what is held, where the folder has it still: `digest` is that of what was seen, or
     /// 0. It is answered as a look is.
-    pub fn confirm(&mut self, digest: u64, now: Instant, who: W) -> Result<(), String> {
+    pub fn confirm(&mut self, digest: u64, now: Instant, who: W) -> Result<(), Refused> {
         match &self.held {
-            None => Err("nothing is held".into()),
-            _ if self.draining => Err("it is draining".into()),
+            None => Err(Refused::NothingIsHeld),
+            _ if self.draining => Err(Refused::Drains),
             Some(held) if digest != 0 && digest != held.digest => {
-                Err(format!("another change is held since, {:016x}", held.digest))
+                Err(format!("another change is held since, {:016x}", held.digest).into())
             }
             Some(held) => {
                 self.confirmed = Some(held.digest);
@@ -287,7 +289,7 @@ impl<W> Root<W> {
         self.mend(now);
         while let Some(done) = self.disk.done() {
             match done {
-                Done::Written(all, others) => self.is_written(all, others, now),
+                Done::Written { all, others } => self.is_written(all, others, now),
                 Done::Keys(changes) => self.have_changed(changes, now),
                 Done::Read(read) => self.is_read(read, now),
             }
@@ -347,12 +349,14 @@ impl<W> Root<W> {
     }
 
     /// Whether all that such looks saw is published; else why it cannot be.
-    fn is_published(&self) -> Result<bool, String> {
+    fn is_published(&self) -> Result<bool, Refused> {
         let some: Vec<&str> = self.faults.texts.iter().take(3).map(String::as_str).collect();
         match self.publisher.is_changed() {
             _ if self.reads > 0 && !self.is_late => Ok(false),
-            _ if !some.is_empty() => Err(format!("not all is published: {}", some.join("; "))),
-            true if self.draining => Err("it is draining".into()),
+            _ if !some.is_empty() => {
+                Err(format!("not all is published: {}", some.join("; ")).into())
+            }
+            true if self.draining => Err(Refused::Drains),
             changed => Ok(!changed),
         }
     }
@@ -422,7 +426,7 @@ impl<W> Root<W> {
 
     /// Writes a setting's file after [`Root::commit`], and publishes it then; without a value,
     /// removes it.
-    pub fn ask(&mut self, name: &str, value: Option<Vec<u8>>, who: W) -> Result<(), String> {
+    pub fn ask(&mut self, name: &str, value: Option<Vec<u8>>, who: W) -> Result<(), Refused> {
         let key = self.may_change(name)?;
         let bytes = entry_bytes(&(&key, value.as_deref()));
         match &value {
@@ -443,13 +447,13 @@ impl<W> Root<W> {
 
     /// Makes the value that a setting has for a group the one for all, after [`Root::commit`]: by
     /// one change, so that no agent has another value in between.
-    pub fn promote(&mut self, name: &str, who: W) -> Result<(), String> {
+    pub fn promote(&mut self, name: &str, who: W) -> Result<(), Refused> {
         let key = self.may_change(name)?;
         let settings = self.publisher.settings();
         let value = settings.get(&key);
         match parts(&key) {
-            (_, None) => Err(format!("`{name}` is for no group: KEY@GROUP is expected")),
-            _ if value.is_none() => Err(format!("`{name}` is not set")),
+            (_, None) => Err(format!("`{name}` is for no group: KEY@GROUP is expected").into()),
+            _ if value.is_none() => Err(format!("`{name}` is not set").into()),
             (file, _) if value.is_some_and(|it| !self.publisher.has_room(file, it)) => {
                 Err("there is no room for a second one".into())
             }
@@ -461,15 +465,15 @@ impl<W> Root<W> {
     }
 
     /// The key of a setting that is to be changed, or why it cannot be now.
-    fn may_change(&self, name: &str) -> Result<String, String> {
+    fn may_change(&self, name: &str) -> Result<String, Refused> {
         match published_by(name) {
-            _ if self.draining => Err("it is draining".into()),
-            _ if self.held.is_some() => Err("a change of its folder is held: see `diff`".into()),
+            _ if self.draining => Err(Refused::Drains),
+            _ if self.held.is_some() => Err(Refused::IsHeld),
             _ if !self.known && !self.is_new => {
                 let first = self.faults.texts.first().map_or("it is not read yet", |it| it);
-                Err(format!("{} is not known: {first}", self.config.settings.display()))
+                Err(format!("{} is not known: {first}", self.config.settings.display()).into())
             }
-            key => key.ok_or_else(|| no_key(name)),
+            key => key.ok_or_else(|| no_key(name).into()),
         }
     }
 
@@ -522,7 +526,9 @@ impl<W> Root<W> {
                 }
                 match (last, failed) {
                     (Some(key), None) => self.written.push((key, who)),
-                    (_, why) => self.answers.push((who, Err(why.unwrap_or_default()))),
+                    (_, why) => {
+                        self.answers.push((who, Err(why.unwrap_or("nothing is written".into()))))
+                    }
                 }
             }
             None => (),

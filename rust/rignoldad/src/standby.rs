@@ -6,16 +6,17 @@
 //! agent until somebody says more. Else it is an agent as any other one. `.applied` has the digest
 //! of the last whole table that it applied, so that nothing less is ever promoted.
 use crate::apply::GROUPS;
+use crate::batch::{write_folder, Batch, Kept};
 use crate::config::{Apply, Config, Root};
 use crate::digest::Digest;
 use crate::fact;
+use crate::floor::read_floor;
+use crate::refused::Refused;
 use rignolda::net::parents::NONE;
 use rignolda::net::{Way, Worker};
-use rignolda::settings::{
-    differences, furthest, is_newer, parts, published_by, read_floor, read_folder, read_folder_by,
-    read_plain, write_folder, Batch, Found, Kept,
-};
-use rignoldactl::Standby as Role;
+use rignolda::settings::{differences, furthest, is_newer, parts, published_by};
+use rignoldactl::source::{read_folder, read_folder_by, read_plain, Found};
+use rignoldactl::{at, ErrorAt, Standby as Role};
 use std::collections::BTreeMap;
 use std::fs::{self, File};
 use std::io::{self, ErrorKind};
@@ -56,9 +57,9 @@ enum Job {
 
 enum Done {
     /// And what it has applied.
-    Promoted(u64, Result<BTreeMap<String, Vec<u8>>, String>),
-    Demoted(Result<(), String>),
-    StandsBy(Result<(), String>),
+    Promoted(u64, Result<BTreeMap<String, Vec<u8>>, Refused>),
+    Demoted(Result<(), ErrorAt>),
+    StandsBy(Result<(), ErrorAt>),
     Noted,
 }
 
@@ -98,7 +99,7 @@ pub struct Standby<W> {
     found: String,
     noted: Option<u64>,
     asked: Option<W>,
-    answers: Vec<(W, Result<(), String>)>,
+    answers: Vec<(W, Result<(), Refused>)>,
 }
 
 impl<W> Standby<W> {
@@ -183,11 +184,11 @@ impl<W> Standby<W> {
         seen: u64,
         digest: Option<u64>,
         who: W,
-    ) -> Result<(), String> {
+    ) -> Result<(), Refused> {
         match self.role {
             Role::Root => return Err("it is the root".into()),
             Role::Looks => return Err("it will be the root: it looks for another one first".into()),
-            _ if self.asked.is_some() => return Err("it is asked for that already".into()),
+            _ if self.asked.is_some() => return Err(Refused::IsAsked),
             _ => self.asked = Some(who),
         }
         let clock = SystemTime::now().duration_since(UNIX_EPOCH).unwrap_or_default();
@@ -197,10 +198,10 @@ impl<W> Standby<W> {
     }
 
     /// Is to be an agent as any other.
-    pub fn demote(&mut self, who: W) -> Result<(), String> {
+    pub fn demote(&mut self, who: W) -> Result<(), Refused> {
         match self.role {
             Role::Below => return Err("it is not the root, and does not stand by".into()),
-            _ if self.asked.is_some() => return Err("it is asked for that already".into()),
+            _ if self.asked.is_some() => return Err(Refused::IsAsked),
             _ => self.asked = Some(who),
         }
         self.begin(Job::Demote);
@@ -208,7 +209,7 @@ impl<W> Standby<W> {
     }
 
     /// Those who can be answered now.
-    pub fn answers(&mut self) -> Vec<(W, Result<(), String>)> {
+    pub fn answers(&mut self) -> Vec<(W, Result<(), Refused>)> {
         std::mem::take(&mut self.answers)
     }
 
@@ -317,7 +318,7 @@ impl<W> Standby<W> {
                 return Some(self.is_root(rank));
             }
             Done::Promoted(_, Err(why)) => Err(why),
-            Done::Demoted(said) => said,
+            Done::Demoted(said) => said.map_err(Refused::from),
         };
         let is_demoted = said.is_ok();
         self.answer(said);
@@ -330,13 +331,13 @@ impl<W> Standby<W> {
         was_root.then_some(change)
     }
 
-    fn answer(&mut self, said: Result<(), String>) {
+    fn answer(&mut self, said: Result<(), Refused>) {
         self.answers.extend(self.asked.take().map(|who| (who, said)));
     }
 }
 
-fn read(folder: &Path) -> Result<Found, String> {
-    read_folder(folder).map_err(|e| format!("{}: {e}", folder.display()))
+fn read(folder: &Path) -> Result<Found, ErrorAt> {
+    read_folder(folder).map_err(at(folder.display()))
 }
 
 /// What such an agent is set up with.
@@ -399,21 +400,21 @@ impl Folders {
     }
 
     /// Puts a file into the root's folder, whole and on the disk.
-    fn put(&self, name: &str, text: &str) -> Result<(), String> {
+    fn put(&self, name: &str, text: &str) -> Result<(), ErrorAt> {
         let (path, mut batch) = (self.root.join(name), Batch::default());
-        batch
-            .write(path.clone(), text.as_bytes())
-            .map_err(|e| format!("{}: {e}", path.display()))?;
-        let failed = batch.commit();
-        failed.first().map_or(Ok(()), |(path, e)| Err(format!("{}: {e}", path.display())))
+        batch.write(path.clone(), text.as_bytes()).map_err(at(path.display()))?;
+        let failed = batch.commit().into_iter().next();
+        failed.map_or(Ok(()), |(path, error)| Err(at(path.display())(error)))
     }
 
     /// Removes a file from there, if it is there.
-    fn remove(&self, name: &str) -> Result<(), String> {
+    fn remove(&self, name: &str) -> Result<(), ErrorAt> {
         let path = self.root.join(name);
         match fs::remove_file(&path) {
-            Err(e) if e.kind() != ErrorKind::NotFound => Err(format!("{}: {e}", path.display())),
-            _ => File::open(&self.root).and_then(|it| it.sync_all()).map_err(|e| e.to_string()),
+            Err(e) if e.kind() != ErrorKind::NotFound => Err(at(path.display())(e)),
+            _ => {
+                File::open(&self.root).and_then(|it| it.sync_all()).map_err(at(self.root.display()))
+            }
         }
     }
 
@@ -423,10 +424,10 @@ impl Folders {
         rank: u64,
         copies: bool,
         digest: Option<u64>,
-    ) -> Result<BTreeMap<String, Vec<u8>>, String> {
+    ) -> Result<BTreeMap<String, Vec<u8>>, Refused> {
         let root = self.root.display();
         if !self.root.is_dir() {
-            return Err(format!("{root} is no folder"));
+            return Err(format!("{root} is no folder").into());
         }
         let applied = read(&self.applied);
         let applied = match copies {
@@ -439,7 +440,11 @@ impl Folders {
     }
 
     /// Makes the root's folder what was applied.
-    fn copy(&self, found: Found, digest: Option<u64>) -> Result<BTreeMap<String, Vec<u8>>, String> {
+    fn copy(
+        &self,
+        found: Found,
+        digest: Option<u64>,
+    ) -> Result<BTreeMap<String, Vec<u8>>, Refused> {
         let mut own = Digest::default();
         found.settings.iter().for_each(|(key, value)| own.set(key, Some(value)));
         found.unread.keys().for_each(|key| own.set(key, None));
@@ -448,11 +453,11 @@ impl Folders {
             return Err(format!(
                 "{from} is not a whole table as it was applied: put what is right into {to}, and \
                  `promote --as-is`"
-            ));
+            )
+            .into());
         }
         let applied = self.published(found)?;
-        let why = |e| format!("{}: {e}", self.root.display());
-        let there = || read_folder_by(&self.root, published_by).map_err(why);
+        let there = || read_folder_by(&self.root, published_by).map_err(at(self.root.display()));
         let old = there()?.settings;
         let changes = differences(&old, &applied).into_iter();
         let changes: Vec<Kept> =
@@ -466,29 +471,29 @@ impl Folders {
         }
         match there()?.settings == applied {
             true => Ok(applied),
-            false => Err(format!("somebody else changes {} now", self.root.display())),
+            false => Err(format!("somebody else changes {} now", self.root.display()).into()),
         }
     }
 
     /// What was published where this is applied: of a setting that has values for groups, all of
     /// these.
-    fn published(&self, found: Found) -> Result<BTreeMap<String, Vec<u8>>, String> {
+    fn published(&self, found: Found) -> Result<BTreeMap<String, Vec<u8>>, Refused> {
         let (folder, mut all) = (self.applied.join(GROUPS), found.settings);
         let grouped = if folder.exists() { read(&folder)? } else { Found::default() };
         if let Some(key) = grouped.unread.keys().next() {
-            return Err(format!("{}: {key} cannot be read", folder.display()));
+            return Err(at(folder.display())(format!("{key} cannot be read")).into());
         }
         grouped.settings.keys().for_each(|key| drop(all.remove(parts(key).0)));
         all.extend(grouped.settings);
         Ok(all)
     }
 
-    fn demote(&self) -> Result<(), String> {
+    fn demote(&self) -> Result<(), ErrorAt> {
         self.remove(ROOT)?;
         self.remove(STANDS_BY)
     }
 
-    fn stand_by(&self) -> Result<(), String> {
+    fn stand_by(&self) -> Result<(), ErrorAt> {
         self.put(STANDS_BY, "")?;
         self.remove(ROOT)
     }

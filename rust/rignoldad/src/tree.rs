@@ -19,9 +19,9 @@ const KNOWN: usize = 1 << 16;
 /// How often a list is made or read at most: with this much time for each agent in it.
 pub const EACH: Duration = Duration::from_micros(250);
 
-/// The last list of each child.
+/// The last list of each child; and whether it may say other groups than one before.
 #[derive(Debug, Default)]
-pub struct Below(BTreeMap<String, (Instant, Vec<Seen>)>);
+pub struct Below(BTreeMap<String, (Instant, Vec<Seen>)>, bool);
 
 /// The list that this child sent, if it is one, with the child first. Of the others it is what
 /// agents further below say, so what cannot be of a tree is left out, and the child is not blamed
@@ -61,8 +61,16 @@ impl Below {
         if last.is_some_and(|(at, list)| is_soon(*at, list.len())) {
             return bytes.len() <= REPORT_BYTES;
         }
-        let list = read(child, bytes);
-        list.map(|list| self.0.insert(child.into(), (now, list))).is_some()
+        let Some(list) = read(child, bytes) else { return false };
+        let old = last.map_or(&[][..], |(_, list)| list);
+        self.1 |= !old.iter().map(|it| &it.groups).eq(list.iter().map(|it| &it.groups));
+        self.0.insert(child.into(), (now, list));
+        true
+    }
+
+    /// Whether agents below may be of other groups than when this was asked last.
+    pub fn has_other_groups(&mut self) -> bool {
+        std::mem::take(&mut self.1)
     }
 
     /// The number of a child, and the one that is furthest ahead of that at it and below. (Where

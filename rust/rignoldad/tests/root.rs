@@ -2,6 +2,7 @@
 use rignolda::net::{checksum, Body};
 use rignolda::settings::{Meaning, Published, VALUE_BYTES};
 use rignoldad::config;
+use rignoldad::refused::Refused;
 use rignoldad::root::Root;
 use std::collections::BTreeMap;
 use std::fs;
@@ -67,18 +68,18 @@ impl Tried {
         self.wait();
     }
 
-    fn ask(&mut self, key: &str, value: Option<&[u8]>) -> Result<(), String> {
+    fn ask(&mut self, key: &str, value: Option<&[u8]>) -> Result<(), Refused> {
         self.root.ask(key, value.map(Vec::from), key.into())
     }
 
     /// Those that failed.
-    fn commit(&mut self) -> Vec<(String, String)> {
+    fn commit(&mut self) -> Vec<(String, Refused)> {
         self.root.commit();
         self.wait();
         self.answers().into_iter().filter_map(|(key, done)| Some((key, done.err()?))).collect()
     }
 
-    fn change(&mut self, key: &str, value: Option<&[u8]>) -> Result<(), String> {
+    fn change(&mut self, key: &str, value: Option<&[u8]>) -> Result<(), Refused> {
         self.ask(key, value)?;
         self.commit().pop().map_or(Ok(()), |(_, why)| Err(why))
     }
@@ -494,7 +495,7 @@ fn the_first_setting_of_an_empty_folder_may_be_published() {
     fs::remove_file(folder.0.join("a")).unwrap();
     fs::create_dir(folder.0.join("inner")).unwrap();
     let (mut root, _) = self::root(&folder.0, true);
-    let why = root.change("a", Some(b"1")).unwrap_err();
+    let why = root.change("a", Some(b"1")).unwrap_err().to_string();
     assert!(why.contains("is not known"), "{why}");
 }
 
@@ -558,7 +559,8 @@ fn what_cannot_be_published_is_named_until_it_can() {
     let faults = after(&mut root, &|it| fs::rename(it, it.with_extension("gone")).unwrap());
     assert!(faults.len() == 1 && faults[0].contains("No such file"), "{faults:?}");
     fs::rename(folder.0.with_extension("gone"), &folder.0).unwrap();
-    assert!(root.ask("../a", None).unwrap_err().contains("the first one no dot or hyphen"));
+    let why = root.ask("../a", None).unwrap_err().to_string();
+    assert!(why.contains("the first one no dot or hyphen"), "{why}");
 }
 
 #[test]
@@ -722,19 +724,22 @@ fn what_unsets_more_than_half_is_held_until_it_is_confirmed() {
     assert_eq!(diff(&mut root), said_of(why, "-c"));
     assert_eq!(root.faults(), [format!("{why}: held until `rignoldactl confirm`")]);
     // nothing is published of it, nor anything that is asked for, and no round's table
-    assert!(root.change("g", Some(b"g")).unwrap_err().contains("is held"));
+    assert_eq!(root.change("g", Some(b"g")), Err(Refused::IsHeld));
     root.tick(now + ROUND);
     assert_eq!(all(&mut root), [] as [Said; 0]);
     // what is confirmed is what was seen, and nothing that came since
     assert_eq!(
-        root.confirm(1, now, "who".into()).unwrap_err()[..26],
+        root.confirm(1, now, "who".into()).unwrap_err().to_string()[..26],
         *"another change is held sin"
     );
     put(&folder, &["a"]);
     root.confirm(0, now, "who".into()).unwrap();
     root.wait();
     let answers = root.answers();
-    assert!(matches!(&answers[..], [(_, Err(why))] if why.contains("4 of 5")), "{answers:?}");
+    assert!(
+        matches!(&answers[..], [(_, Err(why))] if why.to_string().contains("4 of 5")),
+        "{answers:?}"
+    );
     assert_eq!(diff(&mut root), said_of("4 of 5 settings would be unset", "-b, -c, -f"));
     root.confirm(0, now, "who".into()).unwrap();
     root.wait();
@@ -742,7 +747,7 @@ fn what_unsets_more_than_half_is_held_until_it_is_confirmed() {
     assert_eq!(all(&mut root).last(), Some(&table));
     assert_eq!(root.answers(), [("who".into(), Ok(()))]);
     assert_eq!((root.held(), root.faults().len()), (0, 0));
-    assert!(root.confirm(0, now, "who".into()).unwrap_err().contains("nothing is held"));
+    assert_eq!(root.confirm(0, now, "who".into()), Err(Refused::NothingIsHeld));
     // one setting alone may always go
     put(&folder, &[]);
     root.notified(now);
@@ -783,7 +788,7 @@ fn a_root_that_begins_anew_holds_what_its_own_files_lack() {
     let why = "2 of 3 settings would be unset";
     assert_eq!((root.held(), all(&mut root)), (2, vec![]));
     assert_eq!(diff(&mut root), said_of(why, "-b, -c"));
-    assert!(root.change("a", Some(b"2")).unwrap_err().contains("is held"));
+    assert_eq!(root.change("a", Some(b"2")), Err(Refused::IsHeld));
     root.confirm(0, now, "who".into()).unwrap();
     root.wait();
     assert_eq!(all(&mut root).last(), Some(&vec![entry("a", Some("a"))]));

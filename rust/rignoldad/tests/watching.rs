@@ -37,6 +37,21 @@ fn tree(now: Instant) -> Vec<Seen> {
 }
 
 #[test]
+fn groups_that_are_other_ones_are_told_once() {
+    let (mut root, now) = (Below::default(), Instant::now());
+    let mut hears = |at: u64, groups: &[&str]| {
+        let groups = groups.iter().map(|it| it.to_string()).collect();
+        let report = Below::default().report(&Status { groups, ..status("a", &[]) }, now);
+        assert!(root.heard("a", &report, now + Duration::from_secs(at)));
+        [root.has_other_groups(), root.has_other_groups()]
+    };
+    assert_eq!(hears(0, &["canary"]), [true, false]);
+    assert_eq!(hears(1, &["canary"]), [false; 2]);
+    assert_eq!(hears(2, &["canary", "eu"]), [true, false]);
+    assert_eq!(hears(3, &[]), [true, false]);
+}
+
+#[test]
 fn a_list_has_each_agent_after_its_parent() {
     let list = tree(Instant::now());
     let names: Vec<(&str, &str)> = list.iter().map(|s| (&s.name[..], &s.parent[..])).collect();

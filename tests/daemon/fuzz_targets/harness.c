@@ -13,8 +13,7 @@ void *__real_calloc(size_t count, size_t size);
 void *__real_realloc(void *old, size_t size);
 int __real_posix_memalign(void **to, size_t alignment, size_t size);
 
-static const char *const targets[] = {"hello", "frames", "answers", "body", "configuration",
-                                      "control", "agent"};
+static const char *const targets[] = {"messages", "body", "configuration", "control", "agent"};
 static uint32_t target;
 static size_t most = SIZE_MAX;
 

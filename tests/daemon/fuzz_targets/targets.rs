@@ -1,11 +1,11 @@
-//! What the fuzzer calls: each target reads bytes as the daemon does, and compares what comes out
-//! with what the format says, read here by other means. It panics where they differ.
+//! What the fuzzer calls: each target reads bytes as the daemon does, and panics where what comes
+//! out is not what the format says.
 use rignolda::net::parents::NAMES;
-use rignolda::net::wire::{self, take, Expect, Hello, Message, REPORT_BYTES, WAY_BYTES};
+use rignolda::net::wire::{self, take, Expect, Message, REPORT_BYTES, WAY_BYTES};
 use rignolda::net::{
     Body, Children, Handler, Line, Parent, Parents, Peers, Setup, Way, BODY_BYTES,
 };
-use rignolda::settings::{is_key, Meaning, Table};
+use rignolda::settings::{Meaning, Table};
 use rignoldactl::ask::{bounds_text, tree_text};
 use rignoldactl::{ChildStatus, Request, Response, Status};
 use rignoldad::config::Config;
@@ -38,12 +38,10 @@ pub extern "C" fn rignolda_fuzz_byte(byte: u8) {
 pub extern "C" fn rignolda_fuzz_run(target: u32) {
     let input = INPUT.with(|input| std::mem::take(&mut *input.borrow_mut()));
     match target {
-        0 => hello(&input),
-        1 => frames(&input),
-        2 => answers(&input),
-        3 => body(&input),
-        4 => configuration(&input),
-        5 => requests(&input),
+        0 => messages(&input),
+        1 => body(&input),
+        2 => configuration(&input),
+        3 => requests(&input),
         _ => agent(&input),
     }
 }
@@ -61,129 +59,79 @@ fn is_name(text: &str) -> bool {
     text.chars().all(good) && !matches!(first, None | Some('.' | '-')) && text.len() <= 64
 }
 
-/// The hello or look at the front of these bytes, and its length, if it is whole and good.
-fn read_hello(bytes: &[u8]) -> Option<(Message, usize)> {
-    let from_end = 16 + number(bytes, 15, 1)? as usize;
-    let to_end = from_end + 1 + number(bytes, from_end, 1)? as usize;
-    let from = String::from_utf8(bytes.get(16..from_end)?.to_vec()).ok()?;
-    let to = String::from_utf8(bytes.get(from_end + 1..to_end)?.to_vec()).ok()?;
-    let is_look = bytes.starts_with(b"RGNL");
-    let is_first = is_look || bytes.starts_with(b"RGND");
-    // (of looks, version 1 knows nothing)
-    let is_one = is_first && bytes[4] > u8::from(is_look);
-    let good = is_one && is_name(&from) && (to.is_empty() || is_name(&to));
-    let (life, label) = (number(bytes, 5, 8)?, number(bytes, 13, 2)? as u16);
-    let hello = Hello { version: bytes[4], life, label, from, to };
-    let message = if is_look { Message::Look(hello) } else { Message::Hello(hello) };
-    good.then_some((message, to_end))
-}
+/// What each end may expect, which the first byte chooses.
+const EXPECT: [Expect; 4] = [Expect::Hello, Expect::Way, Expect::Frames, Expect::Acks];
 
-fn hello(bytes: &[u8]) {
-    let mut input = bytes.to_vec();
-    let taken = take(&mut input, Expect::Hello);
-    match (&taken, read_hello(bytes)) {
-        (Ok(Some(message)), Some((expected, length))) => {
-            assert_eq!(*message, expected);
-            let written = match message {
-                Message::Look(look) => look.look(),
-                Message::Hello(hello) => hello.bytes(),
-                other => panic!("{other:?}"),
-            };
-            assert_eq!(written, bytes[..length]);
-            assert_eq!(input, bytes[length..]);
+/// Where the length of what follows lies in each kind of message, how many bytes it has, and the
+/// most that it may be.
+const LENGTHS: [(u8, usize, usize, usize); 4] = [
+    (b'F', 7, 4, BODY_BYTES),
+    (b'D', 7, 4, BODY_BYTES),
+    (b'W', 3, 2, WAY_BYTES),
+    (b'R', 1, 4, REPORT_BYTES),
+];
+
+/// The bytes of a message. It is one that an agent may say.
+fn written(message: &Message) -> Vec<u8> {
+    match message {
+        Message::Hello(hello) | Message::Look(hello) => {
+            let is_look = matches!(message, Message::Look(_));
+            // (of looks, version 1 knows nothing)
+            assert!(hello.version > u8::from(is_look));
+            assert!(is_name(&hello.from) && (hello.to.is_empty() || is_name(&hello.to)));
+            if is_look {
+                hello.look()
+            } else {
+                hello.bytes()
+            }
         }
-        // (no hello has more bytes: so what is kept of one is bounded)
-        (Ok(None), None) => assert!(bytes.len() < 17 + 2 * 255),
-        (Err(_), None) => (),
-        (_, expected) => panic!("{taken:?} in place of {expected:?}"),
-    }
-    // Whatever comes in pieces comes out the same.
-    let cut = bytes.first().map_or(0, |first| usize::from(*first) % (bytes.len() + 1));
-    let mut input = bytes[..cut].to_vec();
-    let mut pieces = take(&mut input, Expect::Hello);
-    if pieces == Ok(None) {
-        input.extend_from_slice(&bytes[cut..]);
-        pieces = take(&mut input, Expect::Hello);
-    }
-    if let Ok(Some(_)) = pieces {
-        assert_eq!(pieces, taken);
-    } else {
-        assert_eq!(pieces.is_ok(), taken.is_ok());
+        Message::Way(way) => {
+            assert!(way.names.len() <= NAMES && way.names.iter().all(|name| is_name(name)));
+            wire::way(way)
+        }
+        Message::Frame(label, body) => [wire::frame(*label, body), body.bytes.clone()].concat(),
+        Message::Reference(label, it) => wire::reference(*label, it),
+        Message::Lacks(label) => wire::lacks(*label),
+        Message::Ack(label) => wire::ack(*label),
+        Message::Report(json) => wire::report(json),
+        Message::Goodbye => wire::GOODBYE.to_vec(),
+        other => panic!("{other:?}"),
     }
 }
 
-/// The names of a way, if it may have these bytes.
-fn read_names(bytes: &[u8]) -> Option<Vec<String>> {
-    let text = String::from_utf8(bytes.to_vec()).ok()?;
-    let names: Vec<String> = text.split('\n').map(String::from).collect();
-    (names.len() <= NAMES && names.iter().all(|name| is_name(name))).then_some(names)
-}
-
-/// What a parent sends: frames and ways. A candidate that is looked at sends a way alone.
-fn frames(bytes: &[u8]) {
-    let look = take(&mut bytes.to_vec(), Expect::Way);
-    match bytes.first() {
-        None | Some(b'W') => assert_eq!(look, take(&mut bytes.to_vec(), Expect::Frames)),
-        Some(_) => assert!(look.is_err()),
-    }
-    let mut chooses = Parents::new("inner", [None, Some(3)], true);
+/// Messages, one behind the other: what is taken of them is just what is written of it. (That all
+/// is taken which may be, the tests of the library say.)
+fn messages(bytes: &[u8]) {
+    let Some((first, bytes)) = bytes.split_first() else { return };
+    let (expect, now) = (EXPECT[usize::from(first % 4)], Instant::now());
+    let mut chooses = Parents::new("inner", [None, Some(3)]).with_children();
     let (mut input, mut at) = (bytes.to_vec(), 0);
     loop {
-        let rest = &bytes[at..];
-        if rest.first() == Some(&b'D') {
-            let is_long = number(rest, 7, 4).is_some_and(|it| it > BODY_BYTES as u64);
-            match take(&mut input, Expect::Frames) {
-                Ok(Some(Message::Reference(label, it))) => {
-                    assert!(!is_long);
-                    assert_eq!(wire::reference(label, &it), rest[..52]);
+        let (rest, taken) = (&bytes[at..], take(&mut input, expect));
+        let is_long = LENGTHS.iter().any(|(kind, place, digits, most)| {
+            rest.first() == Some(kind)
+                && number(rest, *place, *digits).is_some_and(|it| it > *most as u64)
+        });
+        match taken {
+            Ok(Some(message)) => {
+                let own = written(&message);
+                assert!(!is_long && rest.starts_with(&own), "{message:?}");
+                at += own.len();
+                assert_eq!(input, bytes[at..]);
+                match message {
+                    Message::Way(way) => told(&mut chooses, at % 2, way),
+                    Message::Report(json) => heard(&json, now),
+                    Message::Frame(_, body) => drop(body.meaning()),
+                    _ => (),
                 }
-                Ok(None) => return assert!(!is_long && rest.len() < 52),
-                Err(_) => return assert!(is_long),
-                other => panic!("{other:?}"),
             }
-            at += 52;
-            continue;
-        }
-        // (where the length lies, how many bytes it has, and how long what follows may be)
-        let (place, digits, most) = match rest.first() {
-            Some(b'F') => (7, 4, BODY_BYTES),
-            Some(b'W') => (3, 2, WAY_BYTES),
-            _ => (rest.len(), 1, 0),
-        };
-        let length = number(rest, place, digits).map(|length| length as usize);
-        let end = length.map(|length| place + digits + length);
-        let content = end.and_then(|end| rest.get(place + digits..end));
-        match take(&mut input, Expect::Frames) {
-            Ok(Some(Message::Frame(label, body))) => {
-                assert_eq!(rest[0], b'F');
-                assert_eq!(Some(u64::from(label)), number(rest, 1, 2));
-                assert_eq!(Some(u64::from(body.item)), number(rest, 3, 4));
-                assert_eq!(Some(&*body.bytes), content);
-                let _ = body.meaning();
-            }
-            Ok(Some(Message::Way(way))) => {
-                assert_eq!(rest[0], b'W');
-                assert_eq!(Some(u64::from(way.cost)), number(rest, 1, 2));
-                assert_eq!(Some(&way.names), content.and_then(read_names).as_ref());
-                assert_eq!(wire::way(&way), rest[..end.unwrap()]);
-                told(&mut chooses, at % 2, way);
-            }
+            // (no hello has more bytes: so what is kept of one is bounded)
             Ok(None) => {
-                assert!(rest.first().is_none_or(|first| b"FW".contains(first)));
-                assert!(length.is_none_or(|it| it <= most && content.is_none()));
-                return;
+                let most = if first % 4 == 0 { 17 + 2 * 255 } else { usize::MAX };
+                return assert!(!is_long && rest.len() < most);
             }
-            Err(_) => {
-                let is_none = rest.first().is_some_and(|first| !b"FW".contains(first));
-                let is_long = length.is_some_and(|it| it > most);
-                let is_bad = rest[0] == b'W' && content.is_some_and(|it| read_names(it).is_none());
-                assert!(is_none || is_long || is_bad);
-                return;
-            }
-            other => panic!("{other:?}"),
+            Err(_) => return,
         }
-        at += end.unwrap();
-        assert_eq!(input, bytes[at..]);
     }
 }
 
@@ -198,56 +146,7 @@ fn told(chooses: &mut Parents, candidate: usize, way: Way) {
     assert_eq!(read, Ok(Some(Message::Way(says))));
 }
 
-/// What a child sends: acknowledgements, reports and goodbyes. What an agent tells its parent of a
-/// report is one as well.
-fn answers(bytes: &[u8]) {
-    let (mut input, mut at) = (bytes.to_vec(), 0);
-    let now = Instant::now();
-    loop {
-        let rest = &bytes[at..];
-        let length = number(rest, 1, 4).map(|length| length as usize);
-        match take(&mut input, Expect::Acks) {
-            Ok(Some(Message::Ack(label))) => {
-                assert_eq!(rest[0], b'A');
-                assert_eq!(Some(u64::from(label)), number(rest, 1, 2));
-                at += 3;
-            }
-            Ok(Some(Message::Lacks(label))) => {
-                assert_eq!(rest[0], b'N');
-                assert_eq!(Some(u64::from(label)), number(rest, 1, 2));
-                at += 3;
-            }
-            Ok(Some(Message::Report(json))) => {
-                assert_eq!((rest[0], Some(json.len())), (b'R', length));
-                assert_eq!(json, rest[5..5 + json.len()]);
-                at += 5 + json.len();
-                heard(&json, now);
-            }
-            Ok(Some(Message::Goodbye)) => {
-                assert_eq!(rest[0], b'G');
-                at += 1;
-            }
-            Ok(None) => {
-                let needed = match rest.first() {
-                    None => return,
-                    Some(b'A' | b'N') => 3,
-                    Some(b'R') => length.map_or(5, |it| 5 + it),
-                    _ => panic!("more is waited for of what is no message"),
-                };
-                assert!(rest.len() < needed && needed <= 5 + REPORT_BYTES);
-                return;
-            }
-            Err(_) => {
-                let is_long = rest[0] == b'R' && length.is_some_and(|it| it > REPORT_BYTES);
-                assert!(is_long || !b"AGNR".contains(&rest[0]));
-                return;
-            }
-            other => panic!("{other:?}"),
-        }
-        assert_eq!(input, bytes[at..]);
-    }
-}
-
+/// What an agent tells its parent of a report is one as well.
 fn heard(json: &[u8], now: Instant) {
     let mut below = Below::default();
     if !below.heard("child", json, now) {
@@ -295,26 +194,6 @@ fn body(bytes: &[u8]) {
         assert!(table.keys.keys().eq(keys));
         assert!(!table.takes(sequence, &meaning) || sequence == 0);
         table.takes(sequence ^ 1, &meaning);
-    }
-    // The same bytes as a list of keys and values: what is written of it is read again.
-    let words: Vec<&[u8]> = bytes.split(|byte| *byte == b'\n').collect();
-    let mut entries = BTreeMap::new();
-    for pair in words.chunks_exact(2) {
-        if let Some(key) = std::str::from_utf8(pair[0]).ok().filter(|key| is_key(key)) {
-            entries.insert(key, Some(pair[1]));
-        }
-    }
-    let sequence = bytes.len() as u64;
-    for meaning in [
-        Meaning::Table(entries.clone().into_iter().collect()),
-        Meaning::Changes(
-            entries
-                .into_iter()
-                .map(|(key, value)| (key, value.filter(|value| !value.is_empty())))
-                .collect(),
-        ),
-    ] {
-        assert_eq!(Body::new(sequence, &meaning).meaning(), Some((sequence, meaning)));
     }
 }
 
@@ -384,7 +263,7 @@ fn requests(bytes: &[u8]) {
                         Response::Done
                     },
                 );
-                server.answer(ticket, &control::answer(&response), false);
+                server.answer(ticket, &control::answer(&response));
             }
         }
         for _ in 0..2 {

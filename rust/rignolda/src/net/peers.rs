@@ -51,11 +51,12 @@ pub struct Peers<L, A> {
     relay: Relay,
     conns: BTreeMap<u64, Conn<L>>,
     made: u64,
-    /// Those of which more may be read at once, and those that have something new to write.
+    /// Those of which more may be read at once, those that have something new to write, and those
+    /// that were made, read or written since the caller asked for them. (Each knows whether it is in
+    /// the last two.)
     again: Vec<u64>,
-    unsent: BTreeSet<u64>,
-    /// Those that were made, read or written since the caller asked for them.
-    touched: BTreeSet<u64>,
+    unsent: Vec<u64>,
+    touched: Vec<u64>,
     /// Before when there is nothing to do unless something comes, where that is known.
     due: Cell<Option<Instant>>,
     dials: BTreeMap<Whom, Dial>,
@@ -112,14 +113,14 @@ impl<L: Line, A: Clone + PartialEq + fmt::Display> Peers<L, A> {
         let mut peers = Peers {
             // (an agent without children makes tables of what it keeps)
             relay: relay.keeping(),
-            parents: Parents::new(&setup.name, setup.prices(), false),
+            parents: Parents::new(&setup.name, setup.prices()),
             setup,
             life,
             conns: BTreeMap::new(),
             made: 0,
             again: Vec::new(),
-            unsent: BTreeSet::new(),
-            touched: BTreeSet::new(),
+            unsent: Vec::new(),
+            touched: Vec::new(),
             due: Cell::new(None),
             dials: BTreeMap::new(),
             children: BTreeMap::new(),
@@ -189,8 +190,9 @@ impl<L: Line, A: Clone + PartialEq + fmt::Display> Peers<L, A> {
             whoms.extend(parent.address.as_ref().map(|_| Whom::Candidate(at)));
         }
         if let Children::Named(children) = &self.setup.children {
+            let are_there = children.keys().eq(self.relay.children().map(|it| it.0));
             for (name, address) in children {
-                self.relay.add(name, now);
+                (!are_there).then(|| self.relay.add(name, now));
                 whoms.extend(address.as_ref().map(|_| Whom::Child(name.clone())));
             }
         }
@@ -312,20 +314,23 @@ impl<L: Line, A: Clone + PartialEq + fmt::Display> Peers<L, A> {
     /// Each line with its number, and whether it has something to write.
     pub fn lines(&self) -> impl Iterator<Item = (u64, &L, bool)> {
         let all = self.conns.iter();
-        all.map(|(id, conn)| (*id, &conn.line, !conn.output.is_empty()))
+        all.map(|(id, conn)| (*id, &conn.line, conn.has_output()))
     }
 
     /// The line of this number, if there is one, and whether it has something to write.
     pub fn line(&self, id: u64) -> Option<(&L, bool)> {
         let conn = self.conns.get(&id)?;
-        Some((&conn.line, !conn.output.is_empty()))
+        Some((&conn.line, conn.has_output()))
     }
 
     /// Those of [`Peers::lines`] that were made, read or written since this was asked last: of all
     /// others the same is waited for as before. After [`Peers::check`] they are all.
     pub fn touched(&mut self) -> impl Iterator<Item = (u64, &L, bool)> {
-        let all = mem::take(&mut self.touched).into_iter();
-        all.filter_map(|id| {
+        let all = mem::take(&mut self.touched);
+        for id in &all {
+            self.conn_with(*id, |conn| conn.is_touched = false);
+        }
+        all.into_iter().filter_map(|id| {
             self.line(id)
                 .map(|(line, has_output)| (id, line, has_output))
         })
@@ -392,7 +397,7 @@ impl<L: Line, A: Clone + PartialEq + fmt::Display> Peers<L, A> {
         self.made += 1;
         let conn = Conn::new(line, state, now, until);
         self.conns.insert(self.made, conn);
-        self.touched.insert(self.made);
+        self.touched.push(self.made);
         self.due.set(None);
         self.made
     }
@@ -414,7 +419,7 @@ impl<L: Line, A: Clone + PartialEq + fmt::Display> Peers<L, A> {
             None => return,
         };
         self.due.set(None);
-        self.touched.remove(&id);
+        self.touched.retain(|it| *it != id);
         let place = conn.line.place();
         match &conn.state {
             State::Answered => (),

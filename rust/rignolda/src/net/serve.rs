@@ -19,7 +19,7 @@
 //! let fired: HashSet<_> = server.descriptors().map(|(fd, ..)| fd).collect();
 //! for (ticket, request) in server.ready(&fired, Instant::now()) {
 //!     assert_eq!(request, b'?');
-//!     server.answer(ticket, b"!", true);
+//!     server.answer_last(ticket, b"!");
 //! }
 //! let mut answer = String::new();
 //! client.read_to_string(&mut answer)?;
@@ -184,17 +184,25 @@ impl<T, L: Listener> Server<T, L> {
         requests
     }
 
-    /// Answers a request. If it is the `last` one, the connection is closed after it.
-    pub fn answer(&mut self, ticket: Ticket, bytes: &[u8], last: bool) {
+    /// Answers a request.
+    pub fn answer(&mut self, ticket: Ticket, bytes: &[u8]) {
         let mut clients = self.clients.iter_mut();
         if let Some(client) = clients.find(|it| it.number == ticket.0 && it.asked) {
-            (client.asked, client.last) = (false, last);
+            client.asked = false;
             client.again = !client.input.is_empty();
             client.output.extend_from_slice(bytes);
             if !client.write() {
                 self.clients.retain(|client| client.number != ticket.0);
             }
         }
+    }
+
+    /// The same, and the connection is closed after it.
+    pub fn answer_last(&mut self, ticket: Ticket, bytes: &[u8]) {
+        let mut clients = self.clients.iter_mut();
+        let client = clients.find(|it| it.number == ticket.0);
+        client.into_iter().for_each(|it| it.last |= it.asked);
+        self.answer(ticket, bytes);
     }
 
     fn accept(&mut self, now: Instant) {

@@ -7,7 +7,7 @@ use Rattle.stab_node.specs.declared.account.Ended.TheVariants.{Upstream, Turns}
 use Rattle.stab_run.specs.Reports.{Reported, as_report, is_upstream}
 use Rattle.stab_job.specs.JobValues.{JobValue, network}
 use Rattle.stab_run.specs.Runs.{IsReport}
-use Rattle.stab_links.specs.declared.links.Links.{Links}
+use Rattle.stab_run.specs.declared.links.Links.{Links}
 use Rattle.rignolda_commands.proofs.laws.runs_are_accepted.Goals as goal
 
 -- a node of which the report says that it ended with its upstream is one

@@ -1,4 +1,6 @@
 use Rattle.std.proofs.Common.{◌≡◌, ◌++◌, ◌+◌, ◌∙◌, List, ap, drop, string_bytes, subst, sym}
+use Rattle.std.proofs.lemmas.List.Elements.{All-get_or}
+use Rattle.stab_treecore.specs.Refusals.{NamesLink}
 use Rattle.stab_treecore.specs.TreeStep.{tree_step}
 use Rattle.stab_treecore.specs.WholeTree.{WholeTree}
 use Rattle.stab_treecore.specs.declared.event.TreeEvent.{TreeEvent}
@@ -29,3 +31,9 @@ loop-event-preserved g c =
           (next_of events i e c.loop-event-test.true c.event-item.is) c.loop-event.invariant.1)
           c.in_ok-write_step_line.ensures.line),
     )
+
+pub write_step_line-requires-clause-named : goal.write_step_line-requires-clause-named
+write_step_line-requires-clause-named g c =
+    subst (NamesLink c.args.tree.now.parents) (sym c.event-item.is)
+    (All-get_or (NamesLink c.args.tree.now.parents) c.args.events.now c.loop-event.event-index c.event-item.result c.loop-event-test.true
+    c.requires.named)

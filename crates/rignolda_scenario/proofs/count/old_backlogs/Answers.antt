@@ -1,6 +1,6 @@
 use Rattle.std.proofs.Common.{◌≡◌, ℕ, suc, ◌+◌, ◌-◌, ◌*◌, ◌<◌, length, Some, List, Option, ap, sym, ◌∙◌, subst, arith}
-use Rattle.stab_faults.specs.Moment.{old_backlog}
-use Rattle.stab_faults.specs.Since.{moment}
+use Rattle.stab_treecore.specs.Moment.{old_backlog}
+use Rattle.stab_treecore.specs.Since.{moment}
 use Rattle.stab_judge.proofs.Climbing.{climbed}
 use Rattle.stab_tree.specs.Nodes.{parent_at}
 use Rattle.stab_tree.specs.Steps.{depth_of}

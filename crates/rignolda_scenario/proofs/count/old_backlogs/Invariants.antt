@@ -1,6 +1,6 @@
 use Rattle.std.proofs.Common.{◌≡◌, ◌<◌, ◌≤◌, ◌+◌, ◌-◌, ◌*◌, length}
-use Rattle.stab_faults.specs.Moment.{old_backlog}
-use Rattle.stab_faults.specs.Since.{moment}
+use Rattle.stab_treecore.specs.Moment.{old_backlog}
+use Rattle.stab_treecore.specs.Since.{moment}
 use Rattle.stab_tree.specs.Steps.{depth_of}
 use Rattle.stab_treecore.specs.Paths.{path_sum, sum_above}
 use Rattle.rignolda_scenario.proofs.count.old_backlogs.Given as goal

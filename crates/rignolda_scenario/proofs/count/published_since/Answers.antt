@@ -1,7 +1,7 @@
 use Rattle.std.proofs.Common.{◌≡◌, ℕ, suc, ◌+◌, ◌-◌, ◌<◌, ◌≤◌, ◌++◌, length, Some, None, List, [], Option, ap, sym, ◌∙◌, subst, arith}
 use Rattle.std.specs.Option.{option_map_or}
-use Rattle.stab_faults.specs.Moment.{published_above, published_since}
-use Rattle.stab_faults.specs.Since.{backlog, gained, moment}
+use Rattle.stab_treecore.specs.Moment.{published_above, published_since}
+use Rattle.stab_treecore.specs.Since.{backlog, gained, moment}
 use Rattle.stab_tree.specs.Nodes.{parent_at, root_of}
 use Rattle.stab_tree.specs.Steps.{depth_of}
 use Rattle.rignolda_scenario.proofs.count.published_since.Goals as goal

@@ -1,6 +1,6 @@
 use Rattle.std.proofs.Common.{◌≡◌, ◌<◌, ◌≤◌, ◌+◌, ◌-◌, length}
-use Rattle.stab_faults.specs.Moment.{published_above, published_since}
-use Rattle.stab_faults.specs.Since.{gained, moment}
+use Rattle.stab_treecore.specs.Moment.{published_above, published_since}
+use Rattle.stab_treecore.specs.Since.{gained, moment}
 use Rattle.stab_tree.specs.Steps.{depth_of}
 use Rattle.rignolda_scenario.proofs.count.published_since.Given as goal
 

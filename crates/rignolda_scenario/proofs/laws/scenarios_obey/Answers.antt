@@ -1,10 +1,10 @@
 use Rattle.std.proofs.Common.{◌≡◌, ◌<◌, ◌++◌, ◌∙◌, ap, sym, subst, take, drop, length}
-use Rattle.stab_faults.specs.Changes.{Fit, changes_replay}
-use Rattle.stab_faults.specs.Hits.{Spare}
-use Rattle.stab_faults.specs.Moment.{LawSince}
-use Rattle.stab_faults.specs.Since.{gained, moment}
-use Rattle.stab_faults.proofs.Contained.{changes-append}
-use Rattle.stab_faults.proofs.Running.{fit_front, parents_stay}
+use Rattle.stab_treecore.specs.Changes.{Fit, changes_replay}
+use Rattle.stab_treecore.specs.Hits.{Spare}
+use Rattle.stab_treecore.specs.Moment.{LawSince}
+use Rattle.stab_treecore.specs.Since.{gained, moment}
+use Rattle.stab_treecore.proofs.Contained.{changes-append}
+use Rattle.stab_treecore.proofs.Running.{fit_front, parents_stay}
 use Rattle.stab_job.specs.JobValues.{network}
 use Rattle.stab_treecore.specs.TreeReplay.{initial_tree}
 use Rattle.rignolda_scenario.specs.LastFault.{last_fault}

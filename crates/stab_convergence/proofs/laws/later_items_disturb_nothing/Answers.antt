@@ -1,5 +1,5 @@
 use Rattle.std.proofs.Common.{refl}
-use Rattle.stab_faults.specs.Changes.{changes_replay}
+use Rattle.stab_treecore.specs.Changes.{changes_replay}
 use Rattle.stab_treecore.specs.TreeReplay.{tree_replay}
 use Rattle.stab_convergence.specs.PathRounds.{acts_among}
 use Rattle.stab_convergence.proofs.Ahead.{ahead_of_acts, front}

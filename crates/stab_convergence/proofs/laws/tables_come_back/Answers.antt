@@ -1,6 +1,6 @@
 use Rattle.std.proofs.Common.{ap, ◌∙◌}
-use Rattle.stab_faults.specs.Moment.{fewest_since, garbage_since, published_since, strays_since}
-use Rattle.stab_faults.specs.Since.{gained, moment}
+use Rattle.stab_treecore.specs.Moment.{fewest_since, garbage_since, published_since, strays_since}
+use Rattle.stab_treecore.specs.Since.{gained, moment}
 use Rattle.stab_settings.specs.Tables.{apply_items}
 use Rattle.stab_convergence.proofs.laws.tables_come_back.Goals as goal
 

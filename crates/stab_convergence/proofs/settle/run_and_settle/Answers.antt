@@ -2,9 +2,9 @@ use Rattle.std.proofs.Common.{◌≡◌, ◌∙◌, ap, sym, subst}
 use Rattle.stab_treecore.specs.Network.{network_of}
 use Rattle.stab_treecore.specs.TreeReplay.{initial_tree, tree_replay}
 use Rattle.stab_treecore.specs.WholeTree.{WholeTree}
-use Rattle.stab_faults.specs.Changes.{Fit, changes_replay}
-use Rattle.stab_faults.proofs.Contained.{changes-append}
-use Rattle.stab_faults.proofs.Running.{all_fit}
+use Rattle.stab_treecore.specs.Changes.{Fit, changes_replay}
+use Rattle.stab_treecore.proofs.Contained.{changes-append}
+use Rattle.stab_treecore.proofs.Running.{all_fit}
 use Rattle.stab_rounds.specs.TreePlayed.{play_reads}
 use Rattle.stab_convergence.specs.Converged.{HasConverged}
 use Rattle.stab_convergence.proofs.settle.run_and_settle.Goals as goal

@@ -1,5 +1,5 @@
 use Rattle.std.proofs.Common.{length, map, option_map, ap, ◌∙◌, arith}
-use Rattle.stab_scatter.proofs.ForCallers.{rows_can_be_gathered, rows_gathered_alike}
+use Rattle.stab_node.proofs.ByParent.{rows_can_be_gathered, rows_gathered_alike}
 use Rattle.stab_node.specs.declared.account.Ended.TheVariants.{Turns}
 use Rattle.stab_node.specs.Runs.{IsWorkersReason}
 use Rattle.stab_node.specs.Turns.{IsOver}

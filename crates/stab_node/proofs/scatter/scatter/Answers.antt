@@ -2,7 +2,7 @@ use Rattle.std.specs.List.{range_with_len}
 use Rattle.std.proofs.Common.{[], ◌∷◌, ◌++◌, rules, arith, ap, ◌∙◌, sym}
 use Rattle.std.proofs.lemmas.List.{map-append}
 use Rattle.stab_tree.proofs.ForCallers.{length-by_child}
-use Rattle.stab_scatter.proofs.ForCallers.{length-by_parent}
+use Rattle.stab_node.proofs.ByParent.{length-by_parent}
 use Rattle.stab_node.proofs.Taken.{one_more_taken, more_to_take, all_taken, one_more_number}
 use Rattle.stab_node.proofs.scatter.scatter.Goals as goal
 

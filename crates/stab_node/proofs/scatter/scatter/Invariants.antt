@@ -1,7 +1,7 @@
 use Rattle.std.proofs.Common.{◌≡◌, drop, length, map, vec_len, vec_capacity}
 use Rattle.std.specs.List.{range_with_len}
 use Rattle.stab_tree.specs.ByChild.{by_child}
-use Rattle.stab_scatter.specs.Scattering.{by_parent}
+use Rattle.stab_node.specs.Scattering.{by_parent}
 use Rattle.stab_node.proofs.Taken.{TakenSoFar}
 use Rattle.stab_node.proofs.scatter.scatter.Given as goal
 

@@ -1,6 +1,6 @@
 use Rattle.std.proofs.Common.{rules, ◌≡◌, ◌∙◌, length}
-use Rattle.stab_links.specs.AnyLinks.{name_of}
-use Rattle.stab_links.specs.Scripted.{ScriptedLink, ScriptedRecvEnd, ScriptedRecvFinished, ScriptedSendEnd, ScriptedSendFinished}
+use Rattle.stab_run.specs.AnyLinks.{name_of}
+use Rattle.stab_run.specs.Scripted.{ScriptedLink, ScriptedRecvEnd, ScriptedRecvFinished, ScriptedSendEnd, ScriptedSendFinished}
 use Rattle.stab_node.proofs.ForCallers.{at_error}
 use Rattle.stab_node.specs.ByNode.{received_at}
 use Rattle.stab_node.specs.Runs.{IsWorkersReason}

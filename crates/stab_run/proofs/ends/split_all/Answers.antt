@@ -2,8 +2,8 @@ use Rattle.std.proofs.Common.{◌≡◌, ◌<◌, ◌+◌, ◌∙◌, ap, refl, 
 use Rattle.std.specs.List.{AllZip}
 use Rattle.std.proofs.lemmas.List.Elements.{All-push}
 use Rattle.stab_ends.specs.Accounts.{new_receiver, new_sender}
-use Rattle.stab_links.specs.AnyLinks.{IsOpenedBy, Receives, Sends}
-use Rattle.stab_links.specs.Scripted.{ScriptedRecvEnd, ScriptedSendEnd, plan}
+use Rattle.stab_run.specs.AnyLinks.{IsOpenedBy, Receives, Sends}
+use Rattle.stab_run.specs.Scripted.{ScriptedRecvEnd, ScriptedSendEnd, plan}
 use Rattle.stab_run.proofs.Paired.{more_paired, next_paired, one_more_end, one_more_paired}
 use Rattle.stab_run.proofs.ends.split_all.Goals as goal
 

@@ -1,8 +1,8 @@
 use Rattle.std.proofs.Common.{◌≡◌, All, drop, length, map, take, vec_len, vec_capacity}
 use Rattle.std.specs.List.{AllZip}
 use Rattle.stab_ends.specs.Accounts.{new_receiver, new_sender}
-use Rattle.stab_links.specs.AnyLinks.{IsOpenedBy, Receives, Sends}
-use Rattle.stab_links.specs.Scripted.{ScriptedRecvEnd, ScriptedSendEnd, plan}
+use Rattle.stab_run.specs.AnyLinks.{IsOpenedBy, Receives, Sends}
+use Rattle.stab_run.specs.Scripted.{ScriptedRecvEnd, ScriptedSendEnd, plan}
 use Rattle.stab_run.proofs.ends.split_all.Given as goal
 
 -- the ends so far are those of the links so far and follow their scripts, each link that is left

@@ -7,7 +7,7 @@ use Rattle.stab_tree.specs.Nodes.{Nodes, parent_at, root_of}
 use Rattle.stab_tree.specs.ByChild.{by_child}
 use Rattle.stab_treecore.specs.Network.{IsNetwork}
 use Rattle.stab_node.proofs.ForCallers.{at_error}
-use Rattle.stab_links.specs.AnyLinks.{given_to, kind_of, received_by, sent_by}
+use Rattle.stab_run.specs.AnyLinks.{given_to, kind_of, received_by, sent_by}
 use Rattle.stab_run.specs.ByScript.{AreByLockedScript, AreByScript}
 use Rattle.stab_run.specs.LinkRuns.{AreSettled, acked_of}
 use Rattle.stab_run.specs.RunFaults.{IsSettlingReason}

@@ -1,7 +1,7 @@
 use Rattle.std.proofs.Common.{rules, ◌≡◌, ◌<◌, ◌+◌, length, map, Some, None, ap, sym, ◌∙◌, subst}
 use Rattle.std.proofs.lemmas.List.{length-map}
 use Rattle.stab_tree.specs.Nodes.{parent_at}
-use Rattle.stab_links.specs.AnyLinks.{HasReceived, HasSent, MayDiffer, given_to, received_by, sent_by}
+use Rattle.stab_run.specs.AnyLinks.{HasReceived, HasSent, MayDiffer, given_to, received_by, sent_by}
 use Rattle.stab_run.specs.LinkRuns.{IsFirstRefused}
 use Rattle.stab_run.proofs.Settlements.{none_settled, root_settled, child_settled, first_refused, all_followed}
 use Rattle.stab_run.proofs.Paired.{as_many_paired}

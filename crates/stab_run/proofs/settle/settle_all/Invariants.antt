@@ -1,6 +1,6 @@
 use Rattle.std.proofs.Common.{◌≡◌, All, length, map, vec_len, vec_capacity}
 use Rattle.std.specs.List.{AllZip}
-use Rattle.stab_links.specs.AnyLinks.{HasReceived, HasSent, IsFollowed, IsOneOf, given_to, received_by, sent_by}
+use Rattle.stab_run.specs.AnyLinks.{HasReceived, HasSent, IsFollowed, IsOneOf, given_to, received_by, sent_by}
 use Rattle.stab_run.specs.LinkRuns.{AllOfEach}
 use Rattle.stab_run.proofs.Settlements.{SettledSoFar}
 use Rattle.stab_run.proofs.settle.settle_all.Given as goal

@@ -1,6 +1,6 @@
 use Rattle.std.proofs.Common.{rules, ◌≡◌, ◌∷◌}
 use Rattle.std.proofs.lemmas.List.Elements.{All-rest}
-use Rattle.stab_links.specs.AnyLinks.{IsOneOf}
+use Rattle.stab_run.specs.AnyLinks.{IsOneOf}
 use Rattle.stab_run.proofs.settle.settle_first.Goals as goal
 
 -- what holds of all links holds of those that are left

@@ -3,8 +3,8 @@ use Rattle.std.specs.List.{AllZip}
 use Rattle.std.proofs.lemmas.List.Elements.{All-push}
 use Rattle.stab_core.specs.LinkSetup.{LinkSetup, setup, setups}
 use Rattle.stab_core.proofs.Setups.{as_many_setups, can_begin_at, setup_at}
-use Rattle.stab_links.specs.AnyLinks.{IsOneOf, IsOpenedBy, IsScriptOf, given_to, kind_of}
-use Rattle.stab_links.specs.LinkKinds.{kind_for}
+use Rattle.stab_run.specs.AnyLinks.{IsOneOf, IsOpenedBy, IsScriptOf, given_to, kind_of}
+use Rattle.stab_run.specs.LinkKinds.{kind_for}
 use Rattle.stab_run.proofs.Begun.{one_more_given}
 use Rattle.stab_run.proofs.OfKinds.{one_of_all}
 use Rattle.stab_run.proofs.Paired.{one_more_end, one_more_paired, paired_push}

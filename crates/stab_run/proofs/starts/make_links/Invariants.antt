@@ -1,8 +1,8 @@
 use Rattle.std.proofs.Common.{◌≡◌, All, length, map, take, vec_capacity, vec_len}
 use Rattle.std.specs.List.{AllZip}
 use Rattle.stab_core.specs.LinkSetup.{setups}
-use Rattle.stab_links.specs.AnyLinks.{IsOneOf, IsOpenedBy, IsScriptOf, given_to, kind_of}
-use Rattle.stab_links.specs.LinkKinds.{kind_for}
+use Rattle.stab_run.specs.AnyLinks.{IsOneOf, IsOpenedBy, IsScriptOf, given_to, kind_of}
+use Rattle.stab_run.specs.LinkKinds.{kind_for}
 use Rattle.stab_run.proofs.starts.make_links.Given as goal
 
 -- the links so far were given the setups and the scripts so far, and are of their kinds; each has

@@ -24,9 +24,11 @@ impl<L: Line, A: Clone + PartialEq + fmt::Display> Peers<L, A> {
 
     /// This is to be written behind all that is to be written already.
     pub(super) fn push(&mut self, id: u64, chunk: Chunk) {
-        self.conn_with(id, |conn| conn.output.push_back(chunk));
-        self.unsent.insert(id);
-        self.touched.insert(id);
+        if let Some(conn) = self.conns.get_mut(&id) {
+            conn.output.push_back(chunk);
+            list(&mut self.unsent, id, &mut conn.is_unsent);
+            list(&mut self.touched, id, &mut conn.is_touched);
+        }
     }
 
     /// The other end has closed this line: it is read to its end.
@@ -39,9 +41,10 @@ impl<L: Line, A: Clone + PartialEq + fmt::Display> Peers<L, A> {
     pub fn read(&mut self, ids: impl IntoIterator<Item = u64>, now: Instant, to: &mut dyn Handler) {
         let cx = &mut Context { now, to };
         // (those that were put off come first: else a few that are always ready would come alone)
-        let mut seen = BTreeSet::new();
-        let all = mem::take(&mut self.again).into_iter().chain(ids);
-        let all = all.filter(|id| seen.insert(*id));
+        let again = mem::take(&mut self.again);
+        let first: BTreeSet<u64> = again.iter().copied().collect();
+        let all = ids.into_iter().filter(|id| !first.contains(id));
+        let all = again.into_iter().chain(all);
         let waits = |id: &u64| self.conns.get(id).map_or(false, Conn::is_greeting);
         let (waiting, mut ready): (Vec<u64>, Vec<u64>) = all.partition(waits);
         let (first, later) = waiting.split_at(waiting.len().min(TURN_GREETINGS));
@@ -107,6 +110,7 @@ impl<L: Line, A: Clone + PartialEq + fmt::Display> Peers<L, A> {
     pub fn write(&mut self, now: Instant, to: &mut dyn Handler) {
         let cx = &mut Context { now, to };
         for id in mem::take(&mut self.unsent) {
+            self.conn_with(id, |conn| conn.is_unsent = false);
             self.write_one(id, cx);
         }
     }
@@ -116,7 +120,7 @@ impl<L: Line, A: Clone + PartialEq + fmt::Display> Peers<L, A> {
             Some(conn) => conn,
             None => return,
         };
-        self.touched.insert(id);
+        list(&mut self.touched, id, &mut conn.is_touched);
         while let Some(chunk) = conn.output.front() {
             let done = match chunk.from(conn.written) {
                 [&[], &[]] => {
@@ -157,5 +161,12 @@ impl<L: Line, A: Clone + PartialEq + fmt::Display> Peers<L, A> {
             }
         }
         Ok(())
+    }
+}
+
+/// Puts a connection into a list that it is in once.
+fn list(all: &mut Vec<u64>, id: u64, is_there: &mut bool) {
+    if !mem::replace(is_there, true) {
+        all.push(id);
     }
 }

@@ -69,6 +69,9 @@ pub(super) struct Conn<L> {
     pub(super) refers: bool,
     pub(super) has_said: bool,
     pub(super) is_mute: bool,
+    /// Whether it is in these lists of the agent.
+    pub(super) is_unsent: bool,
+    pub(super) is_touched: bool,
     /// Whether its end comes behind what can be read.
     pub(super) ends: bool,
     /// The name that its hello had, right or not, in words.
@@ -92,6 +95,8 @@ impl<L> Conn<L> {
             refers: false,
             has_said: false,
             is_mute: false,
+            is_unsent: false,
+            is_touched: true,
             ends: false,
             says: String::new(),
         }
@@ -105,6 +110,11 @@ impl<L> Conn<L> {
     /// Whether it was accepted, and nobody knows whose it is.
     pub(super) fn is_greeting(&self) -> bool {
         !matches!(self.state, State::Looks(..) | State::Link(..))
+    }
+
+    /// Whether it has something to write.
+    pub(super) fn has_output(&self) -> bool {
+        !self.output.is_empty()
     }
 
     /// The other end, where it is one of a link.

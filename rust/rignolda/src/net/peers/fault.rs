@@ -69,16 +69,17 @@ impl<L: Line, A: Clone + PartialEq + fmt::Display> Peers<L, A> {
 
     fn mend(&mut self, looks_up: bool, now: Instant) {
         self.dial_all(now);
-        self.touched.extend(self.conns.keys());
-        let has_output = |conn: &Conn<L>| !conn.output.is_empty();
-        self.unsent.extend(self.all_that(has_output));
+        (self.touched, self.unsent) = (self.all_that(|_| true), self.all_that(Conn::has_output));
         let most = now + self.setup.ack_timeout * (1 << LATER) + SILENCE + travels(BODY_BYTES);
         let mut called = BTreeSet::new();
         for conn in self.conns.values_mut() {
+            (conn.is_touched, conn.is_unsent) = (true, conn.has_output());
             let waits = conn.greeted().is_none().then_some(most);
             conn.until = conn.until.or(waits).map(|at| at.min(most));
             match &conn.state {
-                State::Link(whom, ..) | State::Looks(whom, ..) => drop(called.insert(whom)),
+                State::Link(it, ..) | State::Looks(it, ..) if self.dials.contains_key(it) => {
+                    called.insert(it);
+                }
                 _ => (),
             }
         }
@@ -117,7 +118,8 @@ impl<L: Line, A: Clone + PartialEq + fmt::Display> Peers<L, A> {
             let most = (self.patience(name) + travels(link.held_bytes())) * times;
             link.idle() > most.as_secs() + more
         };
-        let stale = self.relay.children().filter(is_stale);
+        let idle = self.relay.children().filter(|it| it.1.idle() > 0);
+        let stale = idle.filter(is_stale);
         for name in stale.map(|(name, _)| name.clone()).collect::<Vec<_>>() {
             let why = "it takes nothing";
             fact!(cx, "left-behind", "{name}: {why}");
@@ -152,15 +154,23 @@ impl<L: Line, A: Clone + PartialEq + fmt::Display> Peers<L, A> {
         let is_known = |(id, conn): (&u64, &Conn<L>)| match &conn.state {
             _ if *id > self.made => false,
             State::Link(Whom::Parent, ..) => self.above == Some(*id),
-            State::Link(Whom::Child(name), number, Some(_)) => {
+            State::Link(Whom::Child(_), _, Some(_)) => {
                 connected += 1;
-                let link = self.relay.child(name);
-                let has = link.map_or(false, |link| link.has(*number));
-                has && self.children.get(name) == Some(id)
+                true
             }
             _ => true,
         };
         let are_known = self.conns.iter().all(is_known) && connected == self.children.len();
+        // (then these are all, where each child has one: both lists have the same order)
+        let mut links = self.relay.children();
+        let has_one = |(name, id): (&String, &u64)| match self.conns.get(id).map(|it| &it.state) {
+            Some(State::Link(Whom::Child(it), number, Some(_))) if it == name => {
+                let link = links.find(|it| it.0 == name);
+                link.map_or(false, |(_, link)| link.has(*number))
+            }
+            _ => false,
+        };
+        let are_theirs = self.children.iter().all(has_one);
         let has_above = self.above.map_or(true, |id| self.conns.contains_key(&id));
         match () {
             () if is_root != self.relay.is_root() => Some("it is the root, and is not"),
@@ -172,7 +182,7 @@ impl<L: Line, A: Clone + PartialEq + fmt::Display> Peers<L, A> {
             () if self.dials.len() != calls || !self.dials.keys().all(is_called) => {
                 Some("it calls other ones")
             }
-            () if !are_known || !has_above => Some("a connection is not found"),
+            () if !are_known || !are_theirs || !has_above => Some("a connection is not found"),
             () => self.relay.fault(),
         }
     }

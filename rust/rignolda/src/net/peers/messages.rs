@@ -13,8 +13,9 @@ use std::{fmt, mem};
 const MAKES: u32 = 16;
 /// A table that has not more bytes goes whole.
 const SHORT_TABLE: usize = 64;
-/// Up to this length a body is copied behind its head, where else it would go alone.
-const JOINED: usize = 16 << 10;
+/// Up to this length a body is copied behind its head: where a line takes both at once, since that
+/// costs the system less, and where it does not, since the body would go alone.
+const JOINED: [usize; 2] = [64, 16 << 10];
 
 impl<L: Line, A: Clone + PartialEq + fmt::Display> Peers<L, A> {
     pub(super) fn message(&mut self, id: u64, message: Message, cx: &mut Context<'_>) -> Result {
@@ -58,7 +59,7 @@ impl<L: Line, A: Clone + PartialEq + fmt::Display> Peers<L, A> {
                     return Err("it acknowledges what was not sent".into());
                 }
                 self.relay.on_ack(&name, Some(number), label, cx.now);
-                self.poll(&name, cx);
+                self.poll_by(id, &name, cx);
             }
             (Some((Whom::Child(name), _)), Message::Lacks(label)) => {
                 let asks = mem::take(&mut conn.refers) && !waits;
@@ -134,8 +135,12 @@ impl<L: Line, A: Clone + PartialEq + fmt::Display> Peers<L, A> {
             self.relay.last_is_a_table();
             self.says_again = true;
         }
-        let names: Vec<String> = self.children.keys().cloned().collect();
-        names.iter().for_each(|name| self.poll(name, cx));
+        // (what is sent changes none of them)
+        let children = mem::take(&mut self.children);
+        for (name, id) in &children {
+            self.poll_by(*id, name, cx);
+        }
+        self.children = children;
     }
 
     /// Says this to the parent, for watching alone: whether there is one that takes it now.
@@ -169,8 +174,12 @@ impl<L: Line, A: Clone + PartialEq + fmt::Display> Peers<L, A> {
     /// Sends a child what is to be sent to it now.
     pub(super) fn poll(&mut self, name: &str, cx: &mut Context<'_>) {
         let id = self.children.get(name).copied();
-        let frame = id.and_then(|_| self.relay.poll(name, cx.now));
-        if let Some((id, (label, body))) = id.zip(frame) {
+        id.into_iter().for_each(|id| self.poll_by(id, name, cx));
+    }
+
+    /// The same for one that has this connection.
+    fn poll_by(&mut self, id: u64, name: &str, cx: &mut Context<'_>) {
+        if let Some((label, body)) = self.relay.poll(name, cx.now) {
             match self.reference(id, name, &body, cx) {
                 Some(it) => {
                     self.answers(id, name, travels(body.bytes.len()) / MAKES, cx.now);
@@ -191,15 +200,13 @@ impl<L: Line, A: Clone + PartialEq + fmt::Display> Peers<L, A> {
         body: &Arc<Body>,
         cx: &mut Context<'_>,
     ) -> Option<Reference> {
-        let may = self.conns.get(&id)?.version >= REFERS && self.relay.under_way(name)?.2 == 1;
         let is_table = |table: &Arc<Body>| Arc::ptr_eq(table, body);
-        if !may || !self.relay.since_last_table().next().map_or(false, is_table) {
+        if !self.relay.since_last_table().next().map_or(false, is_table) {
             return None;
         }
-        let head = body
-            .bytes
-            .get(..HEAD_BYTES)
-            .filter(|_| body.bytes.len() > SHORT_TABLE)?;
+        let may = self.conns.get(&id)?.version >= REFERS && self.relay.under_way(name)?.2 == 1;
+        let head = body.bytes.get(..HEAD_BYTES);
+        let head = head.filter(|_| may && body.bytes.len() > SHORT_TABLE)?;
         let head = head.try_into().ok()?;
         let known = self.digest.take().filter(|(table, _)| is_table(table));
         let digest = known.map_or_else(|| cx.to.digest(body), |(_, digest)| Some(digest))?;
@@ -216,7 +223,7 @@ impl<L: Line, A: Clone + PartialEq + fmt::Display> Peers<L, A> {
     fn send_whole(&mut self, id: u64, name: &str, label: u16, body: Arc<Body>, now: Instant) {
         self.answers(id, name, travels(body.bytes.len()), now);
         let is_socket = self.line(id).map_or(false, |(line, _)| line.is_socket());
-        let frame = match is_socket || body.bytes.len() > JOINED {
+        let frame = match body.bytes.len() > JOINED[usize::from(!is_socket)] {
             true => Chunk::Frame(wire::frame_head(label, &body), body),
             false => Chunk::Bytes([&wire::frame_head(label, &body), &*body.bytes].concat()),
         };

@@ -1,2 +1,0 @@
-pub mod ScenarioRuns
-pub mod ScenarioRows

@@ -1,2 +1,0 @@
-mod AnyGarbage
-mod Runs

@@ -1,3 +1,0 @@
-pub mod Logs
-pub mod ObeysLogs
-pub mod LogTexts

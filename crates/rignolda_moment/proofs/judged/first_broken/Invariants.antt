@@ -1,7 +1,0 @@
-use Rattle.std.proofs.Common.{ℕ, ◌<◌}
-use Rattle.rignolda_moment.specs.ObeysSince.{NodeObeysSince}
-use Rattle.rignolda_moment.proofs.judged.first_broken.Given as goal
-
--- the nodes so far obey
-abbrev pub invariant-nodes : goal.invariant-nodes
-invariant-nodes l = (earlier : ℕ) → earlier < l.place → NodeObeysSince l.judge l.lists l.report earlier

@@ -1,3 +1,0 @@
-pub mod Backlogs
-pub mod ObeysSince
-pub mod VerdictTexts

@@ -1,0 +1,4 @@
+mod Enough
+mod Parts
+mod AnyGarbage
+mod Runs

@@ -1,5 +1,0 @@
-use Rattle.stab_faults.proofs.Contained.{contained}
-use Rattle.stab_faults.proofs.laws.clean_links_contain_faults.Goals as goal
-
-pub returns : goal.returns
-returns c = contained c.links_pass_on_exactly.ensures

@@ -1,5 +1,0 @@
-use Rattle.stab_faults.proofs.Schedules.{law_of_short_backlogs, sharper_law_of_short_backlogs}
-use Rattle.stab_faults.proofs.laws.law_of_short_backlogs.Goals as goal
-
-pub returns : goal.returns
-returns c = record { tree_law = law_of_short_backlogs; sharper = sharper_law_of_short_backlogs }

@@ -1,5 +1,0 @@
-use Rattle.stab_faults.proofs.Promise.{keeps_its_promise}
-use Rattle.stab_faults.proofs.laws.nodes_that_no_fault_hits_keep_their_promise.Goals as goal
-
-pub returns : goal.returns
-returns c = λ net changes node is is_node spare. keeps_its_promise c.link_law_from_any_state.ensures net changes node is is_node spare

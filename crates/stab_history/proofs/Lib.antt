@@ -1,5 +1,0 @@
-pub mod Bytes
-pub mod Places
-pub mod Runs
-pub mod Codes
-pub mod Marks

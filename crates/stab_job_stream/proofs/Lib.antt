@@ -1,6 +1,0 @@
-pub mod Lists
-pub mod Steps
-pub mod Parts
-pub mod Named
-pub mod Kept
-pub mod ForCallers

@@ -1,5 +1,0 @@
-pub mod AnyEnds
-pub mod Scripted
-pub mod LinkKinds
-pub mod Settled
-pub mod AnyLinks

@@ -1,4 +1,0 @@
-pub mod Parents
-pub mod Ways
-mod Rings
-mod Paths

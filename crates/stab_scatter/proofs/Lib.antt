@@ -1,3 +1,0 @@
-pub mod Scattered
-pub mod ForCallers
-pub mod Gathering

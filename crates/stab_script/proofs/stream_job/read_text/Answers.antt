@@ -1,0 +1,44 @@
+use Rattle.std.proofs.Common.{◌≡◌, ◌<◌, [], ◌∷◌, length, ap, ◌∙◌, sym, subst, arith}
+use Rattle.json.specs.Token.{Token}
+use Rattle.json.specs.Lex.{tokens}
+use Rattle.json.specs.Reads.{token_of}
+use Rattle.serde_json.specs.Data.{object}
+use Rattle.stab_script.specs.Members.{in_job}
+use Rattle.stab_script.specs.Standing.{Stands}
+use Rattle.stab_script.proofs.Jobs.{some_text}
+use Rattle.stab_script.specs.Plain.{IsInObject, IsMemberOfJob}
+use Rattle.stab_script.proofs.Plain.{no_some, no_token, one_rest}
+use Rattle.stab_script.proofs.Standing.{an_object}
+use Rattle.stab_script.proofs.stream_job.read_text.Goals as goal
+
+pub returns-in_err-parts-clause-memory : goal.returns-in_err-parts-clause-memory
+returns-in_err-parts-clause-memory c =
+    let is : tokens c.args.text.now ≡ token_of c.in-Some-BeginObject.field-0 ∷ c.next.new.self = sym c.in_ok-reader.ensures.ok ∙ c.in-Some-BeginObject.ensures.value in
+    let some : 0 < length c.args.text.now = some_text c.args.text.now (rw is (omega arith)) in
+    grind (arith, some)
+
+pub returns-clause-value : goal.returns-clause-value
+returns-clause-value c =
+    let ts = c.next.new.self in
+    let is : tokens c.args.text.now ≡ Token.begin_object ∷ ts = sym c.in_ok-reader.ensures.ok ∙ c.in-Some-BeginObject.ensures.value ∙ ap (λ k. token_of k ∷ ts) c.in-Some-BeginObject.field-0-is in
+    let found = rw c.in-Some.is at c.in_ok-parts.ensures.value in
+    let over : c.read_members.new.reader ≡ [] = c.in-None.ensures.value.0 in
+    let first : Stands in_job (Token.begin_object ∷ ts) (object found.0) [] =
+    subst (λ rest. Stands in_job (Token.begin_object ∷ ts) (object found.0) rest) over (an_object in_job ts c.read_members.new.reader found.0 (omega arith) found.1) in
+    (found.0, rw is first, found.2)
+
+pub returns-in_default-2-clause-plain : goal.returns-in_default-2-clause-plain
+returns-in_default-2-clause-plain c =
+    let ts = c.next.new.self in
+    let is : tokens c.args.text.now ≡ Token.begin_object ∷ ts = sym c.in_ok-reader.ensures.ok ∙ c.in-Some-BeginObject.ensures.value ∙ ap (λ k. token_of k ∷ ts) c.in-Some-BeginObject.field-0-is in
+    λ p.
+    let inside = c.in_ok-parts.ensures.plain [] (subst (λ us. IsInObject IsMemberOfJob us []) (one_rest Token.begin_object p.1 is) p.2) in
+    absurd (no_some c.in_default-2.is inside.0)
+
+pub returns-in-Some-next-clause-plain : goal.returns-in-Some-next-clause-plain
+returns-in-Some-next-clause-plain c =
+    let ts = c.next.new.self in
+    let is : tokens c.args.text.now ≡ Token.begin_object ∷ ts = sym c.in_ok-reader.ensures.ok ∙ c.in-Some-BeginObject.ensures.value ∙ ap (λ k. token_of k ∷ ts) c.in-Some-BeginObject.field-0-is in
+    λ p.
+    let inside = c.in_ok-parts.ensures.plain [] (subst (λ us. IsInObject IsMemberOfJob us []) (one_rest Token.begin_object p.1 is) p.2) in
+    absurd (no_token inside.1 c.in-Some-next.ensures.value)

@@ -1,4 +1,0 @@
-pub mod Standing
-pub mod Members
-pub mod Leads
-pub mod Plain

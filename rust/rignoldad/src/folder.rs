@@ -1,0 +1,205 @@
+//! Files of settings.
+use rignolda::settings::is_key;
+use std::collections::hash_map::RandomState;
+use std::collections::BTreeMap;
+use std::fs::{self, File, OpenOptions, Permissions};
+use std::hash::{BuildHasher, Hasher};
+use std::io::{self, ErrorKind, Read, Write};
+use std::os::unix::fs::{OpenOptionsExt, PermissionsExt};
+use std::path::{Path, PathBuf};
+
+/// The file that is written before it takes the place of a setting.
+const NEW: &str = ".new";
+
+/// A folder with a file for each setting: its name is the key, its bytes are the value.
+///
+/// A reader finds each file whole, as it was or as it is now. Nothing in the folder has to be
+/// right: whatever is in the place of a file is replaced. No file is synced to the disk, so after a
+/// loss of power each one is to be put again that [differs](Folder::differs).
+///
+/// ```
+/// use rignoldad::folder::Folder;
+///
+/// let path = std::env::temp_dir().join(format!("rignolda-folder-{}", std::process::id()));
+/// let mut folder = Folder::new(path.clone());
+/// folder.put("colour", Some(b"red"), 0o640)?;
+/// assert!(!folder.differs("colour", Some(b"red"), 0o640));
+/// assert!(folder.differs("colour", Some(b"blue"), 0o640));
+/// assert!(folder.had("colour", b"red") && folder.knows("colour"));
+/// assert_eq!(folder.names(), ["colour"]);
+/// std::fs::remove_dir_all(path)?;
+/// # Ok::<(), std::io::Error>(())
+/// ```
+#[derive(Debug)]
+pub struct Folder {
+    path: PathBuf,
+    /// The digests of the values that were put, or found there, last. Their key is drawn, so nobody
+    /// makes two values with one digest.
+    put: BTreeMap<String, u64>,
+    digest: RandomState,
+    /// The mode that a new file of it had by itself, as it was seen last.
+    exact: Option<u32>,
+}
+
+impl Folder {
+    /// The folder at this path. It is made when the first file is put.
+    pub fn new(path: PathBuf) -> Folder {
+        Folder { path, put: BTreeMap::new(), digest: RandomState::new(), exact: None }
+    }
+
+    /// Where it is.
+    pub fn path(&self) -> &Path {
+        &self.path
+    }
+
+    /// The names of all that is there and is no folder. A link to one is none.
+    pub fn names(&self) -> Vec<String> {
+        self.there(|is_folder, _| !is_folder)
+    }
+
+    /// The names of what is there and is nothing of settings, whether whole or while it is written:
+    /// folders, and names that are no keys. What is no text is shown as well as it may be.
+    pub fn others(&self) -> Vec<String> {
+        self.there(|is_folder, name| name != NEW && (is_folder || !is_key(name)))
+    }
+
+    fn there(&self, is: impl Fn(bool, &str) -> bool) -> Vec<String> {
+        let entries = fs::read_dir(&self.path).into_iter().flatten().flatten();
+        let is_folder = |entry: &fs::DirEntry| entry.file_type().is_ok_and(|it| it.is_dir());
+        let named = entries.map(|it| (is_folder(&it), it.file_name().to_string_lossy().into()));
+        let named = named.filter(|(is_folder, name): &(bool, String)| is(*is_folder, name));
+        named.map(|(_, name)| name).collect()
+    }
+
+    /// Makes the folder one that its owner can use, where it is there or can be made.
+    ///
+    /// # Errors
+    ///
+    /// Where the system refuses it.
+    pub fn mend(&self) -> io::Result<()> {
+        let there = fs::metadata(&self.path).ok().filter(|it| it.is_dir());
+        let there = there.map_or_else(
+            || fs::create_dir_all(&self.path).and_then(|()| fs::metadata(&self.path)),
+            Ok,
+        );
+        let mode = there?.permissions().mode();
+        match mode & 0o700 {
+            0o700 => Ok(()),
+            _ => fs::set_permissions(&self.path, Permissions::from_mode(mode | 0o700)),
+        }
+    }
+
+    /// Whether a setting's file is to be put: it is no plain file with this value and mode, or,
+    /// without a value, something is there; or another value was put last, since then nobody looks.
+    pub fn differs(&mut self, key: &str, value: Option<&[u8]>, mode: u32) -> bool {
+        let had = value.is_none_or(|value| self.had(key, value));
+        if !had && self.put.contains_key(key) || !self.is_as(key, value, mode) {
+            return true;
+        }
+        if let (false, Some(value)) = (had, value) {
+            self.put.insert(key.into(), self.digest(value));
+        }
+        false
+    }
+
+    /// Whether this value was put, or found there, last. No file is looked at, so what somebody
+    /// else did in the folder is not seen.
+    pub fn had(&self, key: &str, value: &[u8]) -> bool {
+        self.put.get(key) == Some(&self.digest(value))
+    }
+
+    /// Whether any value of this key was put, or found there, last.
+    pub fn knows(&self, key: &str) -> bool {
+        self.put.contains_key(key)
+    }
+
+    /// The keys of the values that were put, or found there, last.
+    pub fn keys(&self) -> Vec<String> {
+        self.put.keys().cloned().collect()
+    }
+
+    fn digest(&self, value: &[u8]) -> u64 {
+        let mut hasher = self.digest.build_hasher();
+        hasher.write(value);
+        hasher.finish()
+    }
+
+    fn is_as(&mut self, key: &str, value: Option<&[u8]>, mode: u32) -> bool {
+        let path = self.path.join(key);
+        let (is, value) = match (fs::symlink_metadata(&path), value) {
+            (Ok(is), Some(value)) => (is, value),
+            (there, value) => return there.is_err() && value.is_none(),
+        };
+        if is.permissions().mode() & 0o7777 != mode {
+            self.exact = None;
+            return false;
+        }
+        let mut there = vec![0; value.len()];
+        is.is_file()
+            && is.len() == value.len() as u64
+            && File::open(&path).and_then(|mut file| file.read_exact(&mut there)).is_ok()
+            && there == value
+    }
+
+    /// Makes a setting's file, or, without a value, removes it.
+    ///
+    /// # Errors
+    ///
+    /// Where the key is none, or the system refuses it; then the file is as it was.
+    pub fn put(&mut self, key: &str, value: Option<&[u8]>, mode: u32) -> io::Result<()> {
+        if !is_key(key) {
+            return Err(ErrorKind::InvalidInput.into());
+        }
+        self.put.remove(key);
+        let path = self.path.join(key);
+        let value = match value {
+            Some(value) => value,
+            None => return remove(&path),
+        };
+        let new = self.path.join(NEW);
+        let mut file = self.create(&new, mode)?;
+        file.write_all(value)?;
+        if self.exact != Some(mode) {
+            // (else the mask of the process leaves it as it is)
+            let is = file.metadata()?.permissions().mode() & 0o7777;
+            self.exact = Some(is).filter(|is| *is == mode);
+            file.set_permissions(Permissions::from_mode(mode))?;
+        }
+        drop(file);
+        if let Err(error) = fs::rename(&new, &path) {
+            if !path.is_dir() {
+                return Err(error);
+            }
+            remove(&path)?;
+            fs::rename(&new, &path)?;
+        }
+        self.put.insert(key.into(), self.digest(value));
+        Ok(())
+    }
+
+    /// A new file at a place in the folder, whatever was there.
+    fn create(&self, at: &Path, mode: u32) -> io::Result<File> {
+        let mut options = OpenOptions::new();
+        options.write(true).create_new(true).mode(mode);
+        match options.open(at) {
+            Err(e) if e.kind() == ErrorKind::AlreadyExists => remove(at)?,
+            Err(e) if e.kind() == ErrorKind::NotFound => fs::create_dir_all(&self.path)?,
+            done => return done,
+        }
+        options.open(at)
+    }
+}
+
+/// Removes whatever is at a path: a file, a folder with all that is in it, or nothing.
+///
+/// # Errors
+///
+/// Where the system refuses it.
+pub fn remove(path: &Path) -> io::Result<()> {
+    match fs::symlink_metadata(path) {
+        Err(error) if error.kind() == ErrorKind::NotFound => Ok(()),
+        Err(error) => Err(error),
+        Ok(is) if is.is_dir() => fs::remove_dir_all(path),
+        Ok(_) => fs::remove_file(path),
+    }
+}

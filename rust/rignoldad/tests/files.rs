@@ -1,0 +1,266 @@
+//! Files of settings: each is whole, as it was or as it is now.
+use rignoldad::batch::Batch;
+use rignoldad::folder::{remove, Folder};
+use std::fs::{self, File, Permissions};
+use std::io::Read;
+use std::os::unix::fs::{symlink, PermissionsExt};
+use std::path::{Path, PathBuf};
+use std::sync::atomic::{AtomicBool, AtomicU32, Ordering};
+use std::thread;
+
+/// A folder of one test, removed at its end.
+struct Place(PathBuf);
+
+impl Place {
+    fn new(name: &str) -> Place {
+        let name = format!("rignolda-files-{}-{}", name, std::process::id());
+        let path = std::env::temp_dir().join(name);
+        remove(&path).unwrap();
+        fs::create_dir(&path).unwrap();
+        Place(path)
+    }
+
+    fn names(&self) -> Vec<String> {
+        let all = fs::read_dir(&self.0).unwrap();
+        let mut names: Vec<String> =
+            all.map(|it| it.unwrap().file_name().into_string().unwrap()).collect();
+        names.sort();
+        names
+    }
+}
+
+impl Drop for Place {
+    fn drop(&mut self) {
+        let _ = fs::remove_dir_all(&self.0);
+    }
+}
+
+const MODE: u32 = 0o640;
+
+fn text(path: impl AsRef<Path>) -> String {
+    fs::read_to_string(path).unwrap()
+}
+
+fn mode(path: impl AsRef<Path>) -> u32 {
+    fs::metadata(path).unwrap().permissions().mode() & 0o7777
+}
+
+fn set_mode(path: impl AsRef<Path>, mode: u32) {
+    fs::set_permissions(path, Permissions::from_mode(mode)).unwrap();
+}
+
+#[test]
+fn who_reads_a_file_while_it_is_put_has_the_old_one_whole() {
+    let place = Place::new("old");
+    let mut folder = Folder::new(place.0.clone());
+    let mut batch = Batch::default();
+    folder.put("a", Some(b"old value"), MODE).unwrap();
+    fs::write(place.0.join("b"), "old value").unwrap();
+    let mut old = ["a", "b"].map(|key| File::open(place.0.join(key)).unwrap());
+    folder.put("a", Some(b"new"), MODE).unwrap();
+    batch.write(place.0.join("b"), b"new").unwrap();
+    assert!(batch.commit().is_empty());
+    for (file, key) in old.iter_mut().zip(["a", "b"]) {
+        let mut read = String::new();
+        file.read_to_string(&mut read).unwrap();
+        assert_eq!((&*read, &*text(place.0.join(key))), ("old value", "new"), "{key}");
+    }
+    assert_eq!(place.names(), ["a", "b"]);
+}
+
+#[test]
+fn a_file_has_its_mode_whatever_the_mask_of_the_process_is() {
+    let place = Place::new("mode");
+    let mut folder = Folder::new(place.0.clone());
+    // (each mask takes some bit of one of these away)
+    for mode in [0o666, 0o640, 0o600, 0o777, 0o666] {
+        for value in [&b"1"[..], b"2", b"3"] {
+            folder.put("a", Some(value), mode).unwrap();
+            assert_eq!(self::mode(place.0.join("a")), mode);
+            assert!(!folder.differs("a", Some(value), mode));
+        }
+    }
+    set_mode(place.0.join("a"), 0o600);
+    assert!(folder.differs("a", Some(b"3"), 0o666));
+}
+
+#[test]
+fn a_batch_keeps_the_modes_of_the_files_that_it_replaces() {
+    let place = Place::new("private");
+    let [secret, open, new] = ["secret", "open", "new"].map(|key| place.0.join(key));
+    let beside = [0, 1, 2].map(|at| place.0.join(format!(".rignolda{at}.new")));
+    for (path, is) in [(&secret, 0o600), (&open, 0o666), (&beside[0], 0o666)] {
+        // (the last one was left by a process that was killed)
+        fs::write(path, "old").unwrap();
+        set_mode(path, is);
+    }
+    let mut batch = Batch::default();
+    for path in [&secret, &open, &new] {
+        batch.write(path.clone(), b"1").unwrap();
+    }
+    assert_eq!(beside.each_ref().map(mode), [0o600, 0o666, 0o640]);
+    assert!(batch.commit().is_empty());
+    // (without one before, it is not for everybody)
+    assert_eq!([&secret, &open, &new].map(mode), [0o600, 0o666, 0o640]);
+    assert_eq!(text(&secret), "1");
+}
+
+#[test]
+fn nobody_else_can_read_a_private_file_while_it_is_written() {
+    let place = Place::new("beside");
+    let value = vec![7; 1 << 20];
+    let (looks, others, over) = (AtomicU32::new(0), AtomicU32::new(0), AtomicBool::new(false));
+    let beside = [".new", ".rignolda0.new"].map(|name| place.0.join(name));
+    fs::write(place.0.join("b"), "old").unwrap();
+    set_mode(place.0.join("b"), 0o600);
+    thread::scope(|scope| {
+        scope.spawn(|| {
+            while !over.load(Ordering::Relaxed) {
+                for is in beside.iter().filter_map(|path| fs::metadata(path).ok()) {
+                    others.fetch_or(is.permissions().mode() & 0o077, Ordering::Relaxed);
+                    looks.fetch_add(1, Ordering::Relaxed);
+                }
+            }
+        });
+        // (until somebody has looked in the middle of it often enough, as far as the system lets)
+        let (mut folder, mut seen) = (Folder::new(place.0.clone()), [0, 0]);
+        for _ in 0..60 {
+            let writes: [&mut dyn FnMut(); 2] =
+                [&mut || folder.put("a", Some(&value), 0o600).unwrap(), &mut || {
+                    Batch::default().write(place.0.join("b"), &value).unwrap()
+                }];
+            for (write, seen) in writes.into_iter().zip(&mut seen) {
+                // (what the turn before has left is nothing to look at)
+                let _ = fs::remove_file(&beside[1]);
+                let before = looks.load(Ordering::Relaxed);
+                write();
+                *seen += u32::from(looks.load(Ordering::Relaxed) > before);
+            }
+            if seen.iter().all(|seen| *seen > 4) {
+                break;
+            }
+        }
+        over.store(true, Ordering::Relaxed);
+    });
+    assert_eq!(others.into_inner(), 0, "others could read it");
+}
+
+#[test]
+fn whatever_is_in_the_way_is_replaced_and_nothing_elsewhere() {
+    let place = Place::new("way");
+    let elsewhere = place.0.join("elsewhere");
+    let path = place.0.join("settings");
+    let mut folder = Folder::new(path.clone());
+    fs::write(&elsewhere, "mine").unwrap();
+    // (the folder is not there yet)
+    folder.put("a", Some(b"1"), MODE).unwrap();
+    let ways: [&dyn Fn(&Path); 3] = [
+        &|at| symlink(&elsewhere, at).unwrap(),
+        &|at| fs::create_dir_all(at.join("x/y")).unwrap(),
+        &|at| fs::write(at, "in the way").unwrap(),
+    ];
+    for (number, way) in ways.iter().enumerate() {
+        for name in ["a", ".new"] {
+            remove(&path.join(name)).unwrap();
+            way(&path.join(name));
+            assert!(name == ".new" || folder.differs("a", Some(b"1"), MODE));
+            folder.put("a", Some(b"1"), MODE).unwrap();
+            assert_eq!(text(path.join("a")), "1", "{number} {name}");
+            assert!(!folder.differs("a", Some(b"1"), MODE));
+        }
+    }
+    assert_eq!(text(&elsewhere), "mine");
+    assert!(folder.put("../elsewhere", Some(b"2"), MODE).is_err());
+    assert!(folder.put(".new", None, MODE).is_err());
+    folder.put("a", None, MODE).unwrap();
+    folder.put("a", None, MODE).unwrap();
+    assert!(folder.names().is_empty() && !folder.differs("a", None, MODE));
+}
+
+#[test]
+fn what_was_put_last_is_looked_at_and_never_believed() {
+    let place = Place::new("looks");
+    let file = place.0.join("a");
+    let mut folder = Folder::new(place.0.clone());
+    folder.put("a", Some(b"one"), MODE).unwrap();
+    let spoil: [&dyn Fn(); 4] = [
+        &|| fs::write(&file, "two").unwrap(),
+        &|| fs::write(&file, "longer").unwrap(),
+        &|| fs::write(&file, "").unwrap(),
+        &|| fs::remove_file(&file).unwrap(),
+    ];
+    for (number, spoil) in spoil.iter().enumerate() {
+        spoil();
+        assert!(folder.differs("a", Some(b"one"), MODE), "{number}");
+        folder.put("a", Some(b"one"), MODE).unwrap();
+    }
+    // (another value is put in any case)
+    assert!(folder.differs("a", Some(b"two"), MODE));
+    assert!(folder.differs("a", None, MODE));
+    // (one that begins anew looks as well)
+    let mut folder = Folder::new(place.0.clone());
+    assert!(!folder.differs("a", Some(b"one"), MODE));
+    assert!(folder.differs("a", Some(b"two"), MODE));
+}
+
+#[test]
+fn a_batch_that_is_not_committed_changes_no_file() {
+    let place = Place::new("killed");
+    let paths: Vec<PathBuf> = (0..40).map(|at| place.0.join(format!("k{at}"))).collect();
+    paths.iter().for_each(|path| fs::write(path, "old").unwrap());
+    let mut batch = Batch::default();
+    for path in &paths {
+        assert!(!batch.has(path));
+        batch.write(path.clone(), b"new").unwrap();
+        assert!(batch.has(path));
+    }
+    // (so does a process that is killed here)
+    drop(batch);
+    assert!(paths.iter().all(|path| text(path) == "old"));
+    let mut batch = Batch::default();
+    for path in &paths {
+        batch.write(path.clone(), b"new").unwrap();
+    }
+    assert!(batch.commit().is_empty() && paths.iter().all(|path| !batch.has(path)));
+    assert!(paths.iter().all(|path| text(path) == "new"));
+    assert_eq!(place.names().len(), 40, "nothing is left beside them");
+}
+
+#[test]
+fn those_of_a_batch_that_fail_are_named_and_the_others_are_there() {
+    let place = Place::new("failed");
+    let [a, b, c] = ["a", "b", "c"].map(|key| place.0.join(key));
+    fs::create_dir_all(b.join("x")).unwrap();
+    let mut batch = Batch::default();
+    for path in [&a, &b, &c] {
+        batch.write(path.clone(), b"1").unwrap();
+    }
+    let failed = batch.commit();
+    let failed: Vec<&PathBuf> = failed.iter().map(|(path, _)| path).collect();
+    assert_eq!(failed, [&b]);
+    assert_eq!((text(&a), text(&c)), ("1".into(), "1".into()));
+    assert!(batch.write(place.0.join("no/such"), b"1").is_err());
+    assert!(batch.commit().is_empty());
+    assert_eq!(place.names(), ["a", "b", "c"]);
+}
+
+#[test]
+fn what_is_none_of_settings_is_named_and_a_link_to_a_folder_is_no_folder() {
+    let place = Place::new("others");
+    let mut folder = Folder::new(place.0.clone());
+    folder.put("a", Some(b"1"), 0o640).unwrap();
+    fs::create_dir_all(place.0.join("inner/deep")).unwrap();
+    std::os::unix::fs::symlink("inner", place.0.join("link")).unwrap();
+    for name in [".hidden", "no key", ".new"] {
+        fs::write(place.0.join(name), "").unwrap();
+    }
+    let sorted = |mut names: Vec<String>| {
+        names.sort();
+        names
+    };
+    assert_eq!(sorted(folder.others()), [".hidden", "inner", "no key"]);
+    assert_eq!(sorted(folder.names()), [".hidden", ".new", "a", "link", "no key"]);
+    set_mode(place.0.clone(), 0o040);
+    folder.mend().unwrap();
+    assert_eq!(mode(&place.0), 0o740);
+}
