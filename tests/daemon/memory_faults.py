@@ -144,7 +144,7 @@ def spoiled(old, draw):
     return (new % most).to_bytes(length, "little")
 
 
-def each_link(memory, number):
+def each_link(memory, number, _):
     """Of the words about the ends of links, each in its turn, and what it becomes."""
     number, how = divmod(number, 3)
     ends = [it for it in sorted(memory.found(re.escape(PARAMETERS))) if it < HEAPS]
@@ -153,10 +153,21 @@ def each_link(memory, number):
     return (place + 4, bytes(4)) if how == 2 else (place, [bytes(8), b"\xff" * 8][how])
 
 
-def each_time(memory, number):
+def each_time(memory, number, _):
     """Each of the times in its turn, and one that comes in years."""
     places = sorted(times(memory))
     return places[number % len(places)], struct.pack("<q", int(time.monotonic()) + 10**9)
+
+
+def each_number(memory, number, status):
+    """Each of the numbers of bodies in its turn, and one half of all numbers away: since they are on
+    a circle, neither of the two is newer."""
+    said = {struct.pack("<Q", status[key]) for key in ("sequence", "applied", "round", "changed")}
+    wanted = b"|".join(map(re.escape, said))
+    places = sorted(it for it in memory.found(wanted) if it % 8 == 0)
+    place = places[number % len(places)]
+    old, = struct.unpack("<Q", memory.at(place, 8))
+    return place, struct.pack("<Q", old ^ 1 << 63)
 
 
 def fault(memory, draw, kind, status):
@@ -321,12 +332,13 @@ class Trials:
         self.draw = random.Random(f"{self.seed} {kind} {number}")
         agent = self.draw.choice(list(self.tree))
         if kind in EACH:
-            number, agent = number // 2, self.tree[("hub", "root")[number % 2]]
+            number, at = divmod(number, len(AGENTS))
+            agent = self.tree[AGENTS[at]]
         status = agent.request(2, do="status").get("status") or self.tree.root.status()
         with stopped(agent.process.pid) as memory:
             pieces = Memory(agent.process.pid, memory)
             if kind in EACH:
-                place, new = EACH[kind](pieces, number)
+                place, new = EACH[kind](pieces, number, status)
             else:
                 place, new = fault(pieces, self.draw, kind, status)
             old = os.pread(memory, len(new), place) if place and new else b""
@@ -382,8 +394,9 @@ class Trials:
 
 KINDS = ["bit", "byte", "word", "run", "data", "stack", "agent", "links", "names", "times",
          "numbers"]
-# Those that take all places in their turn, of the hub and of the root.
-EACH = {"each-link": each_link, "each-time": each_time}
+# Those that take all places in their turn, of these agents.
+AGENTS = ["hub", "root", "one"]
+EACH = {"each-link": each_link, "each-time": each_time, "each-number": each_number}
 COLUMNS = ["trials", "late", "ended", "crashed", "hung", "wrong", "lied", "stuck"]
 
 

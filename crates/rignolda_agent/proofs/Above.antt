@@ -45,7 +45,7 @@ all_hold P from a (x ∷ xs) here all = all_hold P from (further from a x) xs (f
 
 -- ---- numbers
 
-next_ahead : (from f : ℕ) → from < circle → f < circle → ahead from f < half - 1
+pub next_ahead : (from f : ℕ) → from < circle → f < circle → ahead from f < half - 1
     → (next f < circle) × (next f ≢ 0) × (ahead from f < ahead from (next f)) × (ahead from (next f) ≤ ahead from f + 2)
 next_ahead from f from_in f_in near =
     elim (cases_eq (f + 1) circle) [
@@ -88,12 +88,12 @@ ahead_back x y x_in y_in apart =
           ]
     ]
 
-newer_by : (than n : ℕ) → n ≢ 0 → 0 < ahead than n → ahead than n < half → is_newer than n ≡ true
+pub newer_by : (than n : ℕ) → n ≢ 0 → 0 < ahead than n → ahead than n < half → is_newer than n ≡ true
 newer_by than n one apart near =
     and_from (not (n == 0)) _ (ap not (ne_eqb n 0 one))
     (or_right (than == 0) _ (and_from _ _ (lt-ltb 0 (ahead than n) apart) (lt-ltb (ahead than n) half near)))
 
-not_newer_by : (than n : ℕ) → than ≢ 0 → half ≤ ahead than n → is_newer than n ≡ false
+pub not_newer_by : (than n : ℕ) → than ≢ 0 → half ≤ ahead than n → is_newer than n ≡ false
 not_newer_by than n one far =
     and_right (not (n == 0)) _
     (or_from (than == 0) _ (ne_eqb than 0 one) (and_right (nat_lt 0 (ahead than n)) _ (le-ltb (ahead than n) half far)))

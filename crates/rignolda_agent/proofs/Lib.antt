@@ -4,6 +4,7 @@ mod Rounds
 mod Promise
 mod Waiting
 mod Above
+mod Quarters
 mod Runs
 pub mod ForCallers
 mod Steps

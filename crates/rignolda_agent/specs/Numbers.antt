@@ -15,6 +15,10 @@ circle = 18446744073709551616
 abbrev pub half : ℕ
 half = 9223372036854775808
 
+-- half of that again
+abbrev pub quarter : ℕ
+quarter = 4611686018427387904
+
 -- how far the second number is ahead of the first
 abbrev pub ahead : ℕ → ℕ → ℕ
 ahead from number = if nat_le from number then number - from else number + circle - from
@@ -28,6 +32,16 @@ is_newer than number =
 
 abbrev pub next : ℕ → ℕ
 next number = if number + 1 == circle then 1 else number + 1
+
+-- The number that is a quarter of the circle ahead of this one, or one more past 0.
+abbrev pub quarter_on : ℕ → ℕ
+quarter_on number =
+    if nat_lt (number + quarter) circle then number + quarter
+    else number + quarter + 1 - circle
+
+-- Towards the second number from the first, but by no more than that.
+abbrev pub towards : ℕ → ℕ → ℕ
+towards from number = if nat_le (ahead from number) quarter then number else quarter_on from
 
 -- Of two numbers the one that is further ahead of a third; one that is not newer is not ahead.
 abbrev pub lead : ℕ → ℕ → ℕ

@@ -8,7 +8,7 @@
 -- Source: this project's own.
 use Rattle.std.specs.Prelude.{ℕ, ◌+◌, ◌-◌, ◌==◌, ◌&&◌, ◌||◌, not, nat_lt, nat_le, min}
 use Rattle.std.specs.Prelude.{max, Bool, true, false, if◌then◌else◌}
-use Rattle.rignolda_agent.specs.Numbers.{is_newer, next as after_number}
+use Rattle.rignolda_agent.specs.Numbers.{is_newer, next as after_number, towards}
 use Rattle.rignolda_agent.specs.declared.publisher.Next.{Next}
 use Rattle.rignolda_agent.specs.declared.publisher.Next.TheVariants.{Nothing, Harmless, Changes}
 use Rattle.rignolda_agent.specs.declared.publisher.Next.TheVariants.{Whole}
@@ -117,11 +117,14 @@ due_next p changes limit =
 abbrev pub next : Publisher → ℕ → ℕ → Next
 next p changes limit = if waits p changes then due_next p changes limit else Nothing
 
--- Where an agent has this number, and it is newer, the publisher goes on above it, with a whole
--- table first.
+-- Where an agent has this number, and it is newer, the publisher goes on above it, or a quarter of
+-- all numbers nearer to it, with a whole table first. By more at once it could pass those who have
+-- the last number: no number is newer than one that is half of all before it.
 abbrev pub gone_above : Publisher → ℕ → Publisher
 gone_above p number =
-    if is_newer p.number number then record p { number = number; table_first = true } else p
+    if is_newer p.number number
+    then record p { number = towards p.number number; table_first = true }
+    else p
 
 -- a count goes on, up to the highest
 abbrev pub counted : ℕ → ℕ → ℕ

@@ -1,7 +1,7 @@
 //! Laws over lists of bodies and numbers. Each is a function with an empty body; its contract is
 //! the law.
 
-ghost use Rattle.std.specs.Prelude.{◌≡◌, ◌<◌, ◌≤◌, [], ◌∷◌, ◌++◌, ℕ, List, Option, Some};
+ghost use Rattle.std.specs.Prelude.{◌≡◌, ◌-◌, ◌<◌, ◌≤◌, [], ◌∷◌, ◌++◌, ℕ, List, Option, Some};
 ghost use Rattle.std.specs.Prelude.{length, map, take, true, false};
 ghost use Rattle.std.specs.List.{AllByRecursion};
 ghost use Rattle.stab_settings.specs.Refreshes.{reached};
@@ -12,7 +12,8 @@ ghost use Rattle.rignolda_agent.specs.Agents.{Agent, LacksNothing, Settings, Wai
 ghost use Rattle.rignolda_agent.specs.Agents.{applied_by, happens, happens_all, hears_all};
 ghost use Rattle.rignolda_agent.specs.Agents.{tell_all, with_body};
 ghost use Rattle.rignolda_agent.specs.Items.{Reading, SaysBehind, hears_items};
-ghost use Rattle.rignolda_agent.specs.Numbers.{circle, furthest, is_newer, next};
+ghost use Rattle.rignolda_agent.specs.Numbers.{ahead, circle, furthest, is_newer, next, quarter};
+ghost use Rattle.rignolda_agent.specs.Publishers.{Publisher, gone_above};
 ghost use Rattle.rignolda_agent.specs.Rounds.{AllNear, IsNear, IsReady, IsRound, IsRun, IsWithin};
 ghost use Rattle.rignolda_agent.specs.Rounds.{NeverFall};
 ghost use Rattle.rignolda_agent.specs.Rounds.{is_behind, last_number};
@@ -99,4 +100,18 @@ pub fn the_root_goes_on_above_what_it_heard()
     ensures { (low from : ℕ) (heard : List ℕ)
         → low < circle → AllByRecursion (IsWithin low) (from ∷ heard)
         → AllByRecursion (λ n. is_behind (next (furthest from heard)) n ≡ true) (from ∷ heard) }
+{}
+
+/// The root goes on by a quarter of all numbers at once. So whoever has its last number, or one that
+/// is behind that by less than a quarter but three, takes the table that comes then; and with the
+/// second such table the root is above the number that was ahead.
+pub fn whoever_is_near_takes_the_next_table()
+    ensures takes { (root : Publisher) (number agent : ℕ)
+        → 0 < root.number → root.number < circle → number < circle → 0 < agent → agent < circle
+        → ahead agent root.number < quarter - 3
+        → is_newer agent (next (gone_above root number).number) ≡ true }
+    ensures twice { (root : Publisher) (number : ℕ)
+        → 0 < root.number → root.number < circle → number < circle
+        → is_newer root.number number ≡ true
+        → (gone_above (gone_above root number) number).number ≡ number }
 {}

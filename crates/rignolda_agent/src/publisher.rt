@@ -6,7 +6,7 @@ ghost use Rattle.rignolda_agent.specs.Publishers.{publisher_of, round_goes_on, t
 ghost use Rattle.rignolda_agent.specs.Publishers as publishers;
 ghost use Rattle.rignolda_agent.specs.declared.publisher.Next.TheVariants as kinds;
 
-use crate::numbers::{is_newer, next};
+use crate::numbers::{is_newer, next, towards};
 
 /// The most harmless bodies of a round.
 const MOST_HARMLESS: u64 = 65_535;
@@ -75,14 +75,16 @@ impl Publisher {
     }
 
     /// Goes on above this number, which an agent has, with a whole table first, if it is newer than
-    /// the last one. Whether it is.
+    /// the last one. Whether it is. Where it is ahead by more than a quarter of all numbers, it goes
+    /// on by a quarter, so that those who have the last number take that table, and is above it
+    /// when it is called again.
     pub fn go_above(&mut self, number: u64) -> bool
         ensures newer { result ≡ is_newer self.old.number number }
         ensures after { publisher_of self.new ≡ gone_above (publisher_of self.old) number }
     {
         let is_ahead = is_newer(self.number, number);
         if is_ahead {
-            self.number = number;
+            self.number = towards(self.number, number);
             self.table_first = 1;
         }
         is_ahead

@@ -1,6 +1,6 @@
 //! Examples of the definitions, worked out: a law with an empty body.
 
-ghost use Rattle.std.specs.Prelude.{◌≡◌, true, false, [], ◌∷◌, Some, None};
+ghost use Rattle.std.specs.Prelude.{◌≡◌, ℕ, true, false, [], ◌∷◌, Some, None};
 ghost use Rattle.rignolda_agent.specs.Merging.{Settings};
 ghost use Rattle.rignolda_agent.specs.Merging as merging;
 ghost use Rattle.rignolda_agent.specs.Publishers.{Publisher, entries, gone_above, is_table_due};
@@ -65,7 +65,8 @@ pub fn worked_out()
         × (is_table_due (record publisher { bytes = 1048576; table_bytes = 50 }) 100 ≡ false)
         × (is_table_due (record publisher { items = 63; bytes = 9; table_bytes = 8 }) 100 ≡ false)
         × (is_table_due (record publisher { items = 64; bytes = 9; table_bytes = 8 }) 100 ≡ true) }
-    // Number 9 was the last. An agent has 12, 9 or 7; only the first one is ahead.
+    // Number 9 was the last. An agent has 12, 9 or 7; only the first one is ahead. Another has one
+    // that is ahead by half of all numbers but one: that is above it the second time.
     ensures above { let publisher : Publisher = record {
       number = 9;
       items = 1;
@@ -76,8 +77,12 @@ pub fn worked_out()
       table_first = false;
       held = false;
     } in
+        let ahead : ℕ = 9223372036854775816 in
+        let nearer : Publisher = record publisher { number = 4611686018427387913; table_first = true } in
         (gone_above publisher 12 ≡ record publisher { number = 12; table_first = true })
-        × (gone_above publisher 9 ≡ publisher) × (gone_above publisher 7 ≡ publisher) }
+        × (gone_above publisher 9 ≡ publisher) × (gone_above publisher 7 ≡ publisher)
+        × (gone_above publisher ahead ≡ nearer)
+        × (gone_above nearer ahead ≡ record nearer { number = ahead }) }
     // 5,000 changes wait, and there are 6,000 settings.
     ensures entries { (entries Whole 5000 6000 ≡ 6000) × (entries Changes 5000 6000 ≡ 4096)
         × (entries Changes 3 6000 ≡ 3) × (entries Harmless 5000 6000 ≡ 0) }
