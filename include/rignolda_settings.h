@@ -175,7 +175,9 @@ void rignolda_publisher_begin_round(rignolda_publisher *publisher, uint32_t harm
 
 /*
  * Goes on above this number, which an agent has, with a whole table first, if it is newer than the
- * last one. Returns whether it is.
+ * last one. Returns whether it is. Where it is ahead by more than a quarter of all numbers, it goes
+ * on by a quarter, so that those who have the last number take that table, and is above it when it
+ * is called again.
  */
 bool rignolda_publisher_go_above(rignolda_publisher *publisher, uint64_t number);
 

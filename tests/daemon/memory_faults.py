@@ -83,6 +83,11 @@ class Memory:
         return None
 
 
+def is_behind(number, other):
+    """Whether it is older than the other one. Numbers of bodies are on a circle."""
+    return 0 < (other - number) % 2**64 < 2**63
+
+
 def stack_of(task):
     """How far down the stack of a thread is used."""
     try:
@@ -296,7 +301,8 @@ class Trials:
         seen = self.tree.root.request(2, do="tree").get("tree", [])
         shape = {it["name"]: it["parent"] for it in seen}
         is_up = all(it["connected"] and it["whole"] and not it["failing"] and not it["draining"]
-                    and it["applied"] >= seen[0]["changed"] and it["compared"] == "same"
+                    and not is_behind(it["applied"], seen[0]["changed"])
+                    and it["compared"] == "same"
                     for it in seen)
         return is_up and shape == {"root": "", **SHAPE}
 
@@ -427,6 +433,7 @@ def lasting(counts):
 @test(begins=True)
 def trees_come_back_from_faults_of_memory():
     faults = [("each-link", at) for at in range(96)] + [("each-time", at) for at in range(50)]
+    faults += [("each-number", at) for at in range(60)]
     faults += [(kind, at) for at in range(6) for kind in KINDS]
     counts, _ = run(random.Random(1).sample(faults, len(faults)), "gate", 6)
     trials = sum(count["trials"] for count in counts.values())

@@ -6,8 +6,8 @@
 A row is a line of steps and a line of the bodies that they publish, each its kind, number and
 checksum. Steps: `a=7` sets the key a, `a*900` sets it to so many letters x, `a-` unsets it,
 `all=5000` sets so many keys, `round3` begins a round with three harmless bodies, `hold` and `go`
-hold tables back or no more, `above9` goes on above 9, and `?8` asks for a body where eight may
-follow a table.
+hold tables back or no more, `above9` goes on above 9, or a quarter of all numbers nearer to it, and
+`?8` asks for a body where eight may follow a table.
 """
 import random
 import struct
@@ -40,7 +40,9 @@ class Root:
         # (numbers go round, and 0 is none)
         ahead = (number - self.number) % 2 ** 64
         if number and (0 < ahead < 2 ** 63 or not self.number):
-            self.number, self.table_bytes = number, None
+            nearer = self.number + 2 ** 62
+            self.number = number if ahead <= 2 ** 62 else nearer % 2 ** 64 + nearer // 2 ** 64
+            self.table_bytes = None
 
     def is_long(self, limit):
         if self.table_bytes is None:
@@ -152,8 +154,9 @@ def main():
     rows.append(["?9", "round70000", "?9", "a=1", "?9", "?9", "round2"] + ["?9"] * 5)
     # (numbers of agents, also those behind, and the circle's end)
     rows.append(["?9", "above5", "a=1", "?9", "above99999", "a=2", "?9", "above0", "a=3", "?9",
-                 f"above{2 ** 63}", "a=4", "?9", f"above{2 ** 64 - 2}", "a=5", "?9", "a=6", "?9",
-                 "a=7", "?9", "above7", "a=8", "?9"])
+                 f"above{2 ** 63}", "a=4", "?9", f"above{2 ** 63}", "a=5", "?9",
+                 f"above{2 ** 64 - 2}", "?9", f"above{2 ** 64 - 2}", "a=6", "?9", "a=7", "?9",
+                 "a=8", "?9", "above7", "a=9", "?9"])
     for number, row in enumerate(rows):
         root = Root(1000 * number)
         print(*row)

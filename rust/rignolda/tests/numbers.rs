@@ -118,9 +118,14 @@ fn a_publisher_goes_on_above_a_number_with_the_whole_table() {
     assert_eq!(numbers(&mut publisher), [(501, true)]);
     publisher.set("a", vec![2]);
     assert_eq!(numbers(&mut publisher), [(502, false)]);
-    // (half of all ahead is as far as it goes at once)
-    assert!(!publisher.go_above(502 + HALF) && publisher.go_above(501 + HALF));
-    assert!(publisher.go_above(LAST));
+    // (half of all is neither ahead nor behind, and a quarter is as far as it goes at once)
+    let far = 501 + HALF;
+    assert!(!publisher.go_above(far + 1) && publisher.go_above(far));
+    assert_eq!(numbers(&mut publisher), [(503 + HALF / 2, true)]);
+    assert!(publisher.go_above(far) && !publisher.go_above(far));
+    assert_eq!(numbers(&mut publisher), [(far + 1, true)]);
+    // (past 0, which is no number)
+    assert!(publisher.go_above(LAST) && publisher.go_above(LAST));
     assert_eq!(numbers(&mut publisher), [(1, true)]);
     // (in a round too: it goes on behind that table)
     publisher.begin_round(2);

@@ -83,7 +83,8 @@ pub struct Root<W> {
     waiting: (usize, usize),
     /// Whether it was time for a round while one was under way.
     overdue: bool,
-    /// Whether its numbers went on above others since the last round began.
+    /// Whether its numbers went on above others since the last round began, or the table that is
+    /// then due is not published yet.
     went_above: bool,
     faults: Faults,
 }
@@ -157,7 +158,7 @@ impl<W> Root<W> {
 
     /// Publishes above this number, at which a promoted agent begins.
     pub fn begins_above(&mut self, number: u64) {
-        self.publisher.go_above(number);
+        self.went_above |= self.publisher.go_above(number);
     }
 
     /// Ends it: who asked for something and was not answered.
@@ -367,7 +368,8 @@ impl<W> Root<W> {
         self.fresh = std::mem::take(&mut self.for_table).then_some(now);
         if std::mem::take(&mut self.begins) && self.known && !self.draining {
             self.publisher.begin_round(self.config.harmless);
-            self.went_above = false;
+            // (not before its table is published: nobody may be passed)
+            self.went_above &= self.publisher.is_table_first();
         }
     }
 

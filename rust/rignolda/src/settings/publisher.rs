@@ -169,6 +169,10 @@ impl Publisher {
 
     /// Goes on above this number, where it is ahead: an agent has it, so it would take nothing
     /// else. The whole table comes next. Whether it was ahead.
+    ///
+    /// Where it is ahead by more than a quarter of all numbers, this goes on by a quarter alone, so
+    /// that those who have the last number take that table. Once it is published, this is called
+    /// again.
     pub fn go_above(&mut self, number: u64) -> bool {
         self.numbers.go_above(number)
     }
@@ -191,7 +195,13 @@ impl Publisher {
 
     /// Whether a change waits, or the first table.
     pub fn is_changed(&self) -> bool {
-        self.numbers.is_table_first() || !self.changed.is_empty()
+        self.is_table_first() || !self.changed.is_empty()
+    }
+
+    /// Whether a table is due before all else: the first one, or one with a number that it went
+    /// [above](Publisher::go_above).
+    pub fn is_table_first(&self) -> bool {
+        self.numbers.is_table_first()
     }
 
     /// Whether the next body is the whole table, where `limit` items may follow one at most. Before
