@@ -23,7 +23,7 @@ use Rattle.stab_convergence.specs.Exact.{IsExact, IsPathClean, IsWaiting}
 use Rattle.stab_convergence.proofs.Settled.{Passes, passes}
 
 -- a link that has handed on all has it all acknowledged
-all_acked : (t : WholeTree) (w parent : ℕ) → IsHandedOn t w parent → acked_at t w ≡ length (received t parent)
+pub all_acked : (t : WholeTree) (w parent : ℕ) → IsHandedOn t w parent → acked_at t w ≡ length (received t parent)
 all_acked t w parent (link, there, all, empty) = ap (λ o. option_map_or (λ (l : LinkValue). l.state.acked) o 0) there ∙ all
 
 -- no fault touches a link of a path that none hits

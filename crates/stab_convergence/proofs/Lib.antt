@@ -20,3 +20,5 @@ pub mod PathSums
 pub mod NoSmaller
 pub mod Downwards
 pub mod Reached
+pub mod Fronts
+pub mod AtRest

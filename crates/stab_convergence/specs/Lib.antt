@@ -5,3 +5,4 @@ pub mod Exact
 pub mod Greatest
 pub mod Meanwhile
 pub mod Misses
+pub mod AtRest

@@ -1,14 +1,18 @@
 //! Laws of convergence. Each is a function with an empty body; its contract is the law.
 
-ghost use Rattle.std.specs.Prelude.{◌≡◌, ℕ, ◌+◌, ◌*◌, ◌<◌, ◌≤◌, List, ◌++◌, length, Some};
+ghost use Rattle.std.specs.Prelude.{◌≡◌, ℕ, ◌+◌, ◌*◌, ◌<◌, ◌≤◌, List, [], ◌∷◌, ◌++◌, length};
+ghost use Rattle.std.specs.Prelude.{Some};
 ghost use Rattle.stab_convergence.specs.Arrival.{arrival_reading_rounds, arrival_rounds};
+ghost use Rattle.stab_convergence.specs.AtRest.{HasNoFault, IsAtRest};
 ghost use Rattle.stab_convergence.specs.Converged.{HasConverged};
 ghost use Rattle.stab_convergence.specs.Exact.{IsExact, IsPathClean, PassesAll};
 ghost use Rattle.stab_convergence.specs.Meanwhile.{HasAllBefore, IsEnough};
 ghost use Rattle.stab_convergence.specs.PathRounds.{IsPathOpen, PathRounds, TakesAtMost};
 ghost use Rattle.stab_convergence.specs.PathRounds.{acts_among, rounds_since};
 ghost use mathlib.Core.List.{IsPrefix};
+ghost use Rattle.stab_core.specs.declared.start.Start.{Start};
 ghost use Rattle.stab_treecore.specs.declared.change.Change.{Change};
+ghost use Rattle.stab_treecore.specs.declared.change.Change.TheVariants.{Restart, Strike};
 ghost use Rattle.stab_treecore.specs.Changes.{Fit, changes_replay};
 ghost use Rattle.stab_treecore.specs.Hits.{Spare, SpareLink};
 ghost use Rattle.stab_treecore.specs.Moment.{fewest_since, missing_since, published_since};
@@ -20,7 +24,7 @@ ghost use Rattle.stab_rounds.specs.TreeRounds.{IsOpen};
 ghost use Rattle.stab_settings.specs.Refreshes.{IsRefresh, SameBeside};
 ghost use Rattle.stab_settings.specs.Tables.{Reading, Table, apply_items};
 ghost use Rattle.stab_tree.specs.Nodes.{Nodes, parent_at, root_of};
-ghost use Rattle.stab_tree.specs.Steps.{ancestor, depth_of};
+ghost use Rattle.stab_tree.specs.Steps.{Reaches, ancestor, depth_of};
 ghost use Rattle.stab_treecore.specs.Network.{IsNetwork, Network};
 ghost use Rattle.stab_treecore.specs.Paths.{lists_above, sum_above};
 ghost use Rattle.stab_treecore.specs.TreeLaw.{TreeLaw};
@@ -192,3 +196,56 @@ pub fn settled_links_add_nothing()
         → acked_at m w ≡ length (received m parent)
         → PassesAll m (changes_replay m after) w parent }
 {}
+
+/// What one fault costs in a tree at rest, where nothing else goes wrong before or after it. A strike
+/// at the link into a node costs this node at most `c` strays, and some of the next `2c + 1` items;
+/// and each node beneath it no more. So does a restart of a node, but each node beneath it pays for
+/// the link into that child, too, and may receive what the node has then, its new list, as strays.
+/// Where this list counts as published, as beneath a root that restarts, that link alone counts.
+pub fn one_fault_in_a_tree_at_rest()
+    ensures strike { (tree : Nodes) (s : WholeTree) (before after : List Change)
+        (w parent node : ℕ) (start : Start)
+        → IsState tree s → HasNoFault before → HasNoFault after
+        → IsAtRest s (changes_replay s before)
+        → parent_at s.parents w ≡ Some parent → Reaches s.parents node w
+        → let m = changes_replay s (before ++ Strike w start ∷ []) in
+        let t = changes_replay m after in
+        IsState tree (changes_replay s before) → IsState tree m
+        → TreeLaw (capacity_at m w) (2 * capacity_at m w + 1) (queued_at m w)
+        (gained m t (root_of m.parents)) (gained m t node) }
+    ensures restart { (tree : Nodes) (s : WholeTree) (before after : List Change)
+        (w parent : ℕ) (list : List ℕ)
+        → IsState tree s → HasNoFault before → HasNoFault after
+        → IsAtRest s (changes_replay s before)
+        → parent_at s.parents w ≡ Some parent
+        → let m = changes_replay s (before ++ Restart w list ∷ []) in
+        let t = changes_replay m after in
+        IsState tree (changes_replay s before) → IsState tree m
+        → TreeLaw (capacity_at m w) (2 * capacity_at m w + 1) (queued_at m w)
+        (gained m t (root_of m.parents)) (gained m t w) }
+    ensures beneath { (tree : Nodes) (s : WholeTree) (before after : List Change)
+        (w parent child node : ℕ) (list : List ℕ)
+        → IsState tree s → HasNoFault before → HasNoFault after
+        → IsAtRest s (changes_replay s before)
+        → parent_at s.parents w ≡ Some parent
+        → parent_at s.parents child ≡ Some w → Reaches s.parents node child
+        → let m = changes_replay s (before ++ Restart w list ∷ []) in
+        let t = changes_replay m after in
+        IsState tree (changes_replay s before) → IsState tree m
+        → TreeLaw (capacity_at m child + length (received m w) + capacity_at m w)
+        (2 * capacity_at m child + 1 + (2 * capacity_at m w + 1))
+        (queued_at m child ++ (received m w ++ queued_at m w))
+        (gained m t (root_of m.parents)) (gained m t node) }
+    ensures list { (tree : Nodes) (s : WholeTree) (before after : List Change)
+        (w child node : ℕ) (list : List ℕ)
+        → IsState tree s → HasNoFault before → HasNoFault after
+        → IsAtRest s (changes_replay s before)
+        → parent_at s.parents child ≡ Some w → Reaches s.parents node child
+        → let m = changes_replay s (before ++ Restart w list ∷ []) in
+        let t = changes_replay m after in
+        IsState tree (changes_replay s before) → IsState tree m
+        → TreeLaw (capacity_at m child) (2 * capacity_at m child + 1) (queued_at m child)
+        (received m w ++ gained m t w) (gained m t node) }
+{
+    stab_core::laws::link_law_from_any_state();
+}
