@@ -370,7 +370,7 @@ module _ (obey : ObeysSince LinkLaw) (tree : Nodes) (s : WholeTree) (before afte
         → IsSettled tree s (before ++ Strike w start ∷ []) after is x p
     settled_after x p k has leads = (
       spares_link (Strike w start) rest_is is_faulty x
-      (λ at. not_beneath s.parents rooted w p (ap (parent_at s.parents) at ∙ has) k leads),
+          (λ at. not_beneath s.parents rooted w p (ap (parent_at s.parents) at ∙ has) k leads),
       omega (arith, keeps_acked x, at_rest.clean x p has),
       still_handed_on x p has,
     )
@@ -451,14 +451,13 @@ module _ (obey : ObeysSince LinkLaw) (tree : Nodes) (s : WholeTree) (before afte
           let other : p ≢ w = λ same. never_up k (ap (ancestor s.parents k) (sym same) ∙ leads) in
           let (q, above) = has_parent p k leads in
           let acked = acked_beside x p has other in
-          let lists = list_beside p other (λ no_link. absurd (has_some p q above no_link)) in
-          (
+          let lists = list_beside p other (λ no_link. absurd (has_some p q above no_link)) in (
             spares_link (Restart w list) rest_is is_faulty x
-            (λ touched.
-            elim touched [
-              | inl at ↦ never_up (suc k) (ap (λ o. option_and_then (ancestor s.parents k) o) (ap (parent_at s.parents) at ∙ has) ∙ leads)
-              | inr at_parent ↦ other (same_Some p w (sym has ∙ at_parent))
-            ]),
+                (λ touched.
+                elim touched [
+                  | inl at ↦ never_up (suc k) (ap (λ o. option_and_then (ancestor s.parents k) o) (ap (parent_at s.parents) at ∙ has) ∙ leads)
+                  | inr at_parent ↦ other (same_Some p w (sym has ∙ at_parent))
+                ]),
             omega (arith, acked, at_rest.clean x p has),
             acked ∙ (is_handed_on x p has ∙ ap length (sym lists)),
           )

@@ -81,8 +81,7 @@ early_member (suc n) (suc k) x (y ∷ ys) early here =
 law_of_front : (n most_strays most_missing : ℕ) (garbage published list : List ℕ) → TreeLaw most_strays most_missing garbage published list
     → TreeLaw most_strays most_missing garbage published (take n list)
 law_of_front n most_strays most_missing garbage published list (places, half, none_missing) =
-    let k : ℕ = n - length half.strays in
-    (
+    let k : ℕ = n - length half.strays in (
       take k places,
       record {
         strays = take n half.strays;
