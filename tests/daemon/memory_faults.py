@@ -165,8 +165,8 @@ def each_time(memory, number, _):
 
 
 def each_number(memory, number, status):
-    """Each of the numbers of bodies in its turn, and one half of all numbers away: since they are on
-    a circle, neither of the two is newer."""
+    """Each of the numbers of bodies in its turn, and one half of all numbers away: since they are
+    on a circle, neither of the two is newer."""
     said = {struct.pack("<Q", status[key]) for key in ("sequence", "applied", "round", "changed")}
     wanted = b"|".join(map(re.escape, said))
     places = sorted(it for it in memory.found(wanted) if it % 8 == 0)

@@ -102,9 +102,9 @@ pub fn the_root_goes_on_above_what_it_heard()
         → AllByRecursion (λ n. is_behind (next (furthest from heard)) n ≡ true) (from ∷ heard) }
 {}
 
-/// The root goes on by a quarter of all numbers at once. So whoever has its last number, or one that
-/// is behind that by less than a quarter but three, takes the table that comes then; and with the
-/// second such table the root is above the number that was ahead.
+/// The root goes on by a quarter of all numbers at once. So whoever has its last number, or one
+/// that is behind that by less than a quarter but three, takes the table that comes then; and with
+/// the second such table the root is above the number that was ahead.
 pub fn whoever_is_near_takes_the_next_table()
     ensures takes { (root : Publisher) (number agent : ℕ)
         → 0 < root.number → root.number < circle → number < circle → 0 < agent → agent < circle

@@ -75,9 +75,9 @@ impl Publisher {
     }
 
     /// Goes on above this number, which an agent has, with a whole table first, if it is newer than
-    /// the last one. Whether it is. Where it is ahead by more than a quarter of all numbers, it goes
-    /// on by a quarter, so that those who have the last number take that table, and is above it
-    /// when it is called again.
+    /// the last one. Whether it is. Where it is ahead by more than a quarter of all numbers, it
+    /// goes on by a quarter, so that those who have the last number take that table, and is above
+    /// it when it is called again.
     pub fn go_above(&mut self, number: u64) -> bool
         ensures newer { result ≡ is_newer self.old.number number }
         ensures after { publisher_of self.new ≡ gone_above (publisher_of self.old) number }

@@ -78,7 +78,8 @@ pub fn worked_out()
       held = false;
     } in
         let ahead : ℕ = 9223372036854775816 in
-        let nearer : Publisher = record publisher { number = 4611686018427387913; table_first = true } in
+        let quarter_on : ℕ = 4611686018427387913 in
+        let nearer : Publisher = record publisher { number = quarter_on; table_first = true } in
         (gone_above publisher 12 ≡ record publisher { number = 12; table_first = true })
         × (gone_above publisher 9 ≡ publisher) × (gone_above publisher 7 ≡ publisher)
         × (gone_above publisher ahead ≡ nearer)

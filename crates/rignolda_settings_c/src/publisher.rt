@@ -48,8 +48,8 @@ pub extern "C" fn rignolda_publisher_begin_round(publisher: &mut Publisher, harm
 }
 
 /// Goes on above this number, which an agent has, with a whole table first, if it is newer than the
-/// last one. Whether it is. Where it is ahead by more than a quarter of all numbers, it goes on by a
-/// quarter, so that those who have the last number take that table, and is above it when it is
+/// last one. Whether it is. Where it is ahead by more than a quarter of all numbers, it goes on by
+/// a quarter, so that those who have the last number take that table, and is above it when it is
 /// called again.
 #[unsafe(no_mangle)]
 pub extern "C" fn rignolda_publisher_go_above(publisher: &mut Publisher, number: u64) -> bool

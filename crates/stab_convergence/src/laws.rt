@@ -197,10 +197,10 @@ pub fn settled_links_add_nothing()
         → PassesAll m (changes_replay m after) w parent }
 {}
 
-/// What one fault costs in a tree at rest, where nothing else goes wrong before or after it. A strike
-/// at the link into a node costs this node at most `c` strays, and some of the next `2c + 1` items;
-/// and each node beneath it no more. So does a restart of a node, but each node beneath it pays for
-/// the link into that child, too, and may receive what the node has then, its new list, as strays.
+/// What one fault costs in a tree at rest, where nothing else goes wrong before or after it. A
+/// strike at the link into a node costs this node at most `c` strays, and some of the next `2c + 1`
+/// items; and each node beneath it no more. So does a restart of a node, but each node beneath it
+/// pays for the link into that child, too, and may receive the node's new list as strays.
 /// Where this list counts as published, as beneath a root that restarts, that link alone counts.
 pub fn one_fault_in_a_tree_at_rest()
     ensures strike { (tree : Nodes) (s : WholeTree) (before after : List Change)
