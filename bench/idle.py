@@ -12,7 +12,6 @@ thread waited, of leaves the median; and the same for each of the changes, which
 after the other.
 """
 import argparse
-import json
 import pathlib
 import statistics
 import sys
@@ -47,24 +46,16 @@ def begin(folder, children):
     return tree
 
 
-def publish(sock, answers, changes):
-    """Publishes so many changes of one setting, each after the answer to the one before."""
-    for at in range(changes):
-        words = {"do": "publish", "key": "key0", "value": f"{at:016}".encode().hex()}
-        sock.sendall(json.dumps(words).encode() + b"\n")
-        if b"published" not in answers.readline():
-            sys.exit("idle: a change was refused")
-
-
 def cost_of_changes(trees, changes):
     """Prints what each change costs the root, where a tenth of them is made at each in turn."""
-    socks = [tree.root.client() for tree in trees]
-    answers = [sock.makefile("rb") for sock in socks]
+    publishers = [tree.root.publisher() for tree in trees]
+    publishes = [it.__enter__() for it in publishers]
     costs = [[] for _ in trees]
     for _ in range(10):
-        for tree, sock, lines, cost in zip(trees, socks, answers, costs):
+        for tree, publish, cost in zip(trees, publishes, costs):
             before = spent(tree.root.process.pid)
-            publish(sock, lines, changes // 10)
+            for at in range(changes // 10):
+                publish("key0", f"{at:016}")
             after = spent(tree.root.process.pid)
             cost.append([(b - a) / (changes // 10) for a, b in zip(before, after)])
     for tree, cost in zip(trees, costs):

@@ -120,12 +120,9 @@ def spoiled_folders_are_right_after_two_rounds():
                 spoil(agent.settings, draw)
             # (what was published since the last whole table does not mend it)
             tree.write("key1", turn)
-            for _ in range(2):
-                last = tree.root.status()["round"]
-                tree.root.ask("round")
-                sure(until(lambda: tree.root.status()["round"] > last), "there was no round")
-            last = tree.root.status()["round"]
-            tree.root.ask("wait", "--everywhere", "--timeout", "60s", last)
+            tree.rounds(2)
+            number = tree.root.status()["round"]
+            tree.root.ask("wait", "--everywhere", "--timeout", "60s", number)
             sure(not tree.wrong(), turn, tree.wrong())
         for agent in tree:
             agent.kill()
@@ -435,14 +432,10 @@ def what_is_wrong_in_the_roots_memory_gets_nowhere():
         tree.start(old)
         sure(tree.right(agents=old), tree.wrong(old))
         sure(write_over(tree.root.process.pid, over) > 8, "it does not remember them")
-        with tree.root.client() as sock:
-            lines = sock.makefile("rb")
-            words = {"do": "publish", "key": "k0", "value": values["k0"].encode().hex()}
+        with tree.root.publisher() as publish:
             for _ in range(150):
                 # (so many that tables come)
-                sock.sendall(json.dumps(words).encode() + b"\n")
-                said = lines.readline()
-                sure(b"published" in said, said, tree.root.text()[-300:])
+                publish("k0", values["k0"])
         tree["new"].start()
         sure(tree.right(), tree.wrong())
         time.sleep(0.5)

@@ -177,10 +177,7 @@ class Agent:
 
     def hook(self, text, **more):
         """From its next start on it has this hook, and more about it."""
-        hook = self.home / "hook"
-        hook.write_text(f"#!/bin/sh\n{text}\n")
-        hook.chmod(0o755)
-        self.tables["apply"].update(hook=str(hook), **more)
+        self.tables["apply"].update(hook=self.hook_of("hook", text), **more)
 
     def connect(self):
         """A connection to where it listens."""
@@ -206,6 +203,30 @@ class Agent:
         """How rignoldactl ends, and what it prints as text."""
         command = [self.tree.bin / "rignoldactl", "--socket", self.socket, *map(str, words)]
         return subprocess.run(command, capture_output=True, text=True, timeout=120)
+
+    def refuses(self, why, *words, status=1):
+        """Has a command refused, and says why."""
+        done = self.run(*words)
+        sure(done.returncode == status and why in done.stderr and not done.stdout, why, done)
+
+    def hook_of(self, name, text):
+        """A program of its own that does this."""
+        hook = self.home / name
+        hook.write_text(f"#!/bin/sh\n{text}\n")
+        hook.chmod(0o755)
+        return str(hook)
+
+    @contextlib.contextmanager
+    def publisher(self):
+        """What publishes a value of a key by one connection, and gives the number of the change."""
+        with self.client() as sock, sock.makefile("rb") as answers:
+            def publish(key, value):
+                words = {"do": "publish", "key": key, "value": value.encode().hex()}
+                sock.sendall(json.dumps(words).encode() + b"\n")
+                said = answers.readline()
+                sure(b"published" in said, said, self.text()[-300:])
+                return json.loads(said)["published"]
+            yield publish
 
     def counts(self, path="/metrics", method="GET"):
         """What is answered there: the first line, and the text."""
@@ -360,6 +381,22 @@ class Tree:
         number = self.root.ask("publish", *words, **given)["sequence"]
         self.root.ask("wait", "--everywhere", "--timeout", "60s", number)
         return number
+
+    def rounds(self, count=1):
+        """Has so many rounds begun, one after the other."""
+        for _ in range(count):
+            last = self.root.status()["round"]
+            self.root.ask("round")
+            sure(until(lambda: self.root.status()["round"] != last), "there was no round")
+
+    def mount(self, folder, other, act=lambda: None):
+        """Has a folder in the place of the root's at once, as a mount does, and that one elsewhere;
+        an act comes before the root sees it. Where files went one by one, it would see those."""
+        self.root.signal(signal.SIGSTOP)
+        self.root.truth.rename(other)
+        folder.rename(self.root.truth)
+        act()
+        self.root.signal(signal.SIGCONT)
 
     def reaches(self, *names, pause=0.01):
         """Has a change reach these agents: after how many seconds."""

@@ -7,7 +7,7 @@
      child     the same by a child that has said its hello
      bytes     a child's report in records of one byte
      sessions  whole handshakes of TLS 1.2, each with another begun on its connection
-     chain     handshakes with 330 certificates any of which could have issued the others
+     chain     handshakes with as many certificates as NAME.crt has
    In the end it prints how many connections and messages there were, and of how many bytes. */
 #include <arpa/inet.h>
 #include <errno.h>
@@ -15,7 +15,6 @@
 #include <netinet/tcp.h>
 #include <openssl/err.h>
 #include <openssl/ssl.h>
-#include <openssl/x509v3.h>
 #include <stdio.h>
 #include <stdlib.h>
 #include <string.h>
@@ -23,7 +22,7 @@
 #include <time.h>
 #include <unistd.h>
 
-enum { CERTIFICATES = 330, BATCH = 2000 };
+enum { BATCH = 2000 };
 
 static double end;
 static long connections, messages, bytes;
@@ -136,45 +135,6 @@ static void drain(int sock)
         ;
 }
 
-static X509 *certificate(const char *subject, const char *issuer, EVP_PKEY *key, long serial)
-{
-    X509 *it = X509_new();
-    X509_NAME *names[2] = {X509_NAME_new(), X509_NAME_new()};
-    X509V3_CTX context;
-    for (int at = 0; at < 2; at++)
-        X509_NAME_add_entry_by_txt(names[at], "CN", MBSTRING_ASC,
-                                   (const unsigned char *)(at ? issuer : subject), -1, -1, 0);
-    X509_set_version(it, 2);
-    ASN1_INTEGER_set(X509_get_serialNumber(it), serial);
-    X509_set_subject_name(it, names[0]);
-    X509_set_issuer_name(it, names[1]);
-    X509_gmtime_adj(X509_getm_notBefore(it), -3600);
-    X509_gmtime_adj(X509_getm_notAfter(it), 86400);
-    X509_set_pubkey(it, key);
-    X509V3_set_ctx_nodb(&context);
-    X509V3_set_ctx(&context, it, it, NULL, NULL, 0);
-    X509_EXTENSION *more = X509V3_EXT_conf_nid(NULL, &context, NID_basic_constraints,
-                                               "critical,CA:TRUE");
-    need(more && X509_add_ext(it, more, -1) && X509_sign(it, key, NULL), "a certificate");
-    X509_EXTENSION_free(more);
-    X509_NAME_free(names[0]);
-    X509_NAME_free(names[1]);
-    return it;
-}
-
-static void add_chain(SSL_CTX *context)
-{
-    EVP_PKEY *key = EVP_PKEY_Q_keygen(NULL, NULL, "ED25519");
-    X509 *leaf;
-    need(key && (leaf = certificate("leaf", "one", key, 1)), "a key");
-    need(SSL_CTX_use_certificate(context, leaf) && SSL_CTX_use_PrivateKey(context, key), "leaf");
-    for (long at = 0; at < CERTIFICATES; at++) {
-        X509 *one = at % 2 ? certificate("two", "one", key, at + 2)
-                           : certificate("one", "two", key, at + 2);
-        need(SSL_CTX_add_extra_chain_cert(context, one) == 1, "chain");
-    }
-}
-
 int main(int count, char **words)
 {
     need(count == 7, "KIND PORT FOLDER NAME PARENT SECONDS");
@@ -185,15 +145,10 @@ int main(int count, char **words)
     SSL_CTX *context = SSL_CTX_new(TLS_client_method());
     need(context && (is_child || is_bytes || is_sessions || is_chain || !strcmp(kind, "keys")),
          "KIND");
-    if (is_chain) {
-        SSL_CTX_set_security_level(context, 0);
-        add_chain(context);
-    } else {
-        snprintf(path, sizeof path, "%s/%s.crt", folder, name);
-        need(SSL_CTX_use_certificate_chain_file(context, path) == 1, path);
-        snprintf(path, sizeof path, "%s/%s.key", folder, name);
-        need(SSL_CTX_use_PrivateKey_file(context, path, SSL_FILETYPE_PEM) == 1, path);
-    }
+    snprintf(path, sizeof path, "%s/%s.crt", folder, name);
+    need(SSL_CTX_use_certificate_chain_file(context, path) == 1, path);
+    snprintf(path, sizeof path, "%s/%s.key", folder, name);
+    need(SSL_CTX_use_PrivateKey_file(context, path, SSL_FILETYPE_PEM) == 1, path);
     if (is_sessions)
         SSL_CTX_set_max_proto_version(context, TLS1_2_VERSION);
     srand((unsigned)getpid());

@@ -100,7 +100,27 @@ def slow(port, seconds, addresses=1_000, pause=0.2):
 # The name of each flood, and its words of floods.c: what kind it is, and by whose certificate.
 KINDS = {"keys": ("keys", "stranger"), "keys of a child": ("child", "evil"),
          "records of a byte": ("bytes", "evil"), "sessions": ("sessions", "stranger"),
-         "chains": ("chain", "none")}
+         "chains": ("chain", "many")}
+
+
+def many_certificates(home):
+    """Certificates by the name of `many`: the first one, and 330 any of which could have issued the
+    others."""
+    def openssl(*words):
+        subprocess.run(["openssl", *words], check=True, capture_output=True, cwd=home)
+
+    openssl("genpkey", "-algorithm", "ed25519", "-out", "many.key")
+    of_all = ["req", "-new", "-key", "many.key", "-addext", "basicConstraints=critical,CA:TRUE", "-subj"]
+    for name in ("one", "two"):
+        openssl(*of_all, f"/CN={name}", "-out", f"{name}.csr")
+        openssl(*of_all, f"/CN={name}", "-x509", "-out", f"{name}.crt")
+    (home / "many").mkdir()
+    for name, other in (("one", "two"), ("two", "one")):
+        openssl("ca", "-batch", "-config", "ca.cnf", "-cert", f"{other}.crt", "-keyfile",
+                "many.key", "-outdir", "many", "-days", "2", "-notext", "-infiles",
+                *[f"{name}.csr"] * 165)
+    texts = [path.read_text() for path in (home / "many").iterdir()]
+    (home / "many.crt").write_text((home / "one.crt").read_text() + "".join(texts))
 
 
 class Flood:
@@ -189,6 +209,7 @@ def a_hello_without_a_certificate_costs_little():
 def hundreds_of_certificates_are_refused_before_they_are_looked_at():
     with running({"left": "root"}, secure) as tree:
         refused = lambda: tree.root.status()["refused"]
+        many_certificates(tree.home)
         before, spent = refused(), used(tree.root)
         with Flood("chains", tree):
             sure(until(lambda: refused() >= before + 20), "they are not refused")

@@ -53,12 +53,6 @@ def here(tree, *words):
     sure(not wrong(tree), *words, wrong(tree))
 
 
-def refused(agent, *words):
-    done = agent.run(*words)
-    sure(done.returncode == 1, words, done)
-    return done.stderr
-
-
 @test
 def a_group_has_its_own_value_until_it_is_that_of_all():
     with Tree(SHAPE, notes_changes) as tree:
@@ -97,11 +91,11 @@ def a_group_has_its_own_value_until_it_is_that_of_all():
         leaf = tree["leaf"]
         leaf.kill()
         root.ask("wait", "--group", "eu", root.ask("publish", "other", "4")["sequence"])
-        why = refused(root, "wait", "--group", "none", "--timeout", "1s")
-        sure("no agent is known that is of `none`" in why, why)
+        root.refuses("no agent is known that is of `none`", "wait", "--group", "none", "--timeout",
+                     "1s")
         left.kill()
-        why = refused(root, "wait", "--group", "canary", "--timeout", "1s")
-        sure(why.endswith("the time is up: left is not connected\n"), why)
+        root.refuses("the time is up: left is not connected\n", "wait", "--group", "canary",
+                     "--timeout", "1s")
         for agent in (left, leaf):
             agent.start()
         sure(tree.ready() and until(lambda: not wrong(tree)), wrong(tree))
@@ -121,11 +115,10 @@ def a_group_has_its_own_value_until_it_is_that_of_all():
                                     "right": ["size"]}, told(tree, "size"))
         # what is no name of one is refused, and named
         for name in ("a@b@c", "a..b", "a@.b", "@b", "a@", "a@b..c"):
-            why = refused(root, "publish", name, "1")
-            sure(f"`{name}` is no key" in why, why)
+            root.refuses(f"`{name}` is no key", "publish", name, "1")
         for name, why in (("colour", "is for no group"), ("colour@none", "is not set")):
-            sure(why in refused(root, "promote-value", name))
-        sure("not the root" in refused(left, "promote-value", "colour@us"))
+            root.refuses(why, "promote-value", name)
+        left.refuses("not the root", "promote-value", "colour@us")
         for name in ("a..b", "a@b@c"):
             tree.write(name, 1)
         sure(until(lambda: root.status()["unpublished"] == 2), root.status())

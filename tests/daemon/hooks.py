@@ -15,10 +15,8 @@ while [ -d %(home)s ] && [ ! -e %(home)s/go ]; do sleep 0.02; done
 
 
 def hook(agent, name, *keys):
-    path = agent.home / f"hook-{name}"
-    path.write_text("#!/bin/sh\n" + NOTES % {"home": agent.home, "name": name})
-    path.chmod(0o755)
-    agent.hooks.append({"keys": keys, "run": str(path)})
+    path = agent.hook_of(f"hook-{name}", NOTES % {"home": agent.home, "name": name})
+    agent.hooks.append({"keys": keys, "run": path})
 
 
 def runs(agent, name):

@@ -104,10 +104,7 @@ def a_wrong_number_in_a_marker_is_healed_by_two_rounds():
 
 def two_rounds(tree):
     """They come, and all agents have the root's settings and numbers."""
-    for _ in range(2):
-        before = tree.root.status()["round"]
-        tree.root.ask("round")
-        sure(until(lambda: tree.root.status()["round"] != before))
+    tree.rounds(2)
     sure(until(lambda: is_quiet(tree)), [agent.status()["sequence"] for agent in tree])
     sure(not tree.wrong(), tree.wrong())
 

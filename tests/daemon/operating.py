@@ -5,7 +5,6 @@ import hashlib
 import os
 import pty
 import shutil
-import signal
 import subprocess
 import time
 
@@ -49,16 +48,13 @@ def who_has_what_is_shown():
         sure(leaf.ask("get", "key1") == {"key": "key1", "bytes": 7, "value": b"drifted".hex(),
                                          "digest": digest("key1", b"drifted")})
         for key, why in (("none", "not set"), ("../control", "is no key"), (".rignolda", "no key")):
-            done = leaf.run("get", key)
-            sure(done.returncode == 1 and why in done.stderr and not done.stdout, done)
+            leaf.refuses(why, "get", key)
         (leaf.settings / "pipe").mkdir()
         done = leaf.run("list")
         sure(done.returncode == 0 and "pipe: it is no plain file" in done.stderr, done)
         (leaf.settings / "pipe").rmdir()
-        done = tree["relay"].run("get", "raw")
-        sure(done.returncode == 1 and "keeps no files" in done.stderr, done)
-        done = leaf.run("get", "raw", "--everywhere")
-        sure(done.returncode == 1 and "not the root" in done.stderr, done)
+        tree["relay"].refuses("keeps no files", "get", "raw")
+        leaf.refuses("not the root", "get", "raw", "--everywhere")
         # the root knows it of all
         now = digest("raw", raw)
         all = {"root": (now, ""), "left": (now, ""), "leaf": (now, ""),
@@ -142,11 +138,7 @@ def mount(tree, files):
     new.mkdir()
     for name, value in {".empty": b"", **files}.items():
         (new / name).write_bytes(value)
-    tree.root.process.send_signal(signal.SIGSTOP)
-    tree.root.truth.rename(old)
-    new.rename(tree.root.truth)
-    (old / "key7").unlink(missing_ok=True)
-    tree.root.process.send_signal(signal.SIGCONT)
+    tree.mount(new, old, lambda: (old / "key7").unlink(missing_ok=True))
 
 
 def held(tree, count=None):
@@ -181,10 +173,8 @@ def a_half_mounted_folder_empties_nobody():
         sure(why in root.run("status").stdout, root.run("status").stdout)
         sure("\nrignolda_held 5\n" in root.counts()[1], root.counts()[1])
         for words in (["publish", "key0", "new"], ["unset", "key0"]):
-            done = root.run(*words)
-            sure(done.returncode == 1 and "is held" in done.stderr, done)
-        done = tree["left"].run("diff")
-        sure(done.returncode == 1 and "not the root" in done.stderr, done)
+            root.refuses("is held", *words)
+        tree["left"].refuses("not the root", "diff")
         # what is back again is held no more
         mount(tree, {**whole, "key0": b"new"})
         sure(held(tree, 0) and tree.right(), root.status())
@@ -202,13 +192,11 @@ def a_half_mounted_folder_empties_nobody():
         digest = root.ask("diff")["digest"]
         for words, status, why in ((["0123456789abcdef"], 1, "another change is held"),
                                    (["12"], 2, "16 hexadecimal digits")):
-            done = root.run("confirm", *words)
-            sure(done.returncode == status and why in done.stderr, done)
+            root.refuses(why, "confirm", *words, status=status)
         sure(root.run("confirm", digest).stdout.strip().isdigit())
         sure(held(tree, 0) and tree.right() and tree["leaf"].files() == half, tree.wrong())
         sure(tree.ready() and not root.ask("diff")["changes"], root.status())
-        done = root.run("confirm")
-        sure(done.returncode == 1 and "nothing is held" in done.stderr, done)
+        root.refuses("nothing is held", "confirm")
 
 
 def lacks_git():

@@ -92,9 +92,7 @@ def passed(tree, act=lambda: None):
     before = {name: relay.passed for name, relay in tree.relays.items()}
     act()
     sure(tree.ready())
-    last = tree.root.status()["round"]
-    tree.root.ask("round")
-    sure(until(lambda: tree.root.status()["round"] != last))
+    tree.rounds()
     tree.root.ask("wait", "--everywhere", "--timeout", "60s", tree.root.status()["round"])
     sure(tree.right(), tree.wrong())
     return {name: relay.passed - before[name] for name, relay in tree.relays.items()}

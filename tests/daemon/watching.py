@@ -264,8 +264,7 @@ def small_things_are_as_they_should_be():
         sure(lags == {"0"}, lags)
         # what a file says does not reach a terminal as it is
         (tree.root.truth / "bad\x1b[2J").write_text("1")
-        done = tree.root.run("wait")
-        sure(done.returncode == 1 and "bad\\u001b[2J" in done.stderr, done)
+        tree.root.refuses("bad\\u001b[2J", "wait")
         sure(tree.root.status()["unpublished"] == 1, tree.root.status())
         # (what was published is everywhere all the same, and says so by its number)
         tree.publish("good", "2")

@@ -32,14 +32,14 @@ class Drawn(Scenario):
         s.out, s.number, s.job = [], 0, job
         super().__init__(job)
 
-    def moment(s):
-        """The first moment is the start, of which each link has a line."""
+    def count(s):
+        """The first count is from the start, of which each link has a line."""
         if not s.out:
             s.out.append(columns(*HEAD[:-1]) + HEAD[-1])
             for child, link in enumerate(s.tree.links):
                 if link:
                     s.draw(child, "start", "-", "-")
-        return super().moment()
+        return super().count()
 
     def draw(s, child, event, effect, delivers):
         """The line of a link as it is now."""

@@ -95,8 +95,9 @@ class Count:
         strays = sum(tree.links[n].capacity for n in way)
         strays += sum(len(s.backlog[n]) for n in way[:-1])
         missing = sum(2 * tree.links[n].capacity + 1 for n in way)
-        return strays, missing, s.backlog[way[-1]] + tree.published[s.had[0]:], \
-            tree.list_of(node)[s.had[node]:]
+        had = s.had[tree.parents.index(None)]
+        return (strays, missing, s.backlog[way[-1]] + tree.published[had:],
+                tree.list_of(node)[s.had[node]:])
 
 ROUND = ['offer', 'send_frame', 'recv_frame', 'send_ack', 'recv_ack']
 ACTS = ROUND * 4 + ['recv_frame_keep', 'recv_ack_keep', 'lose_frame', 'lose_ack']

@@ -6,7 +6,7 @@ well formed; what is refused is in the tables of tests/check_tables.py."""
 import json
 
 from jobs import drawn_tree
-from reference import ACTS, ROUND, reading_round
+from reference import ACTS, ROUND, Count, reading_round
 from tables.reader import Pairs, begin, start_of, tree_of
 
 # What nodes may be called, some of them as steps are.
@@ -19,15 +19,13 @@ class Scenario:
     def __init__(s, job):
         s.tree, s.names, _ = tree_of(json.dumps(job).encode())
         begin(s.tree, ["tree"])
-        s.since, s.moments = [0] * len(s.names), {0: s.moment()}
+        s.since, s.counts = [0] * len(s.names), {0: s.count()}
         for number, step in enumerate(job["steps"], 1):
             s.step(number, step)
 
-    def moment(s):
-        """How many items each node has, and what each parent has for each child of it."""
-        nodes = range(len(s.names))
-        return ([len(s.tree.list_of(n)) for n in nodes],
-                [s.tree.backlog(n) if s.tree.links[n] else None for n in nodes])
+    def count(s):
+        """What is counted from now on."""
+        return Count(s.tree)
 
     def all_links(s, acts_of):
         for child, link in enumerate(s.tree.links):
@@ -55,7 +53,7 @@ class Scenario:
 
     def hit(s, number, place):
         """A fault at this node, or at the link into it, hits it and all nodes beneath."""
-        s.moments[number] = s.moment()
+        s.counts[number] = s.count()
         for node in range(len(s.names)):
             at = node
             while at is not None and at != place:
@@ -65,19 +63,13 @@ class Scenario:
 
     def lines(s):
         for node, name in enumerate(s.names):
-            since, got = s.since[node], s.tree.list_of(node)
-            way = list(s.tree.path(node))
-            if not way:
+            since = s.since[node]
+            if not s.tree.links[node]:
+                got = s.tree.published
                 yield f"{name} since {since} published {len(got)}"
                 yield " ".join(["items:", *map(str, got)])
                 continue
-            had, backlog = s.moments[since]
-            got = got[had[node]:]
-            strays = sum(s.tree.links[n].capacity for n in way)
-            strays += sum(len(backlog[n]) for n in way[:-1])
-            missing = sum(2 * s.tree.links[n].capacity + 1 for n in way)
-            root = s.tree.parents[way[-1]]
-            published = backlog[way[-1]] + s.tree.published[had[root]:]
+            strays, missing, published, got = s.counts[since].of(s.tree, node)
             yield (f"{name} since {since} received {len(got)}, strays at most {strays}, "
                    f"missing among the first {missing}")
             yield " ".join(["items:", *map(str, got)])
