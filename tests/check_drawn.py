@@ -24,9 +24,10 @@ import sys
 from pathlib import Path
 
 TOP = Path(__file__).resolve().parent.parent
-sys.path.insert(0, str(TOP / "tools"))
+sys.path[:0] = [str(TOP / "tools"), str(TOP / "tests/faults")]
 
 from programs import counted, run_with
+from reference import Link
 from tree_picture import drawn
 
 DATA = TOP / "crates/gate_checks/data"
@@ -73,64 +74,49 @@ def words_of(text):
 # ---- the drawn runs of the page
 
 
-class Marked:
-    """A link as the page draws it: a printed run, with what comes from the start marked."""
+class Mark(int):
+    """A label of the start, or a copy of one, which the page draws with a star."""
 
-    def __init__(self, lines):
+    def __str__(self):
+        return f"{int(self)}*"
+
+
+class Marked(Link):
+    """A link as the page draws it, beside its printed run, with what comes from the start marked.
+    """
+
+    def __init__(self, job, lines):
         self.rows = [dict(zip(lines[0].split(), line.split())) for line in lines[1:]]
-        start = self.rows[0]
-        self.frames = [entry + "*" for entry in entries(start["frames"])]
-        self.acks = [entry + "*" for entry in entries(start["acks"])]
-        self.remembers = start["remembers"] + "*"
-        self.stray_items = {entry.split("=")[1] for entry in entries(start["frames"])}
+        start = job["start"]
+        super().__init__(job["capacity"], job["labels"],
+                         [(Mark(label), item) for label, item in start.get("frames", [])],
+                         [*map(Mark, start.get("acks", []))], start["send"], Mark(start["recv"]))
 
     def cells(self):
         """The cells of the page for each row: those with marks as they have to be."""
         for row in self.rows:
-            event, mark = json.loads(row["event"]) if row["event"] != "start" else "start", {}
-            delivers = row["delivers"]
-            if event != "start":
-                mark, delivers = self.step(event, row)
-            yield {"event": event if isinstance(event, str) else f"{event[0]} {event[1]}",
-                   "effect": row["effect"], "label": row["label"], "holds": row["holds"],
-                   "acked": row["acked"], "frames": queue(mark.get("frames"), self.frames),
-                   "acks": queue(mark.get("acks"), self.acks), "remembers": self.remembers,
-                   "delivers": delivers}
-
-    def step(self, event, row):
-        """Takes a step: the marks of the two queues, and what is delivered."""
-        name = event if isinstance(event, str) else event[0]
-        effect, delivers = row["effect"], row["delivers"]
-        if effect == "Nothing":
-            return {}, delivers
-        if name == "send_frame" and effect == "Sent":
-            self.frames.append(f"{row['label']}={row['holds']}")
-        elif name == "send_ack" and effect == "Sent":
-            self.acks.append(self.remembers)
-        elif name.startswith("recv_frame"):
-            kept, front = name.endswith("keep"), self.frames[0]
-            if not kept:
-                self.frames.pop(0)
-            if effect == "Fresh":
-                star = "*" if front.endswith("*") else ""
-                self.remembers, delivers = row["remembers"] + star, delivers + star
-            return {"frames": "v"}, delivers
-        elif name.startswith("recv_ack"):
-            if not name.endswith("keep"):
-                self.acks.pop(0)
-            return {"acks": "^"}, delivers
-        elif name == "lose_frame":
-            self.frames.pop(event[1])
-            return {"frames": "x"}, delivers
-        elif name == "lose_ack":
-            self.acks.pop(event[1])
-            return {"acks": "x"}, delivers
-        return {}, delivers
+            event, marks, star = "start", {}, ""
+            if row["event"] != event:
+                event = json.loads(row["event"])
+                name, number = (event, 0) if isinstance(event, str) else event
+                event = event if isinstance(event, str) else f"{name} {number}"
+                if row["effect"] != "Nothing" and name.startswith(("recv", "lose")):
+                    queue_of = "frames" if "frame" in name else "acks"
+                    marks = {queue_of: "x" if name.startswith("lose") else
+                             "v" if queue_of == "frames" else "^"}
+                if row["effect"] == "Fresh":
+                    star = "*" * isinstance(self.frames[0][0], Mark)
+                self.act(name, [*self.offered, number], number)
+            frames = [f"{int(label)}={item}{'*' * isinstance(label, Mark)}"
+                      for label, item in self.frames]
+            yield {**row, "event": event, "frames": queue(marks.get("frames"), frames),
+                   "acks": queue(marks.get("acks"), [*map(str, self.acks)]),
+                   "remembers": str(self.recv), "delivers": row["delivers"] + star}
 
     def agrees(self, row):
         """Whether the queues are those of the printed run."""
-        return (entries(row["frames"]) == [entry.rstrip("*") for entry in self.frames]
-                and entries(row["acks"]) == [entry.rstrip("*") for entry in self.acks])
+        return (entries(row["frames"]) == [f"{int(label)}={item}" for label, item in self.frames]
+                and entries(row["acks"]) == [str(int(label)) for label in self.acks])
 
 
 def entries(word):
@@ -186,7 +172,7 @@ def compare_block(drawer, example, lines):
     text, said = draw(drawer, example)
     if text is None:
         return said
-    marked = Marked(text.splitlines())
+    marked = Marked(json.loads((DATA / f"{example}.json").read_text()), text.splitlines())
     wanted = {}
     for place, cells in enumerate(marked.cells()):
         if not marked.agrees(marked.rows[place]):

@@ -15,6 +15,8 @@ import pathlib
 import re
 import subprocess
 import sys
+import textwrap
+from collections import namedtuple
 
 from programs import Cases, run_with
 
@@ -23,14 +25,13 @@ HOME = ROOT / "completions"
 WRITTEN = "Written by tools/completions.py; change nothing here."
 OPTION = re.compile(r"^ +(?:-\w, |    )?--([a-z-]+)(?: <(\w+)>)?(?:  +(\S.*))?$")
 ENTRY = re.compile(r"^  ([a-z]+) +(\S.*)$")
+# Words are folded between them alone.
+WHOLE = {"break_long_words": False, "break_on_hyphens": False}
 
 
-class Command:
+class Command(namedtuple("Command", "name about options has_file")):
     """A command: its name, what it does, its options (name, value, help), and whether it has a
     file."""
-
-    def __init__(self, name, about, options, has_file):
-        self.name, self.about, self.options, self.has_file = name, about, options, has_file
 
     def flags(self):
         return " ".join("--" + name for name, _, _ in self.options)
@@ -38,12 +39,8 @@ class Command:
 
 def section(text, head):
     """The lines of a section of a help, up to the next empty line."""
-    lines = text.split("\n")
-    if head not in lines:
-        return []
-    at = lines.index(head) + 1
-    end = lines.index("", at) if "" in lines[at:] else len(lines)
-    return lines[at:end]
+    found = re.search(rf"^{head}\n(.*?)(\n\n|\Z)", text, re.M | re.S)
+    return found[1].split("\n") if found else []
 
 
 def options_of(text):
@@ -105,24 +102,18 @@ def bash(program, commands, options):
     ]
     for c in commands:
         if c.name == "help":
-            others = " ".join(other.name for other in commands)
-            lines.append("        help) flags='%s' ;;" % others)
-        else:
-            files = " files=yes" if c.has_file else ""
-            lines.append("        %s)" % c.name)
-            if c.flags():
-                lines += ["            flags='%s'" % part if at == 0
-                    else "            flags+=' %s'" % part
-                          for at, part in enumerate(folded(c.flags(), 75))]
-            if files:
-                lines.append("            files=yes")
-            valued = "|".join("--" + name for name, value, _ in c.options if value)
-            if valued:
-                lines += ["            case ${COMP_WORDS[COMP_CWORD - 1]} in"]
-                lines += ["                %s)" % "|".join(part.split()) + " return ;;"
-                          for part in folded(valued.replace("|", " "), 70)]
-                lines += ["            esac"]
-            lines.append("            ;;")
+            lines.append("        help) flags='%s' ;;" % " ".join(it.name for it in commands))
+            continue
+        lines.append("        %s)" % c.name)
+        lines += ["            flags%s'%s%s'" % (("+=", " ", part) if at else ("=", "", part))
+                  for at, part in enumerate(textwrap.wrap(c.flags(), 75, **WHOLE))]
+        lines += ["            files=yes"] * c.has_file
+        valued = " ".join("--" + name for name, value, _ in c.options if value)
+        if valued:
+            lines += ["            case ${COMP_WORDS[COMP_CWORD - 1]} in",
+                      *("                %s) return ;;" % "|".join(part.split())
+                        for part in textwrap.wrap(valued, 70, **WHOLE)), "            esac"]
+        lines.append("            ;;")
     lines += [
         "    esac",
         "    mapfile -t COMPREPLY < <(compgen -W \"$flags\" -- \"$word\")",
@@ -133,16 +124,6 @@ def bash(program, commands, options):
         "complete -o filenames -F _%s %s" % (program, program),
     ]
     return "\n".join(lines) + "\n"
-
-
-def folded(text, width):
-    """The words of a text, in lines of at most `width` columns."""
-    lines = [""]
-    for word in text.split():
-        if lines[-1] and len(lines[-1]) + 1 + len(word) > width:
-            lines.append("")
-        lines[-1] = (lines[-1] + " " + word).strip()
-    return lines
 
 
 def quoted(text):
