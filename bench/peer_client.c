@@ -588,7 +588,7 @@ int main(int count, char **words)
     prctl(PR_SET_PDEATHSIG, SIGKILL);
     if (getenv("PEER_KEYS")) keys = atoi(getenv("PEER_KEYS"));
     if (getenv("PEER_DIGITS")) digits = atoi(getenv("PEER_DIGITS"));
-    const char *files[] = {"authority.crt", "client.crt", "client.key"};
+    const char *files[] = {"ca.crt", "client.crt", "client.key"};
     for (int at = 0; at < 3 && getenv("PEER_TLS"); at++)
         snprintf(tls[at], sizeof tls[at], "%s/%s", getenv("PEER_TLS"), files[at]);
     if (keys < 1 || keys > MOST) fail("PEER_KEYS", "1 to 1000");

@@ -493,8 +493,9 @@ def descriptors(agent):
 
 # ---- Certificates
 
-def certify(home, name, seconds=86_400, authority="authority"):
-    """A certificate of one authority that ends in so many seconds: the table of a configuration."""
+def certify(home, name, seconds=86_400, authority="authority", more=""):
+    """A certificate of one authority that ends in so many seconds, and may have more names than
+    one: the table of a configuration."""
     def run(*words):
         subprocess.run(["openssl", *words], check=True, capture_output=True, cwd=home)
 
@@ -509,8 +510,8 @@ def certify(home, name, seconds=86_400, authority="authority"):
             "policy = p\nrand_serial = yes\nunique_subject = no\ncopy_extensions = copy\n[p]\n"
             "commonName = supplied\n")
     when = lambda add: time.strftime("%Y%m%d%H%M%SZ", time.gmtime(time.time() + add))
-    run("req", *key, "-subj", f"/CN={name}", "-addext", f"subjectAltName=DNS:{name}", "-keyout",
-        f"{name}.key", "-out", f"{name}.csr")
+    run("req", *key, "-subj", f"/CN={name}", "-addext", f"subjectAltName=DNS:{name}{more}",
+        "-keyout", f"{name}.key", "-out", f"{name}.csr")
     run("ca", "-batch", "-config", "ca.cnf", "-cert", "ca.crt", "-keyfile", "ca.key", "-in",
         f"{name}.csr", "-out", f"{name}.crt", "-startdate", when(-3_600), "-enddate", when(seconds),
         "-notext")
