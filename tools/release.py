@@ -22,15 +22,10 @@ unpacked if it is a program, the digest of its sources, and what it was compared
 the C library that is inside a program, or the compiler that gave the same bytes from these sources.
 A program is linked by tools/static.py, of the object of which rt ci has linked its own; where there
 is no such C library here, or another one, --check compares that object. The programs of the daemon
-are made by
-tools/build_daemon --keep, which takes a minute, and stay as they are here, with what their lines
-say; what --check says of them is that they and their sources are those of their lines.
-
-A build is over what checks have kept, or by rt ci in a copy of the sources, which takes what it has
-passed before on this machine, if the kit keeps that. Where it begins from nothing, rt ci does not
-get the crates beside which nothing can be proved, since it would not use all processors for them.
-What was built is kept in out/, under names with its digest, that of its sources and the kit. It
-needs Python 3.8.
+are made by tools/build_daemon --keep; --check sees that they and their sources are those of their
+lines. What was built is kept in out/, under names with its digest, that of its sources and the kit,
+and a build takes what checks have kept there, where it need not begin from nothing. It needs
+Python 3.8.
 """
 import contextlib
 import fcntl
@@ -389,7 +384,7 @@ class Release(Commands):
     def build_in_copy(self, is_anew):
         """Proves and builds the artefacts, as the gate does, in a copy of the sources: each crate
         once, side by side where they do not depend on each other. Where that is from nothing, rt ci
-        does not get the last crates."""
+        does not get the last crates, for which it would not use all processors."""
         crates, needed = listed(), []
         for it in self.artefacts.values():
             below(it.crate, crates, needed)
