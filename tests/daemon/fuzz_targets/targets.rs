@@ -183,7 +183,9 @@ fn body(bytes: &[u8]) {
     if let Some((sequence, meaning)) = body.meaning() {
         assert_eq!(*Body::new(sequence, &meaning), body);
         let mut table = Table::default();
-        assert!(table.takes(sequence, &meaning) && table.heard.applies);
+        // (an agent begins as if it had number 0, so that a body of this number is no newer one)
+        let is_newer = table.takes(sequence, &meaning) && table.heard.applies;
+        assert_eq!(is_newer, sequence != 0);
         let keys: Vec<&str> = match &meaning {
             Meaning::Table(entries) => entries.iter().map(|entry| entry.0).collect(),
             Meaning::Changes(entries) => {
@@ -191,8 +193,8 @@ fn body(bytes: &[u8]) {
             }
             Meaning::Harmless => Vec::new(),
         };
-        assert!(table.keys.keys().eq(keys));
-        assert!(!table.takes(sequence, &meaning) || sequence == 0);
+        assert!(!is_newer || table.keys.keys().eq(keys));
+        assert!(!table.takes(sequence, &meaning));
         table.takes(sequence ^ 1, &meaning);
     }
 }
