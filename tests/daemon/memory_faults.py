@@ -345,8 +345,8 @@ class Trials:
         self.draw = random.Random(f"{self.seed} {kind} {number}")
         agent = self.draw.choice(list(self.tree))
         if kind in EACH:
-            number, at = divmod(number, len(AGENTS))
-            agent = self.tree[AGENTS[at]]
+            number, at = divmod(number, len(AGENTS[kind]))
+            agent = self.tree[AGENTS[kind][at]]
         status = agent.request(2, do="status").get("status") or self.tree.root.status()
         with stopped(agent.process.pid) as memory:
             pieces = Memory(agent.process.pid, memory)
@@ -409,8 +409,10 @@ class Trials:
 SHOWN = ["sequence", "files", "applied", "ahead", "changed", "round", "whole", "failing", "parent"]
 KINDS = ["bit", "byte", "word", "run", "data", "stack", "agent", "links", "names", "times",
          "numbers"]
-# Those that take all places in their turn, of these agents.
-AGENTS = ["hub", "root", "one"]
+# Those that take all places in their turn, and of which agents. (The ends of a leaf are on the
+# stack of the thread that runs it.)
+AGENTS = {"each-link": ["hub", "root"], "each-time": ["hub", "root"],
+          "each-number": ["hub", "root", "one"]}
 EACH = {"each-link": each_link, "each-time": each_time, "each-number": each_number}
 COLUMNS = ["trials", "late", "ended", "crashed", "hung", "wrong", "lied", "stuck"]
 
