@@ -6,7 +6,7 @@
 -- Source: this project's own, over the streams of `rand_core`; `drawn_text` takes one of PCG32.
 use Rattle.std.specs.Prelude.{ℕ, zero, suc, ◌+◌, ◌%◌, ◌==◌, nat_lt, if◌then◌else◌}
 use Rattle.std.specs.Prelude.{codes, decimal, List, [], ◌++◌, length, slice_index_or}
-use Rattle.std.specs.Prelude.{Option, Some, None, is_none}
+use Rattle.std.specs.Prelude.{Option, Some, None, is_none, Bool, false, not}
 use Rattle.rand_core.specs.Stream.{Stream, next_u32}
 use Rattle.rand_core.specs.Steps.{stream_of, steps_u32}
 use Rattle.rand_pcg.specs.Lcg.{started, increment_of}
@@ -88,16 +88,18 @@ unfoldable pub links_text : List DrawnLink → List ℕ
 links_text links =
     list_head (codes "links") ++ texts (link_text links) (length links) ++ codes "],\n"
 
--- an item, and what is before it
-unfoldable pub item_piece : ℕ → Stream → List ℕ × Stream
-item_piece place s =
-    let its_item = below items_below s in
-    (separator 16 place ++ decimal its_item.0, its_item.1)
+-- a number, and what is before it
+abbrev pub number_text : ℕ → ℕ → List ℕ
+number_text place number = separator 14 place ++ decimal number
+
+-- a number below a limit, and what is before it
+abbrev pub number_piece : ℕ → ℕ → Stream → List ℕ × Stream
+number_piece limit place s = (number_text place (below limit s).0, (below limit s).1)
 
 -- a list of that many items
 unfoldable pub items_piece : ℕ → Stream → List ℕ × Stream
 items_piece count s =
-    let its_items = pieces item_piece count s in
+    let its_items = pieces (number_piece items_below) count s in
     (codes "[" ++ its_items.0 ++ codes "]", its_items.1)
 
 -- a frame, whose label is below that many
@@ -117,19 +119,6 @@ frames_piece labels most s =
     let frames = pieces (frame_piece labels) count.0 count.1 in
     (list_head (codes "frames") ++ frames.0 ++ codes "],\n", frames.1)
 
--- an acknowledgement, whose label is below that many
-unfoldable pub ack_piece : ℕ → ℕ → Stream → List ℕ × Stream
-ack_piece labels place s =
-    let label = below labels s in
-    (separator 14 place ++ decimal label.0, label.1)
-
--- fewer acknowledgements than `most`
-unfoldable pub acks_piece : ℕ → ℕ → Stream → List ℕ × Stream
-acks_piece labels most s =
-    let count = below most s in
-    let acks = pieces (ack_piece labels) count.0 count.1 in
-    (list_head (codes "acks") ++ acks.0 ++ codes "]}", acks.1)
-
 -- both labels of a start, which are below that many
 unfoldable pub labels_piece : ℕ → Stream → List ℕ × Stream
 labels_piece labels s =
@@ -145,8 +134,9 @@ unfoldable pub start_text : Parameters → Stream → List ℕ × Stream
 start_text p s =
     let labels = labels_piece (p.labels + 1) s in
     let frames = frames_piece (p.labels + 1) (p.capacity + 1) labels.1 in
-    let acks = acks_piece (p.labels + 1) (p.capacity + 1) frames.1 in
-    (labels.0 ++ frames.0 ++ acks.0, acks.1)
+    let count = below (p.capacity + 1) frames.1 in
+    let acks = pieces (number_piece (p.labels + 1)) count.0 count.1 in
+    (labels.0 ++ frames.0 ++ list_head (codes "acks") ++ acks.0 ++ codes "]}", acks.1)
 
 -- a start, and what is before it
 unfoldable pub start_piece : List DrawnLink → ℕ → Stream → List ℕ × Stream
@@ -171,16 +161,18 @@ rates_text loss repeat =
     member (codes ", ") (codes "length") 200 ++ member (codes ", ") (codes "loss") loss
     ++ member (codes ", ") (codes "repeat") repeat ++ codes "}"
 
--- a script, which is drawn at these rates, and what is before it
-unfoldable pub script_piece : ℕ → ℕ → ℕ → Stream → List ℕ × Stream
-script_piece loss repeat place s =
-    let word = next_u32 s in
-    (separator 1 place ++ seed_text word.0 place ++ rates_text loss repeat, word.1)
+-- a script, which is drawn at the rates of the options, and what is before it
+unfoldable pub script_text : DrawOptions → ℕ → ℕ → List ℕ
+script_text o word place = separator 1 place ++ seed_text word place ++ rates_text o.loss o.repeat
+
+-- the script of the next word
+abbrev pub script_piece : DrawOptions → ℕ → Stream → List ℕ × Stream
+script_piece o place s = (script_text o (next_u32 s).0 place, (next_u32 s).1)
 
 -- a script for each of that many links
-unfoldable pub scripts_piece : ℕ → ℕ → ℕ → Stream → List ℕ × Stream
-scripts_piece loss repeat links s =
-    let scripts = pieces (script_piece loss repeat) links s in
+unfoldable pub scripts_piece : DrawOptions → ℕ → Stream → List ℕ × Stream
+scripts_piece o links s =
+    let scripts = pieces (script_piece o) links s in
     (list_head (codes "scripts") ++ scripts.0 ++ codes "],\n", scripts.1)
 
 -- how many items the opening of a node has: none but at an inner node
@@ -222,16 +214,17 @@ loss_piece capacity s =
       place.1,
     )
 
--- in place of a close comes a loss, but for one time in sixty-four
-unfoldable pub last_piece : ℕ → Stream → List ℕ × Stream
-last_piece capacity s =
-    if (below 64 s).0 == 0 then (codes "close\"]", (below 64 s).1)
-    else loss_piece capacity (below 64 s).1
+-- whether a loss comes in place of this event: in place of a close, but for one time in sixty-four
+unfoldable pub is_loss_drawn : ℕ → Stream → Bool × Stream
+is_loss_drawn event s =
+    if nat_lt event 15 then (false, s) else (not ((below 64 s).0 == 0), (below 64 s).1)
 
 -- the event of a number below 16, on a link of this capacity
 unfoldable pub event_piece : ℕ → ℕ → Stream → List ℕ × Stream
 event_piece event capacity s =
-    if nat_lt event 15 then (event_word event ++ codes "\"]", s) else last_piece capacity s
+    let is_loss = is_loss_drawn event s in
+    if is_loss.0 then loss_piece capacity is_loss.1
+    else (event_word event ++ codes "\"]", is_loss.1)
 
 -- a step on one of the links, and what is before it
 unfoldable pub step_piece : List DrawnLink → ℕ → Stream → List ℕ × Stream
@@ -254,7 +247,7 @@ unfoldable pub members_piece : DrawOptions → List (Option ℕ) → List DrawnL
 members_piece o parents links s =
     let its_items = items_piece o.items s in
     let starts = starts_piece links its_items.1 in
-    let scripts = scripts_piece o.loss o.repeat (length links) starts.1 in
+    let scripts = scripts_piece o (length links) starts.1 in
     let openings = openings_piece parents o.hold scripts.1 in
     let steps = schedule_piece o.steps links openings.1 in (
       codes "\"items\": " ++ its_items.0 ++ codes ",\n" ++ starts.0 ++ scripts.0 ++ openings.0

@@ -2,9 +2,9 @@ ghost use Rattle.std.specs.Prelude.{◌≡◌, ◌++◌, ◌≤◌, ◌<◌, len
 ghost use Rattle.rignolda_make.specs.Options.{options_fault};
 ghost use Rattle.rignolda_make.specs.DrawnTexts.{drawn_text, text_by, numbers_text, parent_text};
 ghost use Rattle.rignolda_make.specs.DrawnTexts.{node_text, tree_text, params_text, link_text};
-ghost use Rattle.rignolda_make.specs.DrawnTexts.{links_text, item_piece, items_piece};
+ghost use Rattle.rignolda_make.specs.DrawnTexts.{links_text, items_piece, script_text};
 ghost use Rattle.rignolda_make.specs.DrawnTexts.{both_text, seed_text, rates_text};
-ghost use Rattle.rignolda_make.specs.DrawnTexts.{script_piece, scripts_piece, held};
+ghost use Rattle.rignolda_make.specs.DrawnTexts.{scripts_piece, held};
 ghost use Rattle.rignolda_make.specs.DrawnTexts.{opening_piece, openings_piece, members_piece};
 ghost use Rattle.rignolda_make.specs.DrawnTexts.{params_of};
 
@@ -12,7 +12,7 @@ use crate::options::DrawOptions;
 use crate::schedule::push_schedule;
 use crate::shape::{DrawnLink, below, draw_links, draw_parents, is_inner};
 use crate::starts::push_starts;
-use crate::text::{begin_list, push_member, push_number, push_numbered, separate};
+use crate::text::{begin_list, push_member, push_numbered, push_numbers_below, separate};
 use rand_core::Rng;
 use rand_pcg::Pcg32;
 use stab_frames::Params;
@@ -189,17 +189,6 @@ fn push_members<R: Rng>(
     push_schedule(text, rng, options.steps, links)
 }
 
-/// Adds an item, and what is before it.
-#[tactic(auto, unfolding(crate::specs::DrawnTexts::item_piece))]
-fn push_item<R: Rng>(text: &mut String, rng: &mut R, place: usize) -> Result<(), AllocError>
-    ensures text { OnOk result (string_bytes text.new
-        ≡ string_bytes text.old ++ (item_piece place (R.stream rng.old)).0) }
-    ensures words { OnOk result (R.stream rng.new ≡ (item_piece place (R.stream rng.old)).1) }
-{
-    separate(text, 16, place)?;
-    push_number(text, u64::from(below(rng, ITEMS)))
-}
-
 /// Adds a list of `count` items.
 #[tactic(auto, unfolding(crate::specs::DrawnTexts::items_piece))]
 fn push_items<R: Rng>(text: &mut String, rng: &mut R, count: u32) -> Result<(), AllocError>
@@ -208,9 +197,7 @@ fn push_items<R: Rng>(text: &mut String, rng: &mut R, count: u32) -> Result<(), 
     ensures words { OnOk result (R.stream rng.new ≡ (items_piece count (R.stream rng.old)).1) }
 {
     text.push_str("[")?;
-    for place in 0..count {
-        push_item(text, rng, place as usize)?;
-    }
+    push_numbers_below(text, rng, ITEMS, count)?;
     text.push_str("]")
 }
 
@@ -222,33 +209,31 @@ fn push_scripts<R: Rng>(
     options: &DrawOptions,
     links: usize,
 ) -> Result<(), AllocError>
-    ensures text { OnOk result (string_bytes text.new ≡ string_bytes text.old
-        ++ (scripts_piece options.now.loss options.now.repeat links (R.stream rng.old)).0) }
+    ensures text { OnOk result (string_bytes text.new
+        ≡ string_bytes text.old ++ (scripts_piece options.now links (R.stream rng.old)).0) }
     ensures words { OnOk result (R.stream rng.new
-        ≡ (scripts_piece options.now.loss options.now.repeat links (R.stream rng.old)).1) }
+        ≡ (scripts_piece options.now links (R.stream rng.old)).1) }
 {
     begin_list(text, "scripts")?;
     for place in 0..links {
-        push_script(text, rng, options, place)?;
+        push_script(text, options, rng.next_u32(), place)?;
     }
     text.push_str("],\n")
 }
 
-/// Adds a drawn script, and what is before it.
-#[tactic(auto, unfolding(crate::specs::DrawnTexts::script_piece))]
-fn push_script<R: Rng>(
+/// Adds a script that is drawn from this word, and what is before it.
+#[tactic(auto, unfolding(crate::specs::DrawnTexts::script_text))]
+fn push_script(
     text: &mut String,
-    rng: &mut R,
     options: &DrawOptions,
+    word: u32,
     place: usize,
 ) -> Result<(), AllocError>
-    ensures text { OnOk result (string_bytes text.new ≡ string_bytes text.old
-        ++ (script_piece options.now.loss options.now.repeat place (R.stream rng.old)).0) }
-    ensures words { OnOk result (R.stream rng.new
-        ≡ (script_piece options.now.loss options.now.repeat place (R.stream rng.old)).1) }
+    ensures { OnOk result (string_bytes text.new
+        ≡ string_bytes text.old ++ script_text options.now word place) }
 {
     separate(text, 1, place)?;
-    push_seed(text, rng.next_u32(), place)?;
+    push_seed(text, word, place)?;
     push_rates(text, options)
 }
 

@@ -2,8 +2,8 @@
 
 ghost use Rattle.std.specs.Prelude.{◌≡◌, ◌++◌, ◌≤◌, ◌<◌, ◌==◌, length, string_bytes, codes, OnOk};
 ghost use Rattle.std.specs.Prelude.{if◌then◌else◌};
-ghost use Rattle.rignolda_make.specs.DrawnTexts.{event_word, loss_piece, last_piece, event_piece};
-ghost use Rattle.rignolda_make.specs.DrawnTexts.{step_piece, schedule_piece};
+ghost use Rattle.rignolda_make.specs.DrawnTexts.{event_word, loss_piece, is_loss_drawn};
+ghost use Rattle.rignolda_make.specs.DrawnTexts.{event_piece, step_piece, schedule_piece};
 ghost use Rattle.rignolda_make.specs.DrawnTrees.{below, link_at};
 
 use crate::shape::{DrawnLink, below};
@@ -64,6 +64,15 @@ fn push_step<R: Rng>(
     push_event(text, rng, event, link.params.capacity())
 }
 
+/// Whether a loss comes in place of this event: in place of a close, but for one time in
+/// sixty-four.
+#[tactic(auto, unfolding(crate::specs::DrawnTexts::is_loss_drawn))]
+fn draws_loss<R: Rng>(rng: &mut R, event: u32) -> bool
+    ensures { (result, R.stream rng.new) ≡ is_loss_drawn event (R.stream rng.old) }
+{
+    event >= 15 && below(rng, 64) != 0
+}
+
 /// Adds the event of a number below 16, and the end of its entry.
 #[tactic(auto, unfolding(crate::specs::DrawnTexts::event_piece))]
 fn push_event<R: Rng>(
@@ -78,28 +87,11 @@ fn push_event<R: Rng>(
     ensures words { OnOk result (R.stream rng.new
         ≡ (event_piece event capacity (R.stream rng.old)).1) }
 {
-    if event < 15 {
-        text.push_str(event_word(event))?;
-        text.push_str("\"]")
-    } else {
-        push_last_event(text, rng, capacity)
+    if draws_loss(rng, event) {
+        return push_loss(text, rng, capacity);
     }
-}
-
-/// Adds a loss, or, one time in sixty-four, a close.
-#[tactic(auto, unfolding(crate::specs::DrawnTexts::last_piece))]
-fn push_last_event<R: Rng>(text: &mut String, rng: &mut R, capacity: u16) -> Result<(), AllocError>
-    requires { 1 ≤ capacity }
-    ensures text { OnOk result (string_bytes text.new
-        ≡ string_bytes text.old ++ (last_piece capacity (R.stream rng.old)).0) }
-    ensures words { OnOk result (R.stream rng.new
-        ≡ (last_piece capacity (R.stream rng.old)).1) }
-{
-    if below(rng, 64) == 0 {
-        text.push_str("close\"]")
-    } else {
-        push_loss(text, rng, capacity)
-    }
+    text.push_str(event_word(event))?;
+    text.push_str("\"]")
 }
 
 /// Adds a loss at a place below the capacity.

@@ -1,13 +1,13 @@
 //! The starts of a drawn text.
 
 ghost use Rattle.std.specs.Prelude.{◌≡◌, ◌++◌, ◌≤◌, ◌<◌, length, string_bytes, OnOk};
-ghost use Rattle.rignolda_make.specs.DrawnTexts.{frame_piece, frames_piece, ack_piece, acks_piece};
+ghost use Rattle.rignolda_make.specs.DrawnTexts.{frame_piece, frames_piece};
 ghost use Rattle.rignolda_make.specs.DrawnTexts.{labels_piece, start_text, start_piece};
 ghost use Rattle.rignolda_make.specs.DrawnTexts.{starts_piece};
 
 use crate::parts::ITEMS;
 use crate::shape::{DrawnLink, below};
-use crate::text::{begin_list, push_number, push_numbered, separate};
+use crate::text::{begin_list, push_numbered, push_numbers_below, separate};
 use rand_core::Rng;
 use stab_frames::Params;
 use std::alloc::AllocError;
@@ -60,7 +60,10 @@ fn push_start<R: Rng>(text: &mut String, rng: &mut R, params: Params) -> Result<
     let most = u32::from(params.capacity()) + 1;
     push_labels(text, rng, labels)?;
     push_frames(text, rng, labels, most)?;
-    push_acks(text, rng, labels, most)
+    let count = below(rng, most);
+    begin_list(text, "acks")?;
+    push_numbers_below(text, rng, labels, count)?;
+    text.push_str("]}")
 }
 
 /// Adds both labels of a start.
@@ -117,45 +120,4 @@ fn push_frame<R: Rng>(
     push_numbered(text, "[", u64::from(below(rng, labels)))?;
     push_numbered(text, ", ", u64::from(below(rng, ITEMS)))?;
     text.push_str("]")
-}
-
-/// Adds fewer acknowledgements than `most`.
-#[tactic(auto, unfolding(crate::specs::DrawnTexts::acks_piece))]
-fn push_acks<R: Rng>(
-    text: &mut String,
-    rng: &mut R,
-    labels: u32,
-    most: u32,
-) -> Result<(), AllocError>
-    requires some { 1 ≤ labels }
-    requires room { 1 ≤ most }
-    ensures text { OnOk result (string_bytes text.new
-        ≡ string_bytes text.old ++ (acks_piece labels most (R.stream rng.old)).0) }
-    ensures words { OnOk result (R.stream rng.new
-        ≡ (acks_piece labels most (R.stream rng.old)).1) }
-{
-    let count = below(rng, most);
-    begin_list(text, "acks")?;
-    for place in 0..count {
-        push_ack(text, rng, labels, place as usize)?;
-    }
-    text.push_str("]}")
-}
-
-/// Adds an acknowledgement, and what is before it.
-#[tactic(auto, unfolding(crate::specs::DrawnTexts::ack_piece))]
-fn push_ack<R: Rng>(
-    text: &mut String,
-    rng: &mut R,
-    labels: u32,
-    place: usize,
-) -> Result<(), AllocError>
-    requires { 1 ≤ labels }
-    ensures text { OnOk result (string_bytes text.new
-        ≡ string_bytes text.old ++ (ack_piece labels place (R.stream rng.old)).0) }
-    ensures words { OnOk result (R.stream rng.new
-        ≡ (ack_piece labels place (R.stream rng.old)).1) }
-{
-    separate(text, 14, place)?;
-    push_number(text, u64::from(below(rng, labels)))
 }

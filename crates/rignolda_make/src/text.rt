@@ -3,8 +3,12 @@
 
 ghost use Rattle.std.specs.Prelude.{◌≡◌, ◌++◌, ◌≤◌, codes, decimal, string_bytes, OnOk};
 ghost use Rattle.rignolda_make.specs.DrawnTexts.{separator, numbered, member, list_head};
+ghost use Rattle.rignolda_make.specs.DrawnTexts.{number_piece, number_text};
+ghost use Rattle.rignolda_make.specs.DrawnTrees.{pieces};
 
+use crate::shape::below;
 use itoa::Buffer;
+use rand_core::Rng;
 use std::alloc::AllocError;
 
 /// Adds words and then a number.
@@ -74,4 +78,32 @@ pub(crate) fn push_number(text: &mut String, number: u64) -> Result<(), AllocErr
 {
     let mut buffer = Buffer::new();
     text.push_str(buffer.format(number))
+}
+
+/// Adds so many drawn numbers below a limit.
+pub(crate) fn push_numbers_below<R: Rng>(
+    text: &mut String,
+    rng: &mut R,
+    limit: u32,
+    count: u32,
+) -> Result<(), AllocError>
+    requires { 1 ≤ limit }
+    ensures text { OnOk result (string_bytes text.new
+        ≡ string_bytes text.old ++ (pieces (number_piece limit) count (R.stream rng.old)).0) }
+    ensures words { OnOk result (R.stream rng.new
+        ≡ (pieces (number_piece limit) count (R.stream rng.old)).1) }
+{
+    for place in 0..count {
+        push_entry(text, place as usize, below(rng, limit))?;
+    }
+    Ok(())
+}
+
+/// Adds a number, and what is before it.
+fn push_entry(text: &mut String, place: usize, number: u32) -> Result<(), AllocError>
+    ensures { OnOk result
+        (string_bytes text.new ≡ string_bytes text.old ++ number_text place number) }
+{
+    separate(text, 14, place)?;
+    push_number(text, u64::from(number))
 }
