@@ -1,3 +1,5 @@
+pub mod DrawnTexts
+pub mod DrawnTrees
 pub mod Options
 pub mod RandomJobs
 pub mod WorstTexts

@@ -2,6 +2,7 @@ ghost use Rattle.std.specs.Prelude.{◌≡◌, ◌≢◌, ◌↔◌, ◌≤◌, 
 ghost use Rattle.std.specs.Prelude.{OnOk, Some, string_bytes};
 ghost use Rattle.stab_job.specs.JobValues.{JobValue};
 ghost use Rattle.stab_job.specs.Jobs.{job};
+ghost use Rattle.rignolda_make.specs.DrawnTexts.{drawn_text};
 ghost use Rattle.rignolda_make.specs.Options.{options_fault};
 ghost use Rattle.rignolda_make.specs.RandomJobs.{IsAsAsked, IsRandomText};
 ghost use Rattle.stab_job.specs.Replays.{IsReplayed};
@@ -22,8 +23,8 @@ pub enum RandomFault {
     /// No job is drawn by these options.
     #[error("{0}")]
     Options(OptionsFault),
-    /// What was drawn is no job by the options. This is a mistake of this crate, and its tests find
-    /// none.
+    /// The text that these options draw is no job by them. This would be a mistake of this crate,
+    /// and its tests find none.
     #[error("random: the drawn job is refused")]
     Unlike,
     /// Memory was refused.
@@ -46,12 +47,15 @@ impl From<AllocError> for RandomFault {
 ///
 /// The text is read back and its schedule replayed, so that `stab tree` answers it.
 pub fn random_text(alloc: Global, options: &DrawOptions) -> Result<String, RandomFault>
+    ensures text { IfOk result (λ text. string_bytes text ≡ drawn_text options.now) }
     ensures job { IfOk result (λ text. IsRandomText options.now (string_bytes text)) }
     ensures taken { OnOk result (options_fault options.now ≡ None) }
     ensures refused { (fault : OptionsFault) → result ≡ Err (RandomFault.Options fault)
         → options_fault options.now ≡ Some fault }
     ensures first { (fault : OptionsFault) → options_fault options.now ≡ Some fault
         → result ≡ Err (RandomFault.Options fault) }
+    ensures unlike { result ≡ Err RandomFault.Unlike
+        → ¬ IsRandomText options.now (drawn_text options.now) }
 {
     let params = match options.params() {
         Ok(params) => params,

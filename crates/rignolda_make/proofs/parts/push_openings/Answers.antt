@@ -1,0 +1,8 @@
+use Rattle.rignolda_make.proofs.Drawing.{piece_first, piece_on}
+use Rattle.rignolda_make.proofs.parts.push_openings.Goals as goal
+
+pub loop-place-init : goal.loop-place-init
+loop-place-init g c = piece_first _ _ _
+
+pub loop-place-preserved : goal.loop-place-preserved
+loop-place-preserved g c = piece_on _ _ _ _ _ _ _ _ c.loop-place.invariant c.in_ok-push_opening.ensures.text c.in_ok-push_opening.ensures.words

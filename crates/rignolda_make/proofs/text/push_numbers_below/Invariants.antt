@@ -1,0 +1,8 @@
+use Rattle.std.proofs.Common.{string_bytes}
+use Rattle.rignolda_make.specs.DrawnTexts.{number_piece}
+use Rattle.rignolda_make.proofs.Drawing.{HasDrawn}
+use Rattle.rignolda_make.proofs.text.push_numbers_below.Given as goal
+
+abbrev pub invariant-loop-place : goal.invariant-loop-place
+invariant-loop-place g l =
+    HasDrawn (number_piece l.limit) l.place (string_bytes l.initial.text) (string_bytes l.text) (g.R.Rng.stream l.initial.rng) (g.R.Rng.stream l.rng)
