@@ -147,47 +147,47 @@ room : (p : Parameters) {A : Type 0} (messages : List A) (x : A) → 1 ≤ p.cap
 room p messages x holds none =
     ap (λ fits. if fits then messages ++ x ∷ [] else messages) (lt-ltb (length messages) p.capacity (omega (arith, holds, none)))
 
+-- Where the messages on one connection change: on a line of this connection one act does the same,
+-- and on any other nothing happens.
+one_act : {A : Type 0} (p : Parameters) (whole : List A → Line) (connection : Option ℕ) (messages : ℕ → List A) (n : ℕ) (new : List A) (act : LineAct)
+    → is_offer act ≡ false → (here : Bool) → is_on connection n ≡ here
+    → (on_it connection messages ≡ messages n → line_step p (whole (on_it connection messages)) act ≡ whole new)
+    → Led p (whole (on_it connection messages)) (whole (on_it connection (put messages n new)))
+one_act p whole connection messages n new act no_offer false other does =
+    led_to (stays p (whole (on_it connection messages))) (ap whole (sym (other_sent connection messages n new other)))
+one_act p whole connection messages n new act no_offer true here does = record {
+  acts = act ∷ [];
+  no_offers = (no_offer, tt);
+  leads = does (on_this connection messages n here) ∙ ap whole (sym (this_sent connection messages n new here));
+}
+
+abbrev with_frames : SessionLink → List Frame → Line
+with_frames t frames = record (line_of t) { frames = frames }
+
+abbrev with_acks : SessionLink → List ℕ → Line
+with_acks t acks = record (line_of t) { acks = acks }
+
 frame_goes : (p : Parameters) (t : SessionLink) (n : ℕ) (f : Frame) → 1 ≤ p.capacity → frame_to_send t.sender ≡ Some f
     → length (t.down n) ≤ 0 → (here : Bool) → is_on t.at_receiver.connection n ≡ here
     → Led p (line_of t)
     (record (line_of t) { frames = on_it t.at_receiver.connection (put t.down n (t.down n ++ f ∷ [])) })
-frame_goes p t n f holds is_sent none false other =
-    led_to (stays p (line_of t))
-    (ap (λ (frames : List Frame). record (line_of t) { frames = frames })
-    (sym (other_sent t.at_receiver.connection t.down n (t.down n ++ f ∷ []) other)))
-frame_goes p t n f holds is_sent none true here =
-    let on : on_it t.at_receiver.connection t.down ≡ t.down n = on_this t.at_receiver.connection t.down n here in
-    record {
-      acts = line.frame_sent ∷ [];
-      no_offers = (refl, tt);
-      leads =
-          ap (λ (frames : List Frame). record (line_of t) { frames = frames })
-          (ap (λ sent. after_sending p (on_it t.at_receiver.connection t.down) sent) is_sent
-          ∙ ap (λ frames. after_sending p frames (Some f)) on
-          ∙ room p (t.down n) f holds none
-          ∙ sym (this_sent t.at_receiver.connection t.down n (t.down n ++ f ∷ []) here));
-    }
+frame_goes p t n f holds is_sent none here there =
+    one_act p (with_frames t) t.at_receiver.connection t.down n (t.down n ++ f ∷ []) line.frame_sent refl here there
+    (λ on.
+    ap (with_frames t)
+    (ap (λ sent. after_sending p (on_it t.at_receiver.connection t.down) sent) is_sent
+    ∙ (ap (λ frames. after_sending p frames (Some f)) on ∙ room p (t.down n) f holds none)))
 
 ack_goes : (p : Parameters) (t : SessionLink) (n : ℕ) (label : ℕ) → 1 ≤ p.capacity → ack_to_send t.receiver ≡ Some label
     → length (t.up n) ≤ 0 → (here : Bool) → is_on t.at_sender.connection n ≡ here
     → Led p (line_of t)
     (record (line_of t) { acks = on_it t.at_sender.connection (put t.up n (t.up n ++ label ∷ [])) })
-ack_goes p t n label holds is_sent none false other =
-    led_to (stays p (line_of t))
-    (ap (λ (acks : List ℕ). record (line_of t) { acks = acks })
-    (sym (other_sent t.at_sender.connection t.up n (t.up n ++ label ∷ []) other)))
-ack_goes p t n label holds is_sent none true here =
-    let on : on_it t.at_sender.connection t.up ≡ t.up n = on_this t.at_sender.connection t.up n here in
-    record {
-      acts = line.ack_sent ∷ [];
-      no_offers = (refl, tt);
-      leads =
-          ap (λ (acks : List ℕ). record (line_of t) { acks = acks })
-          (ap (λ sent. after_sending p (on_it t.at_sender.connection t.up) sent) is_sent
-          ∙ ap (λ acks. after_sending p acks (Some label)) on
-          ∙ room p (t.up n) label holds none
-          ∙ sym (this_sent t.at_sender.connection t.up n (t.up n ++ label ∷ []) here));
-    }
+ack_goes p t n label holds is_sent none here there =
+    one_act p (with_acks t) t.at_sender.connection t.up n (t.up n ++ label ∷ []) line.ack_sent refl here there
+    (λ on.
+    ap (with_acks t)
+    (ap (λ sent. after_sending p (on_it t.at_sender.connection t.up) sent) is_sent
+    ∙ (ap (λ acks. after_sending p acks (Some label)) on ∙ room p (t.up n) label holds none)))
 
 -- one with the turn has nothing under way
 turn_means_none : (n down up other most : ℕ) → down + up + ((if n == n then 1 else 0) + other) ≤ most → most ≤ 1 → down + up ≤ 0
@@ -312,35 +312,15 @@ ack_arrives p t n (Some label) is_front = ack_seen p t n label is_front (has t.a
 
 loses_frame : (p : Parameters) (t : SessionLink) (n place : ℕ) (here : Bool) → is_on t.at_receiver.connection n ≡ here
     → Led p (line_of t) (line_of (record t { down = put t.down n (without place (t.down n)) }))
-loses_frame p t n place false other =
-    led_to (stays p (line_of t))
-    (ap (λ (frames : List Frame). record (line_of t) { frames = frames })
-    (sym (other_sent t.at_receiver.connection t.down n (without place (t.down n)) other)))
-loses_frame p t n place true here =
-    record {
-      acts = line.frame_lost place ∷ [];
-      no_offers = (refl, tt);
-      leads =
-          ap (λ (frames : List Frame). record (line_of t) { frames = frames })
-          (ap (λ frames. without place frames) (on_this t.at_receiver.connection t.down n here)
-          ∙ sym (this_sent t.at_receiver.connection t.down n (without place (t.down n)) here));
-    }
+loses_frame p t n place here there =
+    one_act p (with_frames t) t.at_receiver.connection t.down n (without place (t.down n)) (line.frame_lost place) refl here there
+    (λ on. ap (with_frames t) (ap (without place) on))
 
 loses_ack : (p : Parameters) (t : SessionLink) (n place : ℕ) (here : Bool) → is_on t.at_sender.connection n ≡ here
     → Led p (line_of t) (line_of (record t { up = put t.up n (without place (t.up n)) }))
-loses_ack p t n place false other =
-    led_to (stays p (line_of t))
-    (ap (λ (acks : List ℕ). record (line_of t) { acks = acks })
-    (sym (other_sent t.at_sender.connection t.up n (without place (t.up n)) other)))
-loses_ack p t n place true here =
-    record {
-      acts = line.ack_lost place ∷ [];
-      no_offers = (refl, tt);
-      leads =
-          ap (λ (acks : List ℕ). record (line_of t) { acks = acks })
-          (ap (λ acks. without place acks) (on_this t.at_sender.connection t.up n here)
-          ∙ sym (this_sent t.at_sender.connection t.up n (without place (t.up n)) here));
-    }
+loses_ack p t n place here there =
+    one_act p (with_acks t) t.at_sender.connection t.up n (without place (t.up n)) (line.ack_lost place) refl here there
+    (λ on. ap (with_acks t) (ap (without place) on))
 
 -- ---- each act
 
