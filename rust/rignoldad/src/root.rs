@@ -83,9 +83,8 @@ pub struct Root<W> {
     waiting: (usize, usize),
     /// Whether it was time for a round while one was under way.
     overdue: bool,
-    /// Whether its numbers went on above others since the last round began, or the table that is
-    /// then due is not published yet.
-    went_above: bool,
+    /// How often its numbers went on above others since the last round began.
+    went_above: u8,
     faults: Faults,
 }
 
@@ -149,7 +148,7 @@ impl<W> Root<W> {
             answers: Vec::new(),
             waiting: (0, 0),
             overdue: false,
-            went_above: false,
+            went_above: 0,
             faults: Faults::default(),
         };
         root.look(now);
@@ -158,7 +157,7 @@ impl<W> Root<W> {
 
     /// Publishes above this number, at which a promoted agent begins.
     pub fn begins_above(&mut self, number: u64) {
-        self.went_above |= self.publisher.go_above(number);
+        self.went_above += u8::from(self.publisher.go_above(number));
     }
 
     /// Ends it: who asked for something and was not answered.
@@ -368,17 +367,22 @@ impl<W> Root<W> {
         self.fresh = std::mem::take(&mut self.for_table).then_some(now);
         if std::mem::take(&mut self.begins) && self.known && !self.draining {
             self.publisher.begin_round(self.config.harmless);
-            // (not before its table is published: nobody may be passed)
-            self.went_above &= self.publisher.is_table_first();
+            self.went_above = self.went_above.min(self.publisher.is_table_first().into());
         }
     }
 
-    /// Goes on above the number that is furthest ahead of those that agents have. Once in a round,
-    /// since whoever lies about it makes a whole table come.
+    /// Goes on above the number that is furthest ahead of those that agents have. Twice in a round
+    /// at most, since whoever lies about it makes a whole table come; and the second time once the
+    /// table of the first one is published, so that nobody is passed.
     pub fn hears(&mut self, numbers: impl IntoIterator<Item = u64>) {
-        for number in numbers.into_iter().filter(|_| !self.went_above).collect::<Vec<_>>() {
-            if self.publisher.go_above(number) {
-                self.went_above = true;
+        for number in numbers {
+            let may = match self.went_above {
+                0 => true,
+                1 => !self.publisher.is_table_first(),
+                _ => false,
+            };
+            if may && self.publisher.go_above(number) {
+                self.went_above += 1;
                 fact!("numbers", "go on above {number}, which an agent has");
             }
         }
