@@ -212,7 +212,7 @@ fn numbers_go_up_by_one() {
 }
 
 #[test]
-fn it_goes_on_above_a_number_that_is_ahead_once_in_a_round() {
+fn it_goes_on_above_numbers_that_are_ahead_twice_in_a_round() {
     let folder = Folder::new("above");
     let (mut root, now) = root(&folder.0, true);
     let next = |root: &mut Tried| {
@@ -225,7 +225,11 @@ fn it_goes_on_above_a_number_that_is_ahead_once_in_a_round() {
     root.hears([first]);
     assert_eq!(next(&mut root), None);
     root.hears([first + 1_000]);
+    // (above a second one once the table is published)
+    root.hears([first + 2_000]);
     assert_eq!(next(&mut root), Some((first + 1_001, true)));
+    root.hears([first + 2_000]);
+    assert_eq!(next(&mut root), Some((first + 2_001, true)));
     // (whoever lies about it does not make one table after the other come)
     root.hears([first + 5_000]);
     assert_eq!(next(&mut root), None);
