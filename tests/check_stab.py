@@ -198,12 +198,20 @@ text("stab_cli", "rewrites")
 gave(stab(), "the script itself may change during a build", "rewrites; ; in", 1)
 house.bring("stab")
 text("stab_cli", "waits")
+# (the build ends once the other use has said that it waits, or has not within a minute)
+write(work / "calls")
+said = [write(work / it) for it in ("first said", "second said")]
 with ThreadPoolExecutor() as pool:
-    first = pool.submit(stab)
-    time.sleep(0.5)
-    second = pool.submit(house.run, top / "stab", given="in").result()
-    first = first.result()
-holds("of two at once the second waits", "another build runs here: waiting for it" in second.err)
+    uses = [pool.submit(house.run, "sh", "-c", '"$0/stab" 2>"$1"', top, it, given="in")
+            for it in said]
+    for _ in range(1200):
+        waiting = [it for it in said if "another build runs here: waiting for it" in it.read_text()]
+        if waiting:
+            break
+        time.sleep(0.05)
+    write(work / "go on")
+    first, second = (it.result() for it in uses)
+holds("of two at once one waits", len(waiting) == 1)
 holds("and uses what the first has built", first.out == second.out != "")
 holds("which is built once", calls() == 1)
 for number, status in ("TERM", 143), ("INT", 130), ("HUP", 129):

@@ -1,8 +1,9 @@
 //! The command `random`: the job that it writes.
 
-ghost use Rattle.std.specs.Prelude.{◌≡◌, ◌≢◌, ℕ, List, Some, Err};
+ghost use Rattle.std.specs.Prelude.{◌≡◌, ◌≢◌, Some, Err};
 ghost use Rattle.std.specs.Prelude.{IfErr, OnOk};
 ghost use Rattle.std.specs.Io.KnownBytes.{Appends, Keeps};
+ghost use Rattle.rignolda_make.specs.DrawnTexts.{drawn_text};
 ghost use Rattle.rignolda_make.specs.Options.{options_fault};
 ghost use Rattle.rignolda_make.specs.RandomJobs.{IsRandomText};
 
@@ -41,8 +42,10 @@ pub fn act_random<W: Write>(
     options: &DrawOptions,
     writer: &mut W,
 ) -> Result<(), RandomWriteFault>
-    ensures written { OnOk result ((text : List ℕ) × IsRandomText options.now text
-        × Appends (W.contents writer.old) (W.contents writer.new) text) }
+    ensures written { OnOk result (IsRandomText options.now (drawn_text options.now)
+        × Appends (W.contents writer.old) (W.contents writer.new) (drawn_text options.now)) }
+    ensures unlike { result ≡ Err (RandomWriteFault.Draw RandomFault.Unlike)
+        → ¬ IsRandomText options.now (drawn_text options.now) }
     ensures refused { (fault : OptionsFault)
         → result ≡ Err (RandomWriteFault.Draw (RandomFault.Options fault))
         → options_fault options.now ≡ Some fault }

@@ -1,1 +1,2 @@
 pub mod LinkTexts
+pub mod Widest

@@ -16,6 +16,7 @@ mod broken;
 mod costs;
 mod judged;
 mod law;
+pub mod laws;
 mod link_broken;
 mod link_lists;
 mod link_read;

@@ -1,19 +1,11 @@
-use Rattle.std.proofs.Common.{◌≡◌, ℕ, ◌+◌, ◌<◌, List, [], ◌∷◌, ◌++◌, map, max, refl, ap, sym, ◌∙◌, arith}
+use Rattle.std.proofs.Common.{◌≡◌, ℕ, ◌+◌, map, max, ap, sym, ◌∙◌, arith}
 use Rattle.std.specs.List.{range_with_len}
 use Rattle.std.proofs.Math.Nat.{max-eq_left, max-eq_right}
-use Rattle.std.proofs.lemmas.List.FromFn.{map-range_with_len_more}
-use Rattle.std.proofs.lemmas.List.Recursion.{max_push}
 use Rattle.stab_convergence.specs.Greatest.{greatest}
 use Rattle.rignolda_verdict.specs.Costs.{capacity_to}
+use Rattle.rignolda_verdict.proofs.Widest.{one_more}
 use Rattle.rignolda_verdict.proofs.costs.greatest_below.Goals.{then-capacity-greatest, else-capacity-greatest}
 use Rattle.rignolda_verdict.proofs.costs.greatest_below.Goals as goal
-
--- the greatest of the first places and of one more
-one_more : (f : ℕ → ℕ) (count : ℕ)
-    → greatest (map f (range_with_len 0 (count + 1))) ≡ max (greatest (map f (range_with_len 0 count))) (f count)
-one_more f count =
-    ap greatest (map-range_with_len_more f 0 count count (let same : 0 + count ≡ count = omega arith in same))
-    ∙ max_push greatest (λ x. x) refl (λ x xs. refl) (map f (range_with_len 0 count)) (f count)
 
 pub nodes-preserved : goal.nodes-preserved
 nodes-preserved c =
