@@ -731,6 +731,11 @@ def manuals_and_completions_name_everything():
         of_hooks = re.search(r"const HOOK_KEYS: .* = \[(.*?)\];", source)[1].replace(",", " ")
         for key in (keys[1].replace("\\", " ") + " " + of_hooks.replace('"', "")).split():
             sure(re.search(rf"\.B.* {key.split('.')[-1]}\b", pages["rignoldad.toml.5"]), key)
+        files = PACKAGING.parents[1].glob("rignold*/src/**/*.rs")
+        sources = "".join(it.read_text() for it in files)
+        facts = {*re.findall(r'fact!\(\s*(?:[a-z.]+,\s*)?"([a-z-]+)"', sources), "journal"}
+        for fact in facts:
+            sure(re.search(rf"(?m)^\.BR? {fact}\b", pages["rignoldad.8"]), "has no fact", fact)
 
 
 if __name__ == "__main__":

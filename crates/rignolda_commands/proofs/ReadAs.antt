@@ -13,7 +13,7 @@ use Rattle.stab_job.specs.Unscheduled.{IsUnscheduled, unscheduled}
 use Rattle.stab_json.specs.Checks.{◌>>=◌, ◌or◌, ◌refused_as◌}
 use Rattle.stab_json.specs.Values.{value_of}
 use Rattle.stab_script.specs.Members.{HasNoOthers}
-use Rattle.stab_task.specs.Answers.{IsFault}
+use Rattle.rignolda_commands.specs.Unanswered.{IsUnanswered}
 use Rattle.stab_task.specs.declared.command.Task.TheVariants.{Link}
 use Rattle.stab_task.specs.declared.fault.CliFault.{CliFault}
 use Rattle.stab_task.specs.declared.fault.CliFault.TheVariants as task
@@ -124,10 +124,10 @@ drawn_as_a_link is_picture input text none is =
     subst (λ has. IsDrawnBy has is_picture input text) (sym (link_has_no_steps (value_of input) none))
     (subst (λ k. IsDrawnAs k is_picture input text) (sym (read_as_a_link (value_of input) none)) is)
 
-pub undrawn_as_a_link : (input : List ℕ) (fault : CliFault) → IfSome (value_of input) HasNoOthers → IsFault (Link false) input fault → IsUndrawn input (Job fault)
+pub undrawn_as_a_link : (input : List ℕ) (fault : CliFault) → IfSome (value_of input) HasNoOthers → IsUnanswered (Link false) input fault → IsUndrawn input (Job fault)
 undrawn_as_a_link input fault none why =
     subst (λ has. IsUndrawnBy has input (Job fault)) (sym (link_has_no_steps (value_of input) none))
-    (fault, refl, subst (λ k. IsFault (task_of k) input fault) (sym (read_as_a_link (value_of input) none)) why)
+    (fault, refl, subst (λ k. IsUnanswered (task_of k) input fault) (sym (read_as_a_link (value_of input) none)) why)
 
 -- of a job of a tree with steps, or without
 pub undrawn_unread : (input : List ℕ) (refusal : ScenarioFault) → has_steps (value_of input) ≡ true
@@ -161,5 +161,5 @@ undrawn_without_steps input its_job fault read none why =
     subst (λ has. IsUndrawnBy has input (Job (task.Tree fault))) (sym none) (
       task.Tree fault,
       refl,
-      subst (λ k. IsFault (task_of k) input (task.Tree fault)) (sym (job_is_a_tree input its_job read)) (its_job, read, why),
+      subst (λ k. IsUnanswered (task_of k) input (task.Tree fault)) (sym (job_is_a_tree input its_job read)) (its_job, read, why),
     )

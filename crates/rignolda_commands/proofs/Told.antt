@@ -24,19 +24,6 @@ pub unrun : (input : List ℕ) (its_scenario : Scenario) (refusal : ScenarioFaul
     → IsUnrun its_scenario.job its_scenario.steps refusal → IsUntold input (steps_refused refusal)
 unrun input its_scenario refusal read why = inr (refusal, refl, inr (record { its_scenario = its_scenario; read = read; unrun = why }))
 
--- no refusal is that of a write
-pub no_write : (refusal : ScenarioFault) → steps_refused refusal ≢ Job task.Write
-no_write fault.Memory is = (let never : steps_refused fault.Memory ≡ Job task.Write = is in cc)
-no_write (fault.Job refusal) is = (let never : steps_refused (fault.Job refusal) ≡ Job task.Write = is in cc)
-no_write fault.Steps is = (let never : steps_refused fault.Steps ≡ Job task.Write = is in cc)
-no_write (fault.Step number refusal) is = (let never : steps_refused (fault.Step number refusal) ≡ Job task.Write = is in cc)
-no_write fault.TooManyEvents is = (let never : steps_refused fault.TooManyEvents ≡ Job task.Write = is in cc)
-no_write (fault.Run (change.Begin refusal)) is = (let never : steps_refused (fault.Run (change.Begin refusal)) ≡ Job task.Write = is in cc)
-no_write (fault.Run (change.Act refusal)) is = (let never : steps_refused (fault.Run (change.Act refusal)) ≡ Job task.Write = is in cc)
-no_write (fault.Run (change.Strike refusal)) is = (let never : steps_refused (fault.Run (change.Strike refusal)) ≡ Job task.Write = is in cc)
-no_write (fault.Run (change.Restart refusal)) is = (let never : steps_refused (fault.Run (change.Restart refusal)) ≡ Job task.Write = is in cc)
-no_write (fault.Run change.Memory) is = (let never : steps_refused (fault.Run change.Memory) ≡ Job task.Write = is in cc)
-
 pub by_load : (input : List ℕ) (why : LoadFault) → IsLoadFault (Some input) why → IsUntold input (Job (fault_of_load why))
 by_load input load.Read because = inl tt
 by_load input load.TooLong because = inl because

@@ -10,7 +10,7 @@ use Rattle.stab_job.proofs.ForCallers.{member_of}
 use Rattle.stab_job.specs.Unscheduled.{unscheduled, IsUnscheduled}
 use Rattle.stab_json.specs.Values.{value_of}
 use Rattle.stab_report.specs.Texts.{IsNoText}
-use Rattle.stab_task.specs.Answers.{IsFault}
+use Rattle.rignolda_commands.specs.Unanswered.{IsUnanswered}
 use Rattle.stab_task.specs.declared.command.Task.TheVariants.{Tree}
 use Rattle.stab_task.specs.declared.fault.CliFault.{CliFault}
 use Rattle.stab_task.specs.declared.fault.CliFault.TheVariants as task
@@ -36,17 +36,17 @@ begun_unscheduled input its_job (whole, read, same) begins = record {
 
 -- or not
 pub unbegun : (input : List ℕ) (its_job : JobValue) (fault : TreeStartFault) → IsUnscheduled (job input) its_job
-    → ((events : List TreeEvent) → IsScheduleReason its_job.params its_job.starts (network its_job) events fault) → IsFault Tree input (task.Tree fault)
+    → ((events : List TreeEvent) → IsScheduleReason its_job.params its_job.starts (network its_job) events fault) → IsUnanswered Tree input (task.Tree fault)
 unbegun input its_job fault (whole, read, same) why =
     (whole, read, subst (λ j. IsScheduleReason j.params j.starts (network j) whole.schedule fault) same (why whole.schedule))
 
 -- why it has no bounds, where its links cannot begin: it has the shape of a job of a tree
-pub no_bounds : (input : List ℕ) (its_job : JobValue) (fault : CliFault) → IsUnscheduled (job input) its_job → IsFault Tree input fault → HasNoBounds input (bounds.Job fault)
+pub no_bounds : (input : List ℕ) (its_job : JobValue) (fault : CliFault) → IsUnscheduled (job input) its_job → IsUnanswered Tree input fault → HasNoBounds input (bounds.Job fault)
 no_bounds input its_job fault (whole, read, same) why = (
   why,
-  λ is shaped. let refused : IsFault Tree input (task.Job tree.Shape) = subst (IsFault Tree input) is why in
+  λ is shaped. let refused : IsUnanswered Tree input (task.Job tree.Shape) = subst (IsUnanswered Tree input) is why in
       absurd (let never : job input ≡ Err tree.Shape = refused (λ memory. absurd (cc)) in cc),
-  λ is shaped. let refused : IsFault Tree input (task.Job tree.Version) = subst (IsFault Tree input) is why in
+  λ is shaped. let refused : IsUnanswered Tree input (task.Job tree.Version) = subst (IsUnanswered Tree input) is why in
       absurd (let never : job input ≡ Err tree.Version = refused (λ memory. absurd (cc)) in cc),
 )
 

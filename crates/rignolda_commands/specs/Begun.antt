@@ -16,7 +16,7 @@ use Rattle.stab_script.specs.declared.link_job.LinkJob.{LinkJob}
 use Rattle.stab_script.specs.declared.link_job.LinkJobFault.TheVariants as link
 use Rattle.stab_json.specs.Values.{value_of}
 use Rattle.stab_script.specs.LinkJobs.{link_job}
-use Rattle.stab_task.specs.Answers.{IsFault}
+use Rattle.rignolda_commands.specs.Unanswered.{IsUnanswered}
 use Rattle.stab_task.specs.declared.command.Task.TheVariants.{Tree}
 use Rattle.stab_task.specs.declared.fault.CliFault.{CliFault}
 use Rattle.stab_treecore.specs.Network.{IsNetwork}
@@ -46,7 +46,7 @@ pub record IsBegunLink (input : List ℕ) (its_job : LinkJob) : Type 0 where
 -- why these bytes are no job of a tree that can begin: what keeps a job from its answer by `stab
 -- tree`
 abbrev pub IsUnbegun : List ℕ → CliFault → Type 0
-IsUnbegun input fault = IsFault Tree input fault
+IsUnbegun input fault = IsUnanswered Tree input fault
 
 -- these bytes have the shape of a link job: if its reader refuses them, then for what they say
 abbrev pub HasLinkShape : List ℕ → Type 0

@@ -27,7 +27,7 @@ use Rattle.rignolda_since.specs.VerdictTexts.{SaysSince}
 use Rattle.stab_judge.specs.Reports.{OnePerNode, ReportValue}
 use Rattle.stab_report.specs.Texts.{IsNoText, IsTextOf}
 use Rattle.stab_script.specs.declared.link_job.LinkJob.{LinkJob}
-use Rattle.stab_task.specs.Answers.{IsFault}
+use Rattle.rignolda_commands.specs.Unanswered.{IsUnanswered}
 use Rattle.stab_task.specs.Loading.{IsUnloaded}
 use Rattle.stab_task.specs.declared.fault.CliFault.{CliFault}
 use Rattle.stab_task.specs.declared.fault.CliFault.TheVariants.{Memory}
@@ -111,7 +111,7 @@ IsUnloadedReport had fault = (fault ≢ Memory) × IsUnloaded had fault
 -- tells it: the job is refused, as `stab` does it, or its backlogs are; or the text is not loaded,
 -- or it is that of no report of the job, or of no link
 abbrev pub IsUncheckedAs : Kind → List ℕ → Option (List ℕ) → CheckFault → Type 0
-IsUncheckedAs its_kind input had (Job fault) = IsFault (task_of its_kind) input fault
+IsUncheckedAs its_kind input had (Job fault) = IsUnanswered (task_of its_kind) input fault
 IsUncheckedAs its_kind input had (Unloaded fault) = IsUnloadedReport had fault
 IsUncheckedAs its_kind input had (Backlogs refusal) =
     (its_kind ≡ kind.Job) × (its_job : JobValue) × IsBegun input its_job

@@ -26,7 +26,7 @@ use Rattle.rignolda_scenario.specs.Scenarios.{scenario}
 use Rattle.rignolda_scenario.specs.declared.read.Scenario.{Scenario}
 use Rattle.stab_script.specs.declared.link_job.LinkJob.{LinkJob}
 use Rattle.stab_script.specs.LinkJobs.{link_job}
-use Rattle.stab_task.specs.Answers.{IsFault}
+use Rattle.rignolda_commands.specs.Unanswered.{IsUnanswered}
 use Rattle.stab_task.specs.declared.command.Task.{Task}
 use Rattle.stab_task.specs.declared.command.Task.TheVariants.{Link, Tree}
 use Rattle.stab_task.specs.declared.fault.CliFault.{CliFault}
@@ -71,7 +71,7 @@ IsDrawnJob is_picture input text = IsDrawnAs (chosen None (value_of input)) is_p
 
 -- why these bytes have no such run: what keeps `stab` from its answer
 abbrev pub IsUndrawnJob : List ℕ → CliFault → Type 0
-IsUndrawnJob input fault = IsFault (task_of (chosen None (value_of input))) input fault
+IsUndrawnJob input fault = IsUnanswered (task_of (chosen None (value_of input))) input fault
 
 -- these bytes are a scenario, and this is the text of its run, unless it is drawn as a picture
 pub record IsDrawnScenario (is_picture : Bool) (input text : List ℕ) : Type 0 where

@@ -15,7 +15,7 @@ use Rattle.rignolda_since.specs.LogTexts.{SaysLogs}
 use Rattle.rignolda_since.specs.ObeysLogs.{ObeysLogs}
 use Rattle.rignolda_since.specs.declared.logs.LogsFault.{LogsFault}
 use Rattle.rignolda_since.specs.declared.logs.LogsFault.TheVariants as fault
-use Rattle.stab_task.specs.Answers.{IsFault}
+use Rattle.rignolda_commands.specs.Unanswered.{IsUnanswered}
 use Rattle.stab_task.specs.Statuses.{status_of}
 use Rattle.stab_task.specs.declared.command.Task.TheVariants.{Tree}
 use Rattle.rignolda_commands.specs.declared.judge_fault.JudgeFault.{JudgeFault}
@@ -47,7 +47,7 @@ pub record IsJudged (input : List ℕ) (obeys : Bool) (answer : List ℕ) : Type
 
 -- why these bytes are not judged: the job is refused, as `stab tree` does it, or its logs are
 abbrev pub IsUnjudged : List ℕ → JudgeFault → Type 0
-IsUnjudged input (Job refusal) = IsFault Tree input refusal
+IsUnjudged input (Job refusal) = IsUnanswered Tree input refusal
 IsUnjudged input (Logs refusal) =
     (its_job : JobValue) × IsJob input its_job
     × (logs_in its_job (value_of input) ≡ Err refusal)

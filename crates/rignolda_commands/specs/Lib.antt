@@ -4,4 +4,5 @@ pub mod Drawn
 pub mod Explained
 pub mod Statuses
 pub mod Told
+pub mod Unanswered
 pub mod Judged

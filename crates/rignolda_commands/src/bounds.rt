@@ -101,7 +101,6 @@ fn bounds_of_input<R: Read>(alloc: Global, reader: &mut R) -> Result<String, Bou
         IfSome (R.remaining reader.old) (λ input. AreBounds input (string_bytes text))) }
     ensures fault { IfErr result (λ fault.
         IfSome (R.remaining reader.old) (λ input. HasNoBounds input fault)) }
-    ensures no_write { IfErr result (λ fault. fault ≢ BoundsFault.Job CliFault.Write) }
 {
     let bytes = load(alloc, reader)?;
     let text = bounds_of_bytes(alloc, &bytes)?;
@@ -113,7 +112,6 @@ fn bounds_of_input<R: Read>(alloc: Global, reader: &mut R) -> Result<String, Bou
 fn bounds_of_bytes(alloc: Global, bytes: &[u8]) -> Result<String, BoundsFault>
     ensures bounds { IfOk result (λ text. AreBounds bytes.now (string_bytes text)) }
     ensures fault { IfErr result (HasNoBounds bytes.now) }
-    ensures no_write { IfErr result (λ fault. fault ≢ BoundsFault.Job CliFault.Write) }
 {
     if seems_a_link_job(bytes) {
         return bounds_by_value(alloc, bytes);
@@ -128,7 +126,6 @@ fn bounds_of_bytes(alloc: Global, bytes: &[u8]) -> Result<String, BoundsFault>
 fn bounds_by_value(alloc: Global, bytes: &[u8]) -> Result<String, BoundsFault>
     ensures bounds { IfOk result (λ text. AreBounds bytes.now (string_bytes text)) }
     ensures fault { IfErr result (HasNoBounds bytes.now) }
-    ensures no_write { IfErr result (λ fault. fault ≢ BoundsFault.Job CliFault.Write) }
 {
     let value = read_value(alloc, bytes)?;
     let text = bounds_of_value(alloc, value, bytes)?;
@@ -140,7 +137,6 @@ fn bounds_of_value(alloc: Global, value: Option<Value>, bytes: &[u8]) -> Result<
     requires { option_map view value ≡ value_of bytes.now }
     ensures bounds { IfOk result (λ text. AreBounds bytes.now (string_bytes text)) }
     ensures fault { IfErr result (HasNoBounds bytes.now) }
-    ensures no_write { IfErr result (λ fault. fault ≢ BoundsFault.Job CliFault.Write) }
 {
     match unscheduled_job_of(alloc, value.as_ref(), bytes) {
         Ok(job) => bounds_of_job(alloc, &job, bytes),
@@ -156,7 +152,6 @@ fn bounds_of_job(alloc: Global, its_job: &Job, bytes: &[u8]) -> Result<String, B
     requires { IsUnscheduled (job bytes.now) its_job.now }
     ensures bounds { IfOk result (λ text. AreBounds bytes.now (string_bytes text)) }
     ensures fault { IfErr result (HasNoBounds bytes.now) }
-    ensures no_write { IfErr result (λ fault. fault ≢ BoundsFault.Job CliFault.Write) }
 {
     begin_job(its_job, bytes)?;
     let text = bounds_text(alloc, its_job)?;
@@ -169,7 +164,6 @@ fn refused(alloc: Global, fault: JobFault, value: Option<Value>, bytes: &[u8]) -
     requires value { option_map view value ≡ value_of bytes.now }
     requires fault { (fault ≡ JobFault.Shape) ⊎ (fault ≡ JobFault.Version) }
     ensures fault { job bytes.now ≡ Err fault → HasNoBounds bytes.now result }
-    ensures no_write { result ≢ BoundsFault.Job CliFault.Write }
 {
     let refusal = BoundsFault::Job(CliFault::Job(fault));
     match kind_of(value.as_ref()) {

@@ -71,7 +71,6 @@ fn check_input<J: Read, R: Read>(
         IsUnchecked input (R.remaining report.old) fault)) }
     ensures unloaded { (fault : CliFault) → result ≡ Err (CheckFault.Unloaded fault)
         → IsUnloadedReport (R.remaining report.old) fault }
-    ensures no_write { IfErr result (λ fault. fault ≢ CheckFault.Job CliFault.Write) }
 {
     let input = load(alloc, job)?;
     let text = match load(alloc, report) {
@@ -90,7 +89,6 @@ fn check_bytes(alloc: Global, bytes: &[u8], text: &[u8]) -> Result<(String, bool
     ensures checked { IfOk result (λ said.
         IsChecked bytes.now text.now said.1 (string_bytes said.0)) }
     ensures fault { IfErr result (IsUnchecked bytes.now (Some text.now)) }
-    ensures no_write { IfErr result (λ fault. fault ≢ CheckFault.Job CliFault.Write) }
 {
     if seems_a_link_job(bytes) {
         check_link_first(alloc, bytes, text)
@@ -104,7 +102,6 @@ fn check_link_first(alloc: Global, bytes: &[u8], text: &[u8]) -> Result<(String,
     ensures checked { IfOk result (λ said.
         IsChecked bytes.now text.now said.1 (string_bytes said.0)) }
     ensures fault { IfErr result (IsUnchecked bytes.now (Some text.now)) }
-    ensures no_write { IfErr result (λ fault. fault ≢ CheckFault.Job CliFault.Write) }
 {
     match read_plain_link_job(alloc, bytes)? {
         Some(job) => check_plain_link(alloc, &job, bytes, text),
@@ -125,7 +122,6 @@ fn check_plain_link(
     ensures checked { IfOk result (λ said.
         IsChecked bytes.now text.now said.1 (string_bytes said.0)) }
     ensures fault { IfErr result (IsUnchecked bytes.now (Some text.now)) }
-    ensures no_write { IfErr result (λ fault. fault ≢ CheckFault.Job CliFault.Write) }
 {
     let said = check_link_job(alloc, job, bytes, text)?;
     Ok(said)
@@ -136,7 +132,6 @@ fn check_tree_first(alloc: Global, bytes: &[u8], text: &[u8]) -> Result<(String,
     ensures checked { IfOk result (λ said.
         IsChecked bytes.now text.now said.1 (string_bytes said.0)) }
     ensures fault { IfErr result (IsUnchecked bytes.now (Some text.now)) }
-    ensures no_write { IfErr result (λ fault. fault ≢ CheckFault.Job CliFault.Write) }
 {
     match read_plain_job(alloc, bytes, false)? {
         Some((job, members)) => check_plain_job(alloc, &job, &members, bytes, text),
@@ -158,7 +153,6 @@ fn check_plain_job(
     ensures checked { IfOk result (λ said.
         IsChecked bytes.now text.now said.1 (string_bytes said.0)) }
     ensures fault { IfErr result (IsUnchecked bytes.now (Some text.now)) }
-    ensures no_write { IfErr result (λ fault. fault ≢ CheckFault.Job CliFault.Write) }
 {
     let said = check_tree_job(alloc, its_job, members, bytes, text)?;
     Ok(said)
@@ -169,7 +163,6 @@ fn check_by_value(alloc: Global, bytes: &[u8], text: &[u8]) -> Result<(String, b
     ensures checked { IfOk result (λ said.
         IsChecked bytes.now text.now said.1 (string_bytes said.0)) }
     ensures fault { IfErr result (IsUnchecked bytes.now (Some text.now)) }
-    ensures no_write { IfErr result (λ fault. fault ≢ CheckFault.Job CliFault.Write) }
 {
     let value = read_value(alloc, bytes)?;
     let kind = kind_of(value.as_ref());
@@ -189,7 +182,6 @@ fn check_kind(
     ensures checked { IfOk result (λ said.
         IsCheckedAs kind bytes.now text.now said.1 (string_bytes said.0)) }
     ensures fault { IfErr result (IsUncheckedAs kind bytes.now (Some text.now)) }
-    ensures no_write { IfErr result (λ fault. fault ≢ CheckFault.Job CliFault.Write) }
 {
     match kind {
         Kind::LinkJob => check_link(alloc, value, bytes, text),
@@ -209,7 +201,6 @@ fn check_link(
     ensures checked { IfOk result (λ said.
         IsCheckedLink bytes.now text.now said.1 (string_bytes said.0)) }
     ensures fault { IfErr result (IsUncheckedLink bytes.now (Some text.now)) }
-    ensures no_write { IfErr result (λ fault. fault ≢ CheckFault.Job CliFault.Write) }
 {
     let job = link_job_of(alloc, value, bytes)?;
     let said = check_link_job(alloc, &job, bytes, text)?;
@@ -227,7 +218,6 @@ fn check_link_job(
     ensures checked { IfOk result (λ said.
         IsCheckedLink bytes.now text.now said.1 (string_bytes said.0)) }
     ensures fault { IfErr result (IsUncheckedLink bytes.now (Some text.now)) }
-    ensures no_write { IfErr result (λ fault. fault ≢ CheckFault.Job CliFault.Write) }
 {
     begin_link_job(job, bytes)?;
     let said = check_link_text(alloc, job, text)?;
@@ -247,7 +237,6 @@ fn check_tree(
     ensures checked { IfOk result (λ said.
         IsCheckedTree bytes.now text.now said.1 (string_bytes said.0)) }
     ensures fault { IfErr result (IsUncheckedTree bytes.now (Some text.now)) }
-    ensures no_write { IfErr result (λ fault. fault ≢ CheckFault.Job CliFault.Write) }
 {
     let Some(value) = value else {
         return Err(CheckFault::Job(CliFault::Job(JobFault::Json)));
@@ -267,7 +256,6 @@ fn check_value(
     ensures checked { IfOk result (λ said.
         IsCheckedTree bytes.now text.now said.1 (string_bytes said.0)) }
     ensures fault { IfErr result (IsUncheckedTree bytes.now (Some text.now)) }
-    ensures no_write { IfErr result (λ fault. fault ≢ CheckFault.Job CliFault.Write) }
 {
     let job = unscheduled_job_of(alloc, Some(value), bytes)?;
     let said = check_tree_job(alloc, &job, value, bytes, text)?;
@@ -290,7 +278,6 @@ fn check_tree_job(
     ensures checked { IfOk result (λ said.
         IsCheckedTree bytes.now text.now said.1 (string_bytes said.0)) }
     ensures fault { IfErr result (IsUncheckedTree bytes.now (Some text.now)) }
-    ensures no_write { IfErr result (λ fault. fault ≢ CheckFault.Job CliFault.Write) }
 {
     begin_job(its_job, bytes)?;
     let said = check_job(alloc, its_job, members, bytes, text)?;

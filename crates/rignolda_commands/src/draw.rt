@@ -16,7 +16,7 @@ ghost use Rattle.stab_json.specs.Values.{value_of};
 ghost use Rattle.rignolda_scenario.specs.Scenarios.{scenario};
 ghost use Rattle.stab_script.specs.LinkJobs.{link_job};
 ghost use Rattle.stab_script.specs.Members.{HasNoOthers};
-ghost use Rattle.stab_task.specs.Answers.{IsFault};
+ghost use Rattle.rignolda_commands.specs.Unanswered.{IsUnanswered};
 ghost use Rattle.stab_task.specs.declared.command.Task.TheVariants.{Link, Tree};
 
 use crate::job::{job_of, link_job_of, scenario_beside, scenario_of};
@@ -79,7 +79,6 @@ fn draw_input<R: Read>(
     ensures replayed { IfOk result IsReplayed }
     ensures fault { IfErr result (λ fault.
         IfSome (R.remaining reader.old) (λ input. IsUndrawn input fault)) }
-    ensures no_write { IfErr result (λ fault. fault ≢ StepsFault.Job CliFault.Write) }
 {
     let bytes = load(alloc, reader)?;
     let drawing = draw_bytes(alloc, is_picture, &bytes)?;
@@ -93,7 +92,6 @@ fn draw_bytes(alloc: Global, is_picture: bool, bytes: &[u8]) -> Result<Drawing, 
         IsDrawn is_picture bytes.now (drawn_text drawing)) }
     ensures replayed { IfOk result IsReplayed }
     ensures fault { IfErr result (IsUndrawn bytes.now) }
-    ensures no_write { IfErr result (λ fault. fault ≢ StepsFault.Job CliFault.Write) }
 {
     if seems_a_link_job(bytes) {
         draw_link_first(alloc, is_picture, bytes)
@@ -111,7 +109,6 @@ fn draw_link_first(alloc: Global, is_picture: bool, bytes: &[u8]) -> Result<Draw
         IsDrawn is_picture bytes.now (drawn_text drawing)) }
     ensures replayed { IfOk result IsReplayed }
     ensures fault { IfErr result (IsUndrawn bytes.now) }
-    ensures no_write { IfErr result (λ fault. fault ≢ StepsFault.Job CliFault.Write) }
 {
     match read_plain_link_job(alloc, bytes)? {
         Some(job) => draw_plain_link(alloc, is_picture, bytes, job),
@@ -133,7 +130,6 @@ fn draw_plain_link(
         IsDrawn is_picture bytes.now (drawn_text drawing)) }
     ensures replayed { IfOk result IsReplayed }
     ensures fault { IfErr result (IsUndrawn bytes.now) }
-    ensures no_write { IfErr result (λ fault. fault ≢ StepsFault.Job CliFault.Write) }
 {
     let drawing = draw_link_job(alloc, is_picture, bytes, job)?;
     Ok(drawing)
@@ -146,7 +142,6 @@ fn draw_steps_first(alloc: Global, is_picture: bool, bytes: &[u8]) -> Result<Dra
         IsDrawn is_picture bytes.now (drawn_text drawing)) }
     ensures replayed { IfOk result IsReplayed }
     ensures fault { IfErr result (IsUndrawn bytes.now) }
-    ensures no_write { IfErr result (λ fault. fault ≢ StepsFault.Job CliFault.Write) }
 {
     match read_plain_job(alloc, bytes, false)? {
         Some((job, members)) => draw_plain_steps(alloc, is_picture, bytes, job, &members),
@@ -156,7 +151,7 @@ fn draw_steps_first(alloc: Global, is_picture: bool, bytes: &[u8]) -> Result<Dra
 
 /// The run of the steps of the job that these bytes are, where there are some among the members that
 /// were read beside it. Otherwise its schedule is drawn, which was not kept.
-#[tactic(auto, using(crate::proofs::ReadAs::with_their_steps, crate::proofs::ReadAs::undrawn_unread, crate::proofs::Told::no_write))]
+#[tactic(auto, using(crate::proofs::ReadAs::with_their_steps, crate::proofs::ReadAs::undrawn_unread))]
 fn draw_plain_steps(
     alloc: Global,
     is_picture: bool,
@@ -170,7 +165,6 @@ fn draw_plain_steps(
         IsDrawn is_picture bytes.now (drawn_text drawing)) }
     ensures replayed { IfOk result IsReplayed }
     ensures fault { IfErr result (IsUndrawn bytes.now) }
-    ensures no_write { IfErr result (λ fault. fault ≢ StepsFault.Job CliFault.Write) }
 {
     if !has_steps(Some(members)) {
         return draw_by_value(alloc, is_picture, bytes);
@@ -180,7 +174,7 @@ fn draw_plain_steps(
 }
 
 /// The run of the scenario that these bytes are.
-#[tactic(auto, using(crate::proofs::ReadAs::drawn_with_steps, crate::proofs::ReadAs::undrawn_with_steps, crate::proofs::Told::no_write))]
+#[tactic(auto, using(crate::proofs::ReadAs::drawn_with_steps, crate::proofs::ReadAs::undrawn_with_steps))]
 fn draw_steps(
     alloc: Global,
     is_picture: bool,
@@ -192,7 +186,6 @@ fn draw_steps(
         IsDrawn is_picture bytes.now (drawn_text drawing)) }
     ensures replayed { IfOk result IsReplayed }
     ensures fault { IfErr result (IsUndrawn bytes.now) }
-    ensures no_write { IfErr result (λ fault. fault ≢ StepsFault.Job CliFault.Write) }
 {
     let drawing = scenario_run(alloc, is_picture, its_scenario)?;
     Ok(drawing)
@@ -205,7 +198,6 @@ fn draw_schedule_first(alloc: Global, is_picture: bool, bytes: &[u8]) -> Result<
         IsDrawn is_picture bytes.now (drawn_text drawing)) }
     ensures replayed { IfOk result IsReplayed }
     ensures fault { IfErr result (IsUndrawn bytes.now) }
-    ensures no_write { IfErr result (λ fault. fault ≢ StepsFault.Job CliFault.Write) }
 {
     match read_plain_job(alloc, bytes, true)? {
         Some((job, members)) => draw_job(alloc, is_picture, bytes, job, &members),
@@ -229,7 +221,6 @@ fn draw_job(
         IsDrawn is_picture bytes.now (drawn_text drawing)) }
     ensures replayed { IfOk result IsReplayed }
     ensures fault { IfErr result (IsUndrawn bytes.now) }
-    ensures no_write { IfErr result (λ fault. fault ≢ StepsFault.Job CliFault.Write) }
 {
     if has_steps(Some(members)) {
         draw_by_value(alloc, is_picture, bytes)
@@ -253,7 +244,6 @@ fn draw_schedule(
         IsDrawn is_picture bytes.now (drawn_text drawing)) }
     ensures replayed { IfOk result IsReplayed }
     ensures fault { IfErr result (λ fault. IsUndrawn bytes.now (StepsFault.Job fault)) }
-    ensures no_write { IfErr result (λ fault. fault ≢ CliFault.Write) }
 {
     let drawing = tree_run(alloc, is_picture, its_job)?;
     Ok(drawing)
@@ -266,7 +256,6 @@ fn draw_by_value(alloc: Global, is_picture: bool, bytes: &[u8]) -> Result<Drawin
         IsDrawn is_picture bytes.now (drawn_text drawing)) }
     ensures replayed { IfOk result IsReplayed }
     ensures fault { IfErr result (IsUndrawn bytes.now) }
-    ensures no_write { IfErr result (λ fault. fault ≢ StepsFault.Job CliFault.Write) }
 {
     let value = read_value(alloc, bytes)?;
     let kind = kind_of(value.as_ref());
@@ -290,7 +279,6 @@ fn draw_by(
         IsDrawnBy is_scenario is_picture bytes.now (drawn_text drawing)) }
     ensures replayed { IfOk result IsReplayed }
     ensures fault { IfErr result (IsUndrawnBy is_scenario bytes.now) }
-    ensures no_write { IfErr result (λ fault. fault ≢ StepsFault.Job CliFault.Write) }
 {
     if is_scenario {
         draw_scenario(alloc, value, is_picture, bytes)
@@ -301,7 +289,7 @@ fn draw_by(
 }
 
 /// The run of the scenario that these bytes are, which have this value.
-#[tactic(auto, using(crate::proofs::Told::unread, crate::proofs::Told::unrun, crate::proofs::Told::no_write))]
+#[tactic(auto, using(crate::proofs::Told::unread, crate::proofs::Told::unrun))]
 fn draw_scenario(
     alloc: Global,
     value: Option<Value>,
@@ -313,7 +301,6 @@ fn draw_scenario(
         IsDrawnScenario is_picture bytes.now (drawn_text drawing)) }
     ensures replayed { IfOk result IsReplayed }
     ensures fault { IfErr result (λ fault. IsUntold bytes.now fault) }
-    ensures no_write { IfErr result (λ fault. fault ≢ StepsFault.Job CliFault.Write) }
 {
     let scenario = scenario_of(alloc, value.as_ref(), bytes)?;
     let drawing = scenario_run(alloc, is_picture, &scenario)?;
@@ -332,8 +319,7 @@ fn draw_kind(
     ensures drawn { IfOk result (λ drawing.
         IsDrawnAs kind is_picture bytes.now (drawn_text drawing)) }
     ensures replayed { IfOk result IsReplayed }
-    ensures fault { IfErr result (IsFault (task_of kind) bytes.now) }
-    ensures no_write { IfErr result (λ fault. fault ≢ CliFault.Write) }
+    ensures fault { IfErr result (IsUnanswered (task_of kind) bytes.now) }
 {
     match kind {
         Kind::LinkJob => draw_link(alloc, value, is_picture, bytes),
@@ -352,8 +338,7 @@ fn draw_link(
     ensures drawn { IfOk result (λ drawing.
         IsDrawnLink is_picture bytes.now (drawn_text drawing)) }
     ensures replayed { IfOk result IsReplayed }
-    ensures fault { IfErr result (IsFault (Link false) bytes.now) }
-    ensures no_write { IfErr result (λ fault. fault ≢ CliFault.Write) }
+    ensures fault { IfErr result (IsUnanswered (Link false) bytes.now) }
 {
     let job = link_job_of(alloc, value, bytes)?;
     draw_link_job(alloc, is_picture, bytes, job)
@@ -370,8 +355,7 @@ fn draw_link_job(
     ensures drawn { IfOk result (λ drawing.
         IsDrawnLink is_picture bytes.now (drawn_text drawing)) }
     ensures replayed { IfOk result IsReplayed }
-    ensures fault { IfErr result (IsFault (Link false) bytes.now) }
-    ensures no_write { IfErr result (λ fault. fault ≢ CliFault.Write) }
+    ensures fault { IfErr result (IsUnanswered (Link false) bytes.now) }
 {
     let drawing = link_run(alloc, is_picture, job)?;
     Ok(drawing)
@@ -388,8 +372,7 @@ fn draw_tree(
     ensures drawn { IfOk result (λ drawing.
         IsDrawnTree is_picture bytes.now (drawn_text drawing)) }
     ensures replayed { IfOk result IsReplayed }
-    ensures fault { IfErr result (IsFault Tree bytes.now) }
-    ensures no_write { IfErr result (λ fault. fault ≢ CliFault.Write) }
+    ensures fault { IfErr result (IsUnanswered Tree bytes.now) }
 {
     let job = job_of(alloc, value.as_ref(), bytes)?;
     let drawing = tree_run(alloc, is_picture, job)?;

@@ -106,7 +106,6 @@ pub(crate) fn unread(fault: ReportFault) -> CheckFault
     ensures fault { (input text : List ℕ) (its_job : JobValue) → IsBegunUnscheduled input its_job
         → (fault ≢ ReportFault.Memory → IsNoText its_job.tree text)
         → IsUncheckedTree input (Some text) result }
-    ensures no_write { result ≢ CheckFault.Job CliFault.Write }
 {
     match fault {
         ReportFault::Line(line) => CheckFault::Line(line),
@@ -119,7 +118,6 @@ pub(crate) fn unread_link(fault: ReportFault) -> CheckFault
     ensures fault { (input text : List ℕ) (its_job : LinkJob) → IsBegunLink input its_job
         → (fault ≢ ReportFault.Memory → IsNoLink text)
         → IsUncheckedLink input (Some text) result }
-    ensures no_write { result ≢ CheckFault.Job CliFault.Write }
 {
     match fault {
         ReportFault::Line(line) => CheckFault::LinkLine(line),

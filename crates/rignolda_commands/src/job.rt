@@ -12,7 +12,7 @@ ghost use Rattle.stab_job.specs.Parts.{SameMembers};
 ghost use Rattle.stab_job.specs.Unscheduled.{IsUnscheduled};
 ghost use Rattle.stab_json.specs.Values.{value_of};
 ghost use Rattle.stab_script.specs.LinkJobs.{link_job};
-ghost use Rattle.stab_task.specs.Answers.{IsFault};
+ghost use Rattle.rignolda_commands.specs.Unanswered.{IsUnanswered};
 ghost use Rattle.stab_treecore.specs.Network.{IsNetwork};
 ghost use Rattle.stab_treecore.specs.Refusals.{IsScheduleReason};
 ghost use Rattle.stab_treecore.specs.declared.event.TreeEvent.{TreeEvent};
@@ -32,8 +32,7 @@ use std::alloc::Global;
 pub(crate) fn begin_job(its_job: &Job, bytes: &[u8]) -> Result<(), CliFault>
     requires { IsUnscheduled (job bytes.now) its_job.now }
     ensures begun { OnOk result (IsBegunUnscheduled bytes.now its_job.now) }
-    ensures fault { IfErr result (IsFault Task.Tree bytes.now) }
-    ensures no_write { IfErr result (λ fault. fault ≢ CliFault.Write) }
+    ensures fault { IfErr result (IsUnanswered Task.Tree bytes.now) }
 {
     begin(its_job)?;
     Ok(())
@@ -88,8 +87,7 @@ pub(crate) fn job_of(alloc: Global, value: Option<&Value>, bytes: &[u8]) -> Resu
 pub(crate) fn begin_link_job(its_job: &LinkJob, bytes: &[u8]) -> Result<(), CliFault>
     requires { link_job bytes.now ≡ Ok its_job.now }
     ensures begun { OnOk result (IsBegunLink bytes.now its_job.now) }
-    ensures fault { IfErr result (IsFault (Task.Link false) bytes.now) }
-    ensures no_write { IfErr result (λ fault. fault ≢ CliFault.Write) }
+    ensures fault { IfErr result (IsUnanswered (Task.Link false) bytes.now) }
 {
     its_job.start.check(its_job.params)?;
     Ok(())

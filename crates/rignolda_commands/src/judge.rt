@@ -7,7 +7,7 @@ ghost use Rattle.rignolda_commands.specs.Judged.{IsJudged, IsUnjudged, IsUnsched
 ghost use Rattle.serde_json.specs.View.{view};
 ghost use Rattle.stab_json.specs.Values.{value_of};
 ghost use Rattle.rignolda_since.specs.Logs.{logs};
-ghost use Rattle.stab_task.specs.Answers.{IsFault};
+ghost use Rattle.rignolda_commands.specs.Unanswered.{IsUnanswered};
 ghost use Rattle.stab_task.specs.declared.command.Task.{Task};
 
 use crate::judge_fault::JudgeFault;
@@ -45,7 +45,6 @@ fn judge_input<R: Read>(alloc: Global, reader: &mut R) -> Result<(String, bool),
         IsJudged input said.1 (string_bytes said.0))) }
     ensures fault { IfErr result (λ fault.
         IfSome (R.remaining reader.old) (λ input. IsUnjudged input fault)) }
-    ensures no_write { IfErr result (λ fault. fault ≢ JudgeFault.Job CliFault.Write) }
 {
     let bytes = load(alloc, reader)?;
     let said = judge_bytes(alloc, &bytes)?;
@@ -57,7 +56,6 @@ fn judge_input<R: Read>(alloc: Global, reader: &mut R) -> Result<(String, bool),
 fn judge_bytes(alloc: Global, bytes: &[u8]) -> Result<(String, bool), JudgeFault>
     ensures judged { IfOk result (λ said. IsJudged bytes.now said.1 (string_bytes said.0)) }
     ensures fault { IfErr result (IsUnjudged bytes.now) }
-    ensures no_write { IfErr result (λ fault. fault ≢ JudgeFault.Job CliFault.Write) }
 {
     let (job, members) = job_of(alloc, bytes)?;
     let logs = logs_of(alloc, &job, &members)?;
@@ -70,8 +68,7 @@ fn job_of(alloc: Global, bytes: &[u8]) -> Result<(Job, Value), CliFault>
     ensures read { IfOk result (λ read. IsUnscheduledJob bytes.now read.0) }
     ensures logs { IfOk result (λ read. logs_in read.0 (value_of bytes.now)
         ≡ logs read.0.tree (length read.0.items) (view read.1)) }
-    ensures fault { IfErr result (IsFault Task.Tree bytes.now) }
-    ensures no_write { IfErr result (λ fault. fault ≢ CliFault.Write) }
+    ensures fault { IfErr result (IsUnanswered Task.Tree bytes.now) }
 {
     let read = read_unscheduled_job(alloc, bytes)?;
     Ok(read)
@@ -87,7 +84,6 @@ fn logs_of(alloc: Global, job: &Job, members: &Value) -> Result<Logs, JudgeFault
         → logs_in job.now (value_of input)
         ≡ logs job.now.tree (length job.now.items) (view members.now)
         → IsUnjudged input fault) }
-    ensures no_write { IfErr result (λ fault. fault ≢ JudgeFault.Job CliFault.Write) }
 {
     match read_logs(alloc, job.tree(), job.items(), members) {
         Ok(logs) => Ok(logs),

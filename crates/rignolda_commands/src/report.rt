@@ -32,7 +32,6 @@ pub(crate) fn check_link_text(
         IsJudgedLink job.now text.now said.1 (string_bytes said.0)) }
     ensures fault { IfErr result (λ fault. (input : List ℕ) → IsBegunLink input job.now
         → IsUncheckedLink input (Some text.now) fault) }
-    ensures no_write { IfErr result (λ fault. fault ≢ CheckFault.Job CliFault.Write) }
 {
     let report = match read_link_report(alloc, text) {
         Ok(report) => report,
@@ -57,7 +56,6 @@ pub(crate) fn check_job(
     ensures checked { IfOk result (λ said. IsJudgedBy (given_backlogs (value_of bytes.now)) job.now
         text.now said.1 (string_bytes said.0)) }
     ensures fault { IfErr result (IsUncheckedTree bytes.now (Some text.now)) }
-    ensures no_write { IfErr result (λ fault. fault ≢ CheckFault.Job CliFault.Write) }
 {
     match members.get("backlogs") {
         None => check_text(alloc, job, text),
@@ -78,7 +76,6 @@ fn check_since(
     ensures checked { IfOk result (λ said. IsJudgedBy (Some (view given.now)) job.now
         text.now said.1 (string_bytes said.0)) }
     ensures fault { IfErr result (IsUncheckedTree bytes.now (Some text.now)) }
-    ensures no_write { IfErr result (λ fault. fault ≢ CheckFault.Job CliFault.Write) }
 {
     let lists = backlogs_of(alloc, job, bytes, given)?;
     let said = check_text_since(alloc, job, lists.as_slice(), text)?;
@@ -99,7 +96,6 @@ fn backlogs_of(
     ensures per_node { IfOk result (λ lists. length lists ≡ length job.now.tree.parents) }
     ensures fault { IfErr result (λ fault. (had : Option (List ℕ))
         → IsUncheckedTree bytes.now had fault) }
-    ensures no_write { IfErr result (λ fault. fault ≢ CheckFault.Job CliFault.Write) }
 {
     match read_backlogs(alloc, job.tree(), given) {
         Ok(lists) => Ok(lists),
@@ -120,7 +116,6 @@ fn check_text_since(
         text.now said.1 (string_bytes said.0)) }
     ensures fault { IfErr result (λ fault. (input : List ℕ) → IsBegunUnscheduled input job.now
         → IsUncheckedTree input (Some text.now) fault) }
-    ensures no_write { IfErr result (λ fault. fault ≢ CheckFault.Job CliFault.Write) }
 {
     let report = match read_text(alloc, job.tree(), text) {
         Ok(report) => report,
@@ -135,7 +130,6 @@ fn check_text(alloc: Global, job: &Job, text: &[u8]) -> Result<(String, bool), C
     ensures checked { IfOk result (λ said. IsJudged job.now text.now said.1 (string_bytes said.0)) }
     ensures fault { IfErr result (λ fault. (input : List ℕ) → IsBegunUnscheduled input job.now
         → IsUncheckedTree input (Some text.now) fault) }
-    ensures no_write { IfErr result (λ fault. fault ≢ CheckFault.Job CliFault.Write) }
 {
     let report = match read_text(alloc, job.tree(), text) {
         Ok(report) => report,

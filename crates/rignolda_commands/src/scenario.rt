@@ -110,7 +110,6 @@ fn told_input<R: Read>(alloc: Global, reader: &mut R) -> Result<String, StepsFau
         IfSome (R.remaining reader.old) (λ input. IsTold input (string_bytes text))) }
     ensures fault { IfErr result (λ fault.
         IfSome (R.remaining reader.old) (λ input. IsUntold input fault)) }
-    ensures no_write { IfErr result (λ fault. fault ≢ StepsFault.Job CliFault.Write) }
 {
     let bytes = load(alloc, reader)?;
     let text = told_bytes(alloc, &bytes)?;
@@ -118,11 +117,10 @@ fn told_input<R: Read>(alloc: Global, reader: &mut R) -> Result<String, StepsFau
 }
 
 /// The text of the scenario that these bytes are.
-#[tactic(auto, using(crate::proofs::Told::unread, crate::proofs::Told::unrun, crate::proofs::Told::no_write))]
+#[tactic(auto, using(crate::proofs::Told::unread, crate::proofs::Told::unrun))]
 fn told_bytes(alloc: Global, bytes: &[u8]) -> Result<String, StepsFault>
     ensures told { IfOk result (λ text. IsTold bytes.now (string_bytes text)) }
     ensures fault { IfErr result (λ fault. IsUntold bytes.now fault) }
-    ensures no_write { IfErr result (λ fault. fault ≢ StepsFault.Job CliFault.Write) }
 {
     let scenario = read_scenario(alloc, bytes)?;
     let text = scenario_text(alloc, &scenario)?;
