@@ -33,3 +33,8 @@ one_joined word (x ∷ xs) (suc i) =
 pub next_joined : {X : Type 0} (word : X → List ℕ) (xs : List X) (i : ℕ)
     → joined word (take (i + 1) xs) ≡ joined word (take i xs) ++ flat_map (λ x. comma_before i ++ word x) (option_to_list (slice_get xs i))
 next_joined word xs i = rw add-one (one_joined word xs i)
+
+-- entries one after the other, as a loop counts
+pub next_entry : {X A : Type 0} (f : X → List A) (xs : List X) (i : ℕ)
+    → flat_map f (take (i + 1) xs) ≡ flat_map f (take i xs) ++ flat_map f (option_to_list (slice_get xs i))
+next_entry f xs i = rw add-one (one_more f xs i)

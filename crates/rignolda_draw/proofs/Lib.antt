@@ -2,3 +2,4 @@ pub mod Joined
 pub mod Going
 pub mod ForCallers
 mod Played
+mod Following

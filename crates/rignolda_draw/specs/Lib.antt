@@ -1,4 +1,5 @@
 pub mod Words
+pub mod Kept
 pub mod Runs
 pub mod Schedules
 pub mod Rows

@@ -2,14 +2,17 @@
 
 ghost use Rattle.std.specs.Prelude.{◌≡◌, ◌++◌, ◌-◌, ◌≤◌, codes, decimal, length, replicate};
 ghost use Rattle.std.specs.Prelude.{[], slice_get, slice_index_or, string_bytes, OnOk};
+ghost use Rattle.rignolda_draw.specs.Kept.{IsKept, Shows};
 ghost use Rattle.rignolda_draw.specs.Runs.{state_cells};
 ghost use Rattle.rignolda_draw.specs.Schedules.{act_word, name_cell};
 ghost use Rattle.rignolda_draw.specs.Words.{cell, effect_word, event_word, frame_word, item_word};
 ghost use Rattle.rignolda_draw.specs.Words.{queue_word};
 
+use crate::entry::Entry;
+use crate::queues::{Queues, push_kept};
 use crate::words::{push_acks, push_decimal, push_event, push_frames, push_item};
 use stab_core::{Effect, Event, Link};
-use stab_frames::Item;
+use stab_frames::{Frame, Item, Label};
 use stab_tree::{NodeId, Tree};
 use std::alloc::AllocError;
 
@@ -23,11 +26,69 @@ pub fn push_state_cells(
     ensures { OnOk result (string_bytes text.new ≡ string_bytes text.old
         ++ state_cells link.now.state delivered) }
 {
-    push_number_cell(text, u64::from(link.send_label()))?;
-    push_item_cell(text, held(link))?;
-    push_number_cell(text, link.acked())?;
+    push_sender_cells(text, link)?;
     push_frames_cell(text, link)?;
     push_acks_cell(text, link)?;
+    push_receiver_cells(text, link, delivered)
+}
+
+/// Adds the same, where the text of the queues was kept.
+#[tactic(auto, unfolding(crate::specs::Runs::state_cells))]
+pub(crate) fn push_kept_cells(
+    text: &mut String,
+    link: &Link,
+    queues: &Queues,
+    delivered: Option<Item>,
+) -> Result<(), AllocError>
+    requires { Shows queues.now link.now.state }
+    ensures { OnOk result (string_bytes text.new ≡ string_bytes text.old
+        ++ state_cells link.now.state delivered) }
+{
+    push_sender_cells(text, link)?;
+    push_kept_cell::<Frame>(text, queues.frames.as_str(), link, 11)?;
+    push_kept_cell::<Label>(text, queues.acks.as_str(), link, 7)?;
+    push_receiver_cells(text, link, delivered)
+}
+
+/// Adds a queue in a column of this width, from the text that was kept.
+#[tactic(auto, unfolding(crate::specs::Words::cell))]
+fn push_kept_cell<E: Entry>(
+    text: &mut String,
+    kept: &str,
+    link: &Link,
+    width: usize,
+) -> Result<(), AllocError>
+    requires kept { IsKept E.word (E.queue link.now) kept.now }
+    requires narrow { width ≤ 19 }
+    ensures { OnOk result (string_bytes text.new ≡ string_bytes text.old
+        ++ cell width (queue_word E.word (E.queue link.now))) }
+{
+    let from = text.len();
+    push_kept::<E>(text, kept, link)?;
+    pad(text, from, width)
+}
+
+/// Adds the sender's label, the item that it holds, and how many items are acknowledged.
+fn push_sender_cells(text: &mut String, link: &Link) -> Result<(), AllocError>
+    ensures { OnOk result (string_bytes text.new ≡ string_bytes text.old
+        ++ cell 5 (decimal link.now.state.send_label)
+        ++ cell 5 (item_word (slice_get link.now.state.offered link.now.state.acked))
+        ++ cell 5 (decimal link.now.state.acked)) }
+{
+    push_number_cell(text, u64::from(link.send_label()))?;
+    push_item_cell(text, held(link))?;
+    push_number_cell(text, link.acked())
+}
+
+/// Adds the label that the receiver remembers, and what it delivered, at the end of a line.
+fn push_receiver_cells(
+    text: &mut String,
+    link: &Link,
+    delivered: Option<Item>,
+) -> Result<(), AllocError>
+    ensures { OnOk result (string_bytes text.new ≡ string_bytes text.old
+        ++ cell 9 (decimal link.now.state.recv_label) ++ item_word delivered ++ codes "\n") }
+{
     push_recv_label_cell(text, link)?;
     push_item(text, delivered)?;
     text.push('\n')

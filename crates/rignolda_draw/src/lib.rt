@@ -11,10 +11,12 @@
 
 mod act_rows;
 mod cells;
+mod entry;
 mod faults;
 mod lines;
 mod next;
 mod output;
+mod queues;
 mod rounds;
 mod row;
 mod rows;

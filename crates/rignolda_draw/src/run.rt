@@ -3,12 +3,14 @@ ghost use Rattle.std.specs.Io.KnownBytes.{Keeps};
 ghost use Rattle.stab_core.specs.Link.{link_at};
 ghost use Rattle.stab_core.specs.Replay.{IsLawful, initial};
 ghost use Rattle.stab_core.specs.Step.{step};
+ghost use Rattle.rignolda_draw.specs.Kept.{Shows};
 ghost use Rattle.rignolda_draw.specs.Written.{Begun, Written};
 ghost use Rattle.rignolda_draw.specs.Runs.{event_line, event_lines, head, run_text, start_line};
 ghost use Rattle.rignolda_draw.specs.Runs.{state_cells};
 
-use crate::cells::{push_effect_cell, push_event_cell, push_state_cells};
+use crate::cells::{push_effect_cell, push_event_cell, push_kept_cells, push_state_cells};
 use crate::output::{OutputFault, write_block};
+use crate::queues::Queues;
 use crate::words::delivered_by;
 use stab_core::{Event, Link, StartFault};
 use stab_script::LinkJob;
@@ -37,7 +39,9 @@ pub fn write_run<W: Write>(
 {
     let mut link = begun(alloc, job)?;
     let mut text = first_lines(alloc, &link)?;
-    write_event_lines(writer, &mut text, &mut link, job.events.as_slice())?;
+    let mut queues = Queues::new(alloc, &link)?;
+    let events = job.events.as_slice();
+    write_event_lines(writer, &mut text, &mut link, &mut queues, events)?;
     Ok(text)
 }
 
@@ -70,8 +74,10 @@ fn write_event_lines<W: Write>(
     writer: &mut W,
     text: &mut String,
     link: &mut Link,
+    queues: &mut Queues,
     events: &[Event],
 ) -> Result<(), OutputFault>
+    requires { Shows queues.old link.old.state }
     ensures lines { OnOk result (Written (W.contents writer.old) (W.contents writer.new)
         (string_bytes text.new)
         (string_bytes text.old ++ event_lines link.old.params link.old.state events.now)) }
@@ -80,7 +86,7 @@ fn write_event_lines<W: Write>(
         (string_bytes text.old ++ event_lines link.old.params link.old.state events.now)) }
 {
     for event in events {
-        write_event_line(writer, text, link, *event)?;
+        write_event_line(writer, text, link, queues, *event)?;
     }
     Ok(())
 }
@@ -91,17 +97,20 @@ fn write_event_line<W: Write>(
     writer: &mut W,
     text: &mut String,
     link: &mut Link,
+    queues: &mut Queues,
     event: Event,
 ) -> Result<(), OutputFault>
+    requires { Shows queues.old link.old.state }
     ensures line { OnOk result (Written (W.contents writer.old) (W.contents writer.new)
         (string_bytes text.new)
         (string_bytes text.old ++ event_line event link.old.params link.old.state)) }
     ensures steps { OnOk result (link.new
         ≡ link_at link.old.params (step link.old.params link.old.state event)) }
+    ensures shows { OnOk result (Shows queues.new link.new.state) }
     ensures unwritten { IfErr result (λ fault. fault ≢ OutputFault.Write
         → Keeps (W.contents writer.old) (W.contents writer.new)) }
 {
-    push_event_line(text, link, event)?;
+    push_event_line(text, link, queues, event)?;
     write_block(writer, text)
 }
 
@@ -117,14 +126,21 @@ pub fn push_start_line(text: &mut String, link: &Link) -> Result<(), AllocError>
 
 /// Takes a step, and adds its line.
 #[tactic(auto, unfolding(crate::specs::Runs::event_line))]
-fn push_event_line(text: &mut String, link: &mut Link, event: Event) -> Result<(), AllocError>
+fn push_event_line(
+    text: &mut String,
+    link: &mut Link,
+    queues: &mut Queues,
+    event: Event,
+) -> Result<(), AllocError>
+    requires { Shows queues.old link.old.state }
     ensures line { OnOk result (string_bytes text.new ≡ string_bytes text.old
         ++ event_line event link.old.params link.old.state) }
     ensures steps { OnOk result (link.new
         ≡ link_at link.old.params (step link.old.params link.old.state event)) }
+    ensures shows { OnOk result (Shows queues.new link.new.state) }
 {
-    let effect = link.apply(event)?;
+    let effect = queues.step(link, event)?;
     push_event_cell(text, event)?;
     push_effect_cell(text, effect)?;
-    push_state_cells(text, link, delivered_by(effect))
+    push_kept_cells(text, link, queues, delivered_by(effect))
 }

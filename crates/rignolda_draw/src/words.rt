@@ -1,7 +1,7 @@
 //! The words of a drawn run.
 
-ghost use Rattle.std.specs.Prelude.{◌≡◌, ◌++◌, decimal};
-ghost use Rattle.std.specs.Prelude.{option_to_list, string_bytes, OnOk};
+ghost use Rattle.std.specs.Prelude.{◌≡◌, ◌≤◌, ◌++◌, decimal, length};
+ghost use Rattle.std.specs.Prelude.{option_to_list, string_bytes, IsAscii, OnOk};
 ghost use Rattle.std.specs.List.{flat_map};
 ghost use Rattle.rignolda_draw.specs.Words.{comma_before, delivered_by, effect_word, event_word};
 ghost use Rattle.rignolda_draw.specs.Words.{frame_word, item_word, queue_word};
@@ -13,10 +13,21 @@ use std::alloc::AllocError;
 
 /// Adds a number.
 pub(crate) fn push_decimal(text: &mut String, number: u64) -> Result<(), AllocError>
-    ensures { OnOk result (string_bytes text.new ≡ string_bytes text.old ++ decimal number) }
+    ensures number { OnOk result
+        (string_bytes text.new ≡ string_bytes text.old ++ decimal number) }
+    ensures ascii { IsAscii (decimal number) }
 {
     let mut buffer = Buffer::new();
     text.push_str(buffer.format(number))
+}
+
+/// How many digits a number has.
+pub(crate) fn decimal_len(number: u64) -> usize
+    ensures len { result ≡ length (decimal number) }
+    ensures short { result ≤ 40 }
+{
+    let mut buffer = Buffer::new();
+    buffer.format(number).len()
 }
 
 /// Adds a number between these words.

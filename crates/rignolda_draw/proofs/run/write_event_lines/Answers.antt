@@ -26,9 +26,10 @@ loop-event-preserved g c =
     let all = string_bytes c.args.text.now ++ event_lines c.args.link.now.params c.args.link.now.state events in
     let stepped : c.write_event_line.new.link ≡ link_at p (step p s e) = c.in_ok-write_event_line.ensures.steps in (
       ap (λ (l : LinkValue). l.params) stepped ∙ c.loop-event.invariant.0,
+      c.in_ok-write_event_line.ensures.shows,
       subst (λ (l : LinkValue). Written before after (kept ++ event_lines l.params l.state rest) all) (sym stepped)
           (one_more before so_far after text (event_line e p s) (event_lines p (step p s e) rest) kept all
           (subst (λ (es : List Event). Written before so_far (text ++ event_lines p s es) all)
-          (drop_more events i (Offer 0) c.loop-event-test.true) c.loop-event.invariant.1)
+          (drop_more events i (Offer 0) c.loop-event-test.true) c.loop-event.invariant.2)
           c.in_ok-write_event_line.ensures.line),
     )
