@@ -1,6 +1,7 @@
 pub mod Entries
 pub mod Stepwise
 pub mod Unscheduled
+pub mod Faults
 pub mod Counting
 pub mod Spared
 pub mod Reading

@@ -2,7 +2,7 @@
 -- Example: In the chain r, a, b let step 3 be a strike at the link into a, and step 5 the restart
 -- of b. The last fault of a is step 3, that of b is step 5, and that of r is 0: none hits it.
 -- Source: this project's own.
-use Rattle.std.specs.Prelude.{ℕ, zero, suc, ◌+◌, ◌==◌, List, [], ◌∷◌, Bool, true, false}
+use Rattle.std.specs.Prelude.{◌≡◌, ℕ, zero, suc, ◌+◌, ◌==◌, List, [], ◌∷◌, take, Bool, true, false}
 use Rattle.std.specs.Prelude.{if◌then◌else◌, Option}
 use Rattle.std.specs.Option.{option_map_or}
 use Rattle.stab_tree.specs.Nodes.{parent_at}
@@ -22,6 +22,12 @@ is_within parents (suc count) other at =
 abbrev pub is_on_path : List (Option ℕ) → ℕ → ℕ → Bool
 is_on_path parents node other = is_within parents (depth_of parents node) other node
 
+-- a step is a fault, whichever node it hits
+abbrev pub is_fault : Step → Bool
+is_fault (One (Strike child start)) = true
+is_fault (One (Restart other list)) = true
+is_fault _ = false
+
 -- a step is a fault that hits a node
 abbrev pub hits : List (Option ℕ) → ℕ → Step → Bool
 hits parents node (One (Strike child start)) = is_on_path parents node child
@@ -38,3 +44,8 @@ last_after parents node count last (step ∷ steps) =
 -- the last step that hits a node, and 0 where none does
 abbrev pub last_fault : List (Option ℕ) → ℕ → List Step → ℕ
 last_fault parents node steps = last_after parents node 0 0 steps
+
+-- the last step that hits a node is among the first `count`, whichever node it is
+abbrev pub AreFaultsWithin : ℕ → List Step → Type 0
+AreFaultsWithin count steps = (parents : List (Option ℕ)) (node : ℕ)
+    → last_fault parents node (take count steps) ≡ last_fault parents node steps

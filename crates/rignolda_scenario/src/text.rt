@@ -8,7 +8,7 @@ ghost use Rattle.stab_job.specs.JobValues.{network};
 ghost use Rattle.stab_tree.specs.Steps.{depth_of};
 ghost use Rattle.stab_treecore.specs.NodeLaws.{capacity_into};
 ghost use Rattle.rignolda_scenario.specs.Counts.{IsUnrun, counted_over, state_after};
-ghost use Rattle.rignolda_scenario.specs.LastFault.{last_fault};
+ghost use Rattle.rignolda_scenario.specs.LastFault.{AreFaultsWithin, last_fault};
 ghost use Rattle.rignolda_scenario.specs.NodeCounts.{counted_of};
 ghost use Rattle.rignolda_scenario.specs.Texts.{bounds_words, lines_of, node_text, root_text};
 ghost use Rattle.rignolda_scenario.specs.Texts.{scenario_text};
@@ -16,7 +16,7 @@ ghost use Rattle.rignolda_scenario.specs.Texts.{scenario_text};
 use crate::changes::listed_changes;
 use crate::count::{gained_since, old_backlogs, published_since};
 use crate::fault::ScenarioFault;
-use crate::hits::last_fault;
+use crate::hits::{end_of_faults, last_fault};
 use crate::read::Scenario;
 use crate::step::Step;
 use stab_core::{push_items_line, push_number};
@@ -27,11 +27,12 @@ use stab_tree::NodeId;
 use stab_treecore::{TreeState, run_changes};
 use std::alloc::{AllocError, Global};
 
-/// Steps of a job, and the tree after them.
+/// Steps of a job, how many there are up to the last fault, and the tree after them.
 #[derive(Clone, Copy)]
 struct Played<'s> {
     job: &'s Job,
     steps: &'s [Step],
+    faults: usize,
     end: &'s TreeState,
 }
 
@@ -191,6 +192,18 @@ fn push_counted(
     push_lines(text, tree.name(node), count)
 }
 
+/// The number of the last step that hits a node, and 0 where none does, where no step after the
+/// first `faults` is a fault.
+fn last_fault_within(job: &Job, steps: &[Step], faults: usize, node: NodeId) -> usize
+    requires faults { AreFaultsWithin faults steps.now }
+    requires few { faults ≤ length steps.now }
+    requires known { node < length job.now.tree.parents }
+    ensures last { result ≡ last_fault job.now.tree.parents node steps.now }
+    ensures within { result ≤ length steps.now }
+{
+    last_fault(job.tree(), node, &steps[..faults])
+}
+
 /// Adds the lines of a node of a scenario that was played.
 #[tactic(auto, using(crate::proofs::Refused::unrun_front))]
 fn push_node(
@@ -201,14 +214,21 @@ fn push_node(
 ) -> Result<(), ScenarioFault>
     requires after { played.end.now ≡ state_after played.job.now played.steps.now }
     requires same_end { played.end.now.parents ≡ played.job.now.tree.parents }
+    requires faults { AreFaultsWithin played.faults played.steps.now }
+    requires few { played.faults ≤ length played.steps.now }
     requires known { node < length played.job.now.tree.parents }
     ensures lines { OnOk result (string_bytes text.new
         ≡ string_bytes text.old ++ lines_of played.entry.job.now played.entry.steps.now node) }
     ensures refused { IfErr result (IsUnrun played.entry.job.now played.entry.steps.now) }
 {
-    let Played { job, steps, end } = played;
+    let Played {
+        job,
+        steps,
+        faults,
+        end,
+    } = played;
     let tree = job.tree();
-    let step = last_fault(tree, node, steps);
+    let step = last_fault_within(job, steps, faults, node);
     if tree.depth(node) == 0 {
         push_root(text, tree.name(node), step, end.received(node))?;
         return Ok(());
@@ -236,6 +256,7 @@ pub fn scenario_text(alloc: Global, scenario: &Scenario) -> Result<String, Scena
     let played = Played {
         job,
         steps,
+        faults: end_of_faults(steps),
         end: &end,
     };
     let mut text = String::new(alloc);
