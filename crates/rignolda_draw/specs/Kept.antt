@@ -49,7 +49,8 @@ before_of link e =
 -- this was the text of a queue that has these entries after an event, and before it had this many,
 -- and this one in front: it has as many and is the same, it has one more at the back, or its front
 -- was received, unless an entry was lost
-pub record Follows {X : Type 0} (word : X → List ℕ) (count : ℕ) (front : Option X) (lost : Bool) (entries : List X) (text : List ℕ) : Type 0 where
+pub record Follows {X : Type 0} (word : X → List ℕ) (count : ℕ) (front : Option X) (lost : Bool)
+    (entries : List X) (text : List ℕ) : Type 0 where
   pub ascii : IsAscii text
   pub same : length entries ≡ count → text ≡ after_commas word entries
   pub grown : count < length entries → after_commas word entries
