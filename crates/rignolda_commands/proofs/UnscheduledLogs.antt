@@ -1,5 +1,6 @@
 -- What is said of a job that was read without the steps of its schedule is said of the whole job.
-use Rattle.std.proofs.Common.{◌≡◌, ◌↔◌, ℕ, Bool, List, IsTrue, Ok, Err, sym, ap, ◌∙◌, subst}
+use Rattle.std.proofs.Common.{◌≡◌, ◌↔◌, ℕ, Bool, List, IsTrue, Some, Ok, Err, sym, ap, ◌∙◌, subst}
+use Rattle.serde_json.specs.Data.{Data}
 use Rattle.stab_job.specs.JobValues.{JobValue, network}
 use Rattle.stab_json.specs.Values.{value_of}
 use Rattle.rignolda_since.specs.Logs.{LogsValue}
@@ -22,5 +23,6 @@ judged_by_whole input its_job its_logs obeys answer (whole, read, same) has exac
 }
 
 -- logs of it that are refused
-pub refused_logs : (input : List ℕ) (its_job : JobValue) (refusal : LogsFault) → IsUnscheduledJob input its_job → logs_in its_job (value_of input) ≡ Err refusal → IsUnjudged input (Logs refusal)
-refused_logs input its_job refusal (whole, read, same) why = (whole, read, ap (λ j. logs_in j (value_of input)) (sym same) ∙ why)
+pub refused_logs : (input : List ℕ) (d : Data) (its_job : JobValue) (refusal : LogsFault) → IsUnscheduledJob input its_job → value_of input ≡ Some d → logs_in its_job (Some d) ≡ Err refusal
+    → IsUnjudged input (Logs refusal)
+refused_logs input d its_job refusal (whole, read, same) is why = (whole, read, ap (λ j. logs_in j (value_of input)) (sym same) ∙ ap (logs_in its_job) is ∙ why)

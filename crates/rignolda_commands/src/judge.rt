@@ -1,19 +1,21 @@
 //! The command `judge`: whether logs obey the laws since a moment of which nobody knows more.
 
 ghost use Rattle.std.specs.Prelude.{◌≡◌, ◌≢◌, ℕ, List, string_bytes, Ok, IfErr, IfOk, IfSome, OnOk};
-ghost use Rattle.std.specs.Prelude.{length};
+ghost use Rattle.std.specs.Prelude.{Some, length};
 ghost use Rattle.std.specs.Io.KnownBytes.{Appends, Keeps};
 ghost use Rattle.rignolda_commands.specs.Judged.{IsJudged, IsUnjudged, IsUnscheduledJob, logs_in};
+ghost use Rattle.serde_json.specs.Data.{Data};
 ghost use Rattle.serde_json.specs.View.{view};
 ghost use Rattle.stab_json.specs.Values.{value_of};
-ghost use Rattle.rignolda_since.specs.Logs.{logs};
+ghost use Rattle.rignolda_since.specs.Logs.{HasLogs};
 ghost use Rattle.rignolda_commands.specs.Unanswered.{IsUnanswered};
 ghost use Rattle.stab_task.specs.declared.command.Task.{Task};
 
 use crate::judge_fault::JudgeFault;
-use rignolda_since::{Logs, LogsFault, read_logs, verdict_of_logs};
+use rignolda_since::{Logs, LogsFault, Received, read_logs, verdict_of_logs};
 use serde_json::Value;
-use stab_job::{Job, read_unscheduled_job};
+use stab_frames::{Item, Sequence};
+use stab_job::{Job, read_unscheduled_job_beside};
 use stab_task::{CliFault, load, write_text};
 use std::alloc::Global;
 use std::io::{Read, Write};
@@ -57,35 +59,43 @@ fn judge_bytes(alloc: Global, bytes: &[u8]) -> Result<(String, bool), JudgeFault
     ensures judged { IfOk result (λ said. IsJudged bytes.now said.1 (string_bytes said.0)) }
     ensures fault { IfErr result (IsUnjudged bytes.now) }
 {
-    let (job, members) = job_of(alloc, bytes)?;
-    let logs = logs_of(alloc, &job, &members)?;
+    let (job, members, received) = job_of(alloc, bytes)?;
+    let logs = logs_of(alloc, &job, &members, received)?;
     let said = verdict_of_logs(alloc, &job, &logs)?;
     Ok(said)
 }
 
-/// The job that these bytes are, with an empty schedule, and a value that has their logs.
-fn job_of(alloc: Global, bytes: &[u8]) -> Result<(Job, Value), CliFault>
+/// The job that these bytes are, with an empty schedule, a value that has their other members, and
+/// the lists of their logs where they were read.
+fn job_of(
+    alloc: Global,
+    bytes: &[u8],
+) -> Result<(Job, Value, Option<Sequence<Sequence<Item>>>), CliFault>
     ensures read { IfOk result (λ read. IsUnscheduledJob bytes.now read.0) }
-    ensures logs { IfOk result (λ read. logs_in read.0 (value_of bytes.now)
-        ≡ logs read.0.tree (length read.0.items) (view read.1)) }
+    ensures logs { IfOk result (λ read. (d : Data)
+        × (value_of bytes.now ≡ Some d) × HasLogs d (view read.1) read.2) }
     ensures fault { IfErr result (IsUnanswered Task.Tree bytes.now) }
 {
-    let read = read_unscheduled_job(alloc, bytes)?;
+    let read = read_unscheduled_job_beside::<Received>(alloc, bytes)?;
     Ok(read)
 }
 
-/// The logs that this value has for the nodes of a job.
+/// The logs of the nodes of a job.
 #[tactic(auto, using(crate::proofs::UnscheduledLogs::refused_logs))]
-fn logs_of(alloc: Global, job: &Job, members: &Value) -> Result<Logs, JudgeFault>
-    ensures has { IfOk result (λ its.
-        logs job.now.tree (length job.now.items) (view members.now) ≡ Ok its) }
+fn logs_of(
+    alloc: Global,
+    job: &Job,
+    members: &Value,
+    received: Option<Sequence<Sequence<Item>>>,
+) -> Result<Logs, JudgeFault>
+    ensures has { IfOk result (λ its. (d : Data) → HasLogs d (view members.now) received
+        → logs_in job.now (Some d) ≡ Ok its) }
     ensures per_node { IfOk result (λ its. length its.received ≡ length job.now.tree.parents) }
-    ensures fault { IfErr result (λ fault. (input : List ℕ) → IsUnscheduledJob input job.now
-        → logs_in job.now (value_of input)
-        ≡ logs job.now.tree (length job.now.items) (view members.now)
-        → IsUnjudged input fault) }
+    ensures fault { IfErr result (λ fault. (input : List ℕ) (d : Data)
+        → IsUnscheduledJob input job.now → value_of input ≡ Some d
+        → HasLogs d (view members.now) received → IsUnjudged input fault) }
 {
-    match read_logs(alloc, job.tree(), job.items(), members) {
+    match read_logs(alloc, job.tree(), job.items(), members, received) {
         Ok(logs) => Ok(logs),
         Err(LogsFault::Memory) => Err(JudgeFault::Job(CliFault::Memory)),
         Err(fault) => Err(JudgeFault::Logs(fault)),

@@ -2,3 +2,4 @@ mod Enough
 mod Parts
 mod AnyGarbage
 mod Runs
+mod Lists

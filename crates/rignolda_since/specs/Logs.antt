@@ -13,6 +13,7 @@ use Rattle.serde_json.specs.Data.{Data}
 use Rattle.serde_json.specs.Find.{get}
 use Rattle.stab_json.specs.Checks.{◌>>=◌, ◌or◌}
 use Rattle.stab_json.specs.Values.{item_number, list_of, list_or_absent}
+use Rattle.stab_job.specs.Parts.{SameBeside}
 use Rattle.stab_tree.specs.Nodes.{Nodes}
 use Rattle.rignolda_since.specs.declared.logs.LogsFault.{LogsFault}
 use Rattle.rignolda_since.specs.declared.logs.LogsFault.TheVariants as fault
@@ -30,9 +31,16 @@ received_at logs node = slice_index_or logs.received node []
 abbrev pub from_at : LogsValue → ℕ → ℕ
 from_at logs node = slice_index_or logs.from node 0
 
+-- the member with the lists, and what it means
+abbrev pub the_lists : List ℕ
+the_lists = codes "received"
+
+abbrev pub received_meaning : Data → Option (List (List ℕ))
+received_meaning = list_of (list_of item_number)
+
 -- the lists and the places that a value has, and whether it has a member with places
 abbrev pub received_of : Data → Option (List (List ℕ))
-received_of d = option_and_then (list_of (list_of item_number)) (get (codes "received") d)
+received_of d = option_and_then received_meaning (get the_lists d)
 
 abbrev pub from_of : Data → Option (List ℕ)
 from_of d = list_or_absent item_number (get (codes "from") d)
@@ -56,3 +64,7 @@ logs t count d = do
   received ← received_of d or fault.Shape
   from ← from_of d or fault.Shape
   fitting t count (has_places d) (record { received = received; from = from })
+
+-- a value has the members of a job, but for the lists where they were read
+abbrev pub HasLogs : Data → Data → Option (List (List ℕ)) → Type 0
+HasLogs d others received = SameBeside the_lists received_meaning d others received

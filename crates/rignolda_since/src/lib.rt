@@ -8,7 +8,7 @@
 //!
 //! Of the logs of real agents nobody knows what was there at that moment. Their job says which tree
 //! there is, what the links and nodes may hold, and what was published; its members `received` and
-//! `from` are the logs. [`read_logs`] reads them, and [`verdict_of_logs`] answers true exactly where
+//! `from` are the logs. [`read_logs`] reads them, [`Received`] the lists off the text already, and [`verdict_of_logs`] answers true exactly where
 //! each node received what the laws allow under some start, and names what is broken first. Every
 //! run since a fault has logs that obey ([`log_laws::runs_since_a_fault_obey`]).
 #![tactic(auto)]
@@ -29,6 +29,6 @@ mod verdict;
 pub use backlogs::{BacklogFault, read_backlogs};
 pub use broken::BrokenSince;
 pub use broken_log::BrokenLog;
-pub use logs::{Logs, LogsFault, read_logs};
+pub use logs::{Logs, LogsFault, Received, read_logs};
 pub use logs_verdict::verdict_of_logs;
 pub use verdict::verdict_since;

@@ -3,14 +3,19 @@
 ghost use Rattle.std.specs.List.{list_all};
 ghost use Rattle.std.specs.Prelude.{◌≡◌, ◌≢◌, ◌<◌, MatchResult, Ok, Err, IfOk, length, nat_le};
 ghost use Rattle.std.specs.Prelude.{option_map};
+ghost use Rattle.serde_json.specs.Data.{Data};
 ghost use Rattle.serde_json.specs.View.{view};
+ghost use Rattle.stab_job.specs.Parts.{SameBeside};
 ghost use Rattle.stab_json.specs.Values.{item_number, list_of};
-ghost use Rattle.rignolda_since.specs.Logs.{fitting, from_at, from_of, has_places, logs};
-ghost use Rattle.rignolda_since.specs.Logs.{received_at, received_of};
+ghost use Rattle.rignolda_since.specs.Logs.{HasLogs, fitting, from_at, from_of, has_places, logs};
+ghost use Rattle.rignolda_since.specs.Logs.{received_at, received_of, received_meaning, the_lists};
 
+use json::Reader;
 use serde_json::Value;
 use stab_frames::{Item, Sequence};
+use stab_job::Beside;
 use stab_json::{Entry, read_list};
+use stab_script::next_item_lists;
 use stab_tree::{NodeId, Tree};
 use std::alloc::{AllocError, Global};
 use std::marker::Model;
@@ -52,7 +57,7 @@ impl From<AllocError> for LogsFault {
 #[derive(Debug)]
 pub struct Logs {
     /// The items of each node, in the order in which it received them.
-    received: Vec<Sequence<Item>>,
+    received: Sequence<Sequence<Item>>,
     /// Where in the published items the count of each node begins; where there are no places, each
     /// begins with the first item.
     from: Vec<u32>,
@@ -73,7 +78,7 @@ impl Model for Logs {
     ghost Value = { LogsValue };
 
     ghost view = { λ l. record {
-      received = l.received.items;
+      received = l.received;
       from = l.from.items;
     } };
 }
@@ -84,7 +89,7 @@ impl Logs {
         requires { node < length self.now.received }
         ensures { result.now ≡ received_at self.now node }
     {
-        self.received[node.index()].as_slice()
+        self.received.as_slice()[node.index()].as_slice()
     }
 
     /// Where in the published items the count of a node begins.
@@ -114,21 +119,45 @@ impl<'v> Entry<'v> for ListEntry {
     }
 }
 
-/// The logs of the nodes of a tree that a value has, where these items are published, or the first
-/// check that it fails.
+/// The lists of the member `received`, read off the tokens of a job.
+pub enum Received {}
+
+impl Beside for Received {
+    type Read = Sequence<Sequence<Item>>;
+
+    ghost its_name = { the_lists };
+
+    ghost meaning = { received_meaning };
+
+    fn is_named(name: &str) -> bool {
+        name == "received"
+    }
+
+    fn next(
+        alloc: Global,
+        reader: &mut Reader<'_>,
+    ) -> Result<Option<Sequence<Sequence<Item>>>, AllocError> {
+        let lists = next_item_lists(alloc, reader)?;
+        Ok(lists)
+    }
+}
+
+/// The logs of the nodes of a tree that a job has, where these items are published, or the first
+/// check that they fail. The value has the members of the job, but for `received` where its lists
+/// were read.
 pub fn read_logs(
     alloc: Global,
     tree: &Tree,
     items: &[Item],
     value: &Value,
+    received: Option<Sequence<Sequence<Item>>>,
 ) -> Result<Logs, LogsFault>
-    ensures logs { MatchResult result
-        (λ its. logs tree.now (length items.now) (view value.now) ≡ Ok its)
-        (λ fault. fault ≢ LogsFault.Memory
-        → logs tree.now (length items.now) (view value.now) ≡ Err fault) }
+    ensures logs { (d : Data) → HasLogs d (view value.now) received → MatchResult result
+        (λ its. logs tree.now (length items.now) d ≡ Ok its)
+        (λ fault. fault ≢ LogsFault.Memory → logs tree.now (length items.now) d ≡ Err fault) }
     ensures per_node { IfOk result (λ its. length its.received ≡ length tree.now.parents) }
 {
-    let Some(received) = received_of(alloc, value)? else {
+    let Some(received) = received_of(alloc, value, received)? else {
         return Err(LogsFault::Shape);
     };
     let Some(from) = from_of(alloc, value)? else {
@@ -142,14 +171,24 @@ pub fn read_logs(
     )
 }
 
-/// The lists that a value has.
-fn received_of(alloc: Global, value: &Value) -> Result<Option<Vec<Sequence<Item>>>, AllocError>
-    ensures { IfOk result (λ lists. option_map (λ its. its.items) lists
-        ≡ received_of (view value.now)) }
+/// The lists that a job has.
+fn received_of(
+    alloc: Global,
+    value: &Value,
+    received: Option<Sequence<Sequence<Item>>>,
+) -> Result<Option<Sequence<Sequence<Item>>>, AllocError>
+    ensures { IfOk result (λ lists. (d : Data) → HasLogs d (view value.now) received
+        → lists ≡ received_of d) }
 {
+    if received.is_some() {
+        return Ok(received);
+    }
     match value.get("received") {
         None => Ok(None),
-        Some(given) => read_list::<ListEntry>(alloc, Some(given)),
+        Some(given) => match read_list::<ListEntry>(alloc, Some(given))? {
+            Some(lists) => Ok(Some(Sequence::from_vec(lists))),
+            None => Ok(None),
+        },
     }
 }
 

@@ -11,6 +11,7 @@ use Rattle.stab_script.specs.LinkJobs.{most_events}
 use Rattle.stab_tree.specs.Nodes.{Nodes}
 use Rattle.stab_tree.specs.Read.{tree_of}
 use Rattle.stab_treecore.specs.declared.event.TreeEvent.{TreeEvent}
+use Rattle.stab_job.specs.declared.fault.JobFault.{JobFault}
 use Rattle.stab_job.specs.declared.fault.JobFault.TheVariants as fault
 use Rattle.stab_job.specs.JobLinks.{are_miscounted, scripts_of, starts_of}
 use Rattle.stab_job.specs.JobMembers.{Members, members, entries_of}
@@ -19,7 +20,9 @@ use Rattle.stab_job.specs.JobValues.{JobValue, links, most_items}
 use Rattle.stab_job.specs.Jobs.{job_of_data, job_of_members, job_on_tree, job_of_scripts, schedule, are_out_of_range, params_of_job}
 use Rattle.stab_job.specs.LinkParams.{link_params}
 use Rattle.stab_job.specs.ScheduleEntries.{NamedAct, named_act, events_of}
-use Rattle.stab_job.proofs.Scheduled.{the_schedule, scheduled, same_version, with_its_schedule}
+use Rattle.stab_job.specs.Parts.{the_schedule, SameOfJob}
+use Rattle.stab_job.specs.declared.version.Version.{Version}
+use Rattle.stab_job.proofs.Scheduled.{scheduled, same_version, same_members, with_its_schedule}
 
 -- a job with another schedule
 abbrev pub rescheduled : List TreeEvent → JobValue → JobValue
@@ -115,7 +118,7 @@ module _ (ds : Items) (acts : List NamedAct) (events : List TreeEvent) (means : 
     of_version (Some m) j is named = of_members m j is named
 
 -- the job of an object, by that of its other members
-pub job_with_schedule : (others ms : ObjectMembers) (acts : List NamedAct) (events : List TreeEvent) (j : JobValue) → ((name : List ℕ) → name ≢ the_schedule → get_member name others ≡ get_member name ms)
+pub job_with_schedule : (others ms : ObjectMembers) (acts : List NamedAct) (events : List TreeEvent) (j : JobValue) → SameOfJob others ms
     → get_member the_schedule others ≡ None → option_and_then (list_of named_act) (get_member the_schedule ms) ≡ Some acts → length acts ≤ most_events → job_of_data (object others) ≡ Ok j
     → events_of j.tree.names acts ≡ Some events → job_of_data (object ms) ≡ Ok (rescheduled events j)
 job_with_schedule others ms acts events j same none steps few is named =
@@ -126,3 +129,13 @@ job_with_schedule others ms acts events j same none steps few is named =
     find (version_of (get (codes "version") (object ms)) or fault.Version) _ v.0 (rescheduled events j) its_version
     (ap (λ o. o or fault.Shape >>= job_of_members) (with_its_schedule others ms same none v.0 list.0 (ap entries_of its.1 ∙ list.1))
     ∙ of_version list.0 acts events list.2 few (members v.0 (object others)) j v.2 named)
+
+-- the same of objects neither of which has a schedule
+pub job_without_schedule : (others ms : ObjectMembers) → SameOfJob others ms → get_member the_schedule others ≡ None → get_member the_schedule ms ≡ None → job_of_data (object others) ≡ job_of_data (object ms)
+job_without_schedule others ms same none no_schedule =
+    ap (λ o. o or fault.Version >>= (λ v. members v (object others) or fault.Shape >>= job_of_members)) (same_version others ms same none)
+    ∙ over (version_of (get (codes "version") (object ms)) or fault.Version)
+  where
+    over : (v : Result Version JobFault) → (v >>= (λ its. members its (object others) or fault.Shape >>= job_of_members)) ≡ (v >>= (λ its. members its (object ms) or fault.Shape >>= job_of_members))
+    over (Ok its) = ap (λ o. o or fault.Shape >>= job_of_members) (same_members others ms same none its no_schedule)
+    over (Err refusal) = refl

@@ -1,5 +1,5 @@
 -- The members of a job with its schedule, by those without it.
-use Rattle.std.proofs.Common.{◌≡◌, ◌≢◌, ℕ, codes, List, get_or, Option, Some, None, option_map, refl, ap, arith}
+use Rattle.std.proofs.Common.{◌≡◌, ◌≢◌, ℕ, codes, List, Option, Some, None, option_map, refl, ap, arith}
 use Rattle.serde_json.specs.Data.{Data, Items, no_items, Members as ObjectMembers, object}
 use Rattle.serde_json.specs.Find.{get, get_member}
 use Rattle.stab_core.specs.declared.start.Start.{Start}
@@ -11,12 +11,9 @@ use Rattle.stab_job.specs.declared.link_entry.LinkEntry.{LinkEntry}
 use Rattle.stab_job.specs.LinkEntries.{link_entry}
 use Rattle.stab_job.specs.JobMembers.{Members, members, if_there, turns_of, entries_of}
 use Rattle.stab_job.specs.JobOpenings.{hold_of, lists_given, version_of}
+use Rattle.stab_job.specs.Parts.{the_schedule, SameOfJob}
 use Rattle.stab_job.specs.declared.version.Version.{Version}
 use Rattle.stab_job.specs.declared.version.Version.TheVariants.{First, Second}
-
--- the name of the member
-abbrev pub the_schedule : List ℕ
-the_schedule = codes "schedule"
 
 -- members with another schedule
 abbrev pub scheduled : Items → Members → Members
@@ -78,38 +75,31 @@ with_schedule ds (Some c) (Some l) (Some t) (Some n) (Some i) (Some ss) (Some cs
 with_schedule ds (Some c) (Some l) (Some t) (Some n) (Some i) (Some ss) (Some cs) (Some ls) (Some h) None = refl
 with_schedule ds (Some c) (Some l) (Some t) (Some n) (Some i) (Some ss) (Some cs) (Some ls) (Some h) (Some os) = refl
 
--- a name whose third letter is another one is not that of the schedule
-abbrev IsOther : List ℕ → Type 0
-IsOther name = get_or name 2 0 ≡ get_or the_schedule 2 0 → ⊥
-
--- objects that differ in the schedule alone, which one of them is without
-module _ (others ms : ObjectMembers) (same : (name : List ℕ) → name ≢ the_schedule → get_member name others ≡ get_member name ms) (none : get_member the_schedule others ≡ None) where
-  there : (name : List ℕ) → IsOther name → get_member name others ≡ get_member name ms
-  there name other = same name (λ is. other (ap (λ s. get_or s 2 0) is))
-
+-- objects that differ in the schedule and in what is no member of a job, and one of which is without a schedule
+module _ (others ms : ObjectMembers) (same : SameOfJob others ms) (none : get_member the_schedule others ≡ None) where
   pub same_version : version_of (get (codes "version") (object others)) ≡ version_of (get (codes "version") (object ms))
-  same_version = ap version_of (there (codes "version") (λ e. omega (arith, e)))
+  same_version = ap version_of same.0
 
   same_hold : (version : Version) → hold_of version (object others) ≡ hold_of version (object ms)
   same_hold First = refl
-  same_hold Second = ap (λ o. o >>= capped most_u16) (there (codes "h") (λ e. omega (arith, e)))
+  same_hold Second = ap (λ o. o >>= capped most_u16) same.9
 
   same_lists : (version : Version) → lists_given version (object others) ≡ lists_given version (object ms)
   same_lists First = refl
-  same_lists Second = ap (λ o. if_there (list_of (list_of item_number)) o) (there (codes "openings") (λ e. omega (arith, e)))
+  same_lists Second = ap (λ o. if_there (list_of (list_of item_number)) o) same.10
 
   -- the members with the schedule
   pub with_its_schedule : (version : Version) (ds : Items) → entries_of (get_member the_schedule ms) ≡ Some ds → members version (object ms) ≡ option_map (scheduled ds) (members version (object others))
   with_its_schedule version ds is =
       rw (
-        there (codes "capacity") (λ e. omega (arith, e)),
-        there (codes "labels") (λ e. omega (arith, e)),
-        there (codes "tree") (λ e. omega (arith, e)),
-        there (codes "turns") (λ e. omega (arith, e)),
-        there (codes "items") (λ e. omega (arith, e)),
-        there (codes "starts") (λ e. omega (arith, e)),
-        there (codes "scripts") (λ e. omega (arith, e)),
-        there (codes "links") (λ e. omega (arith, e)),
+        same.1,
+        same.2,
+        same.3,
+        same.4,
+        same.5,
+        same.6,
+        same.7,
+        same.8,
         same_hold version,
         same_lists version,
         none,
@@ -118,3 +108,22 @@ module _ (others ms : ObjectMembers) (same : (name : List ℕ) → name ≢ the_
       (with_schedule ds (get_member (codes "capacity") ms >>= capped most_u16) (get_member (codes "labels") ms >>= capped most_u16) (get_member (codes "tree") ms) (turns_of (get_member (codes "turns") ms))
       (get_member (codes "items") ms >>= list_of item_number) (if_there (list_of start) (get_member (codes "starts") ms)) (if_there (list_of script_entry) (get_member (codes "scripts") ms))
       (if_there (list_of link_entry) (get_member (codes "links") ms)) (hold_of version (object ms)) (lists_given version (object ms)))
+
+  -- where neither has a schedule, they are the same job
+  pub same_members : (version : Version) → get_member the_schedule ms ≡ None → members version (object others) ≡ members version (object ms)
+  same_members version no_schedule =
+      rw (
+        same.1,
+        same.2,
+        same.3,
+        same.4,
+        same.5,
+        same.6,
+        same.7,
+        same.8,
+        same_hold version,
+        same_lists version,
+        none,
+        no_schedule,
+      )
+      refl

@@ -16,9 +16,11 @@
 //! [`read_unscheduled_job`] answers, which looks at each step and keeps none, and hands out the
 //! values of the other members. [`read_plain_job`] makes the attempt off the text alone, for a
 //! caller who has to read the value where it fails, and [`unscheduled_job_of_value`] is the job of
-//! that value.
+//! that value. Of the two of these that end with `beside` the caller says how one further member is
+//! read, so that no value is made of it: a [`Beside`].
 #![tactic(auto)]
 
+mod beside;
 mod events;
 mod fault;
 mod job;
@@ -37,7 +39,11 @@ mod stream_schedule;
 mod value;
 mod version;
 
+pub use beside::Beside;
 pub use fault::JobFault;
 pub use job::Job;
 pub use read::{job_of_value, read_job_by_value};
-pub use stream_read::{read_job, read_plain_job, read_unscheduled_job, unscheduled_job_of_value};
+pub use stream_read::{
+    read_job, read_plain_job, read_plain_job_beside, read_unscheduled_job,
+    read_unscheduled_job_beside, unscheduled_job_of_value,
+};

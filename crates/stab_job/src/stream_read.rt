@@ -5,15 +5,16 @@ ghost use Rattle.serde_json.specs.View.{view, members_view};
 ghost use Rattle.stab_json.specs.Values.{value_of};
 ghost use Rattle.stab_job.specs.Jobs.{job, job_of_data};
 ghost use Rattle.stab_job.specs.Refusals.{is_of_value};
-ghost use Rattle.stab_job.specs.Parts.{HasParts, SameMembers};
+ghost use Rattle.stab_job.specs.Parts.{HasJobParts, SameBeside, SameMembers};
 ghost use Rattle.stab_job.specs.Unscheduled.{IsKeptOf, IsUnscheduled, unscheduled};
 
+use crate::beside::{Beside, Nothing};
 use crate::fault::JobFault;
 use crate::job::Job;
 use crate::read::job_of_value;
 use crate::stream_members::{JobParts, read_text};
 use crate::stream_schedule::Schedule;
-use serde_json::Value;
+use serde_json::{Map, Value};
 use stab_frames::Sequence;
 use stab_json::read_value;
 use stab_script::ScriptFault;
@@ -63,6 +64,33 @@ pub fn read_unscheduled_job(alloc: Global, bytes: &[u8]) -> Result<(Job, Value),
     match read_plain_job(alloc, bytes, false) {
         Ok(Some(read)) => Ok(read),
         Ok(None) => unscheduled_by_value(alloc, bytes),
+        Err(_) => Err(JobFault::Memory),
+    }
+}
+
+/// The same, and what was read of the member that the caller reads, where the text is plain and has
+/// it; where nothing was, the value has it.
+pub fn read_unscheduled_job_beside<M: Beside>(
+    alloc: Global,
+    bytes: &[u8],
+) -> Result<(Job, Value, Option<M::Read>), JobFault>
+    ensures job { MatchResult result
+        (λ read. IsUnscheduled (job bytes.now) read.0)
+        (λ fault. fault ≢ JobFault.Memory → job bytes.now ≡ Err fault) }
+    ensures members { IfOk result (λ read. (d : Data)
+        × (value_of bytes.now ≡ Some d)
+        × SameBeside M.its_name M.meaning d (view read.1) read.2) }
+    ensures json { result ≡ Err JobFault.Json → value_of bytes.now ≡ None }
+    ensures memory { result ≡ Err JobFault.Memory → 0 < length bytes.now }
+    ensures tree_memory { result ≢ Err (JobFault.Tree TreeFault.Memory) }
+    ensures script_memory { result ≢ Err (JobFault.Script ScriptFault.Memory) }
+{
+    match read_plain_job_beside::<M>(alloc, bytes, false) {
+        Ok(Some(read)) => Ok(read),
+        Ok(None) => {
+            let (job, members) = unscheduled_by_value(alloc, bytes)?;
+            Ok((job, members, None))
+        }
         Err(_) => Err(JobFault::Memory),
     }
 }
@@ -132,32 +160,56 @@ pub fn read_plain_job(
         × (value_of bytes.now ≡ Some d) × SameMembers d (view read.1))) }
     ensures memory { OnErr result (0 < length bytes.now) }
 {
+    match read_plain_job_beside::<Nothing>(alloc, bytes, keeps)? {
+        Some((job, members, _)) => Ok(Some((job, members))),
+        None => Ok(None),
+    }
+}
+
+/// The same, and what was read of the member that the caller reads, where the text has it.
+pub fn read_plain_job_beside<M: Beside>(
+    alloc: Global,
+    bytes: &[u8],
+    keeps: bool,
+) -> Result<Option<(Job, Value, Option<M::Read>)>, AllocError>
+    ensures job { IfOk result (λ found. IfSome found (λ read.
+        IsKeptOf keeps (job bytes.now) read.0)) }
+    ensures members { IfOk result (λ found. IfSome found (λ read. (d : Data)
+        × (value_of bytes.now ≡ Some d)
+        × SameBeside M.its_name M.meaning d (view read.1) read.2)) }
+    ensures memory { OnErr result (0 < length bytes.now) }
+{
     let Ok(text) = std::str::from_utf8(bytes) else {
         return Ok(None);
     };
-    let Some(parts) = read_text(alloc, text, keeps)? else {
+    let Some(parts) = read_text::<M>(alloc, text, keeps)? else {
         return Ok(None);
     };
-    let Some(read) = whole_job(alloc, keeps, parts)? else {
+    let JobParts {
+        others,
+        steps,
+        beside,
+    } = parts;
+    let Some((job, members)) = whole_job(alloc, keeps, others, steps)? else {
         return Ok(None);
     };
-    Ok(Some(read))
+    Ok(Some((job, members, beside)))
 }
 
-/// The job of these parts, whose steps are kept or not, where they pass each check, and its members
-/// but the schedule.
+/// The job of these members and steps, which are kept or not, where they pass each check, and the
+/// members as a value.
 fn whole_job(
     alloc: Global,
     keeps: bool,
-    parts: JobParts,
+    others: Map<String, Value>,
+    steps: Option<Schedule>,
 ) -> Result<Option<(Job, Value)>, AllocError>
     ensures job { IfOk result (λ found. IfSome found (λ read. (ms : Members)
-        → HasParts keeps (members_view parts.others.entries) parts.steps ms
+        → HasJobParts keeps (members_view others.entries) steps ms
         → IsKeptOf keeps (job_of_data (object ms)) read.0)) }
     ensures members { IfOk result (λ found. IfSome found (λ read.
-        view read.1 ≡ object (members_view parts.others.entries))) }
+        view read.1 ≡ object (members_view others.entries))) }
 {
-    let JobParts { others, steps } = parts;
     let members = Value::Object(others);
     let Some(job) = job_of_others(alloc, &members)? else {
         return Ok(None);
@@ -187,7 +239,7 @@ fn job_of_others(alloc: Global, others: &Value) -> Result<Option<Job>, AllocErro
 /// has the steps that were kept.
 fn with_steps(alloc: Global, job: Job, steps: Schedule) -> Result<Option<Job>, AllocError>
     ensures { IfOk result (λ found. IfSome found (λ kept. (keeps : Bool) (others ms : Members)
-        → HasParts keeps others (Some steps) ms → job_of_data (object others) ≡ Ok job
+        → HasJobParts keeps others (Some steps) ms → job_of_data (object others) ≡ Ok job
         → IsKeptOf keeps (job_of_data (object ms)) kept)) }
 {
     let Some(events) = steps.into_events(alloc, job.tree())? else {

@@ -36,7 +36,7 @@ pub fn whole_of(text: &str) -> Option<u64>
 }
 
 /// The whole number that comes next.
-pub(crate) fn next_whole(reader: &mut Reader<'_>) -> Option<u64>
+pub fn next_whole(reader: &mut Reader<'_>) -> Option<u64>
     ensures value { IfSome result (λ n. (depth : ℕ)
         → Stands depth reader.old (number (unsigned n)) reader.new) }
     ensures shorter { IfSome result (λ _. length reader.new < length reader.old) }
@@ -97,5 +97,21 @@ impl Entry for u16 {
     fn next(reader: &mut Reader<'_>) -> Option<u16> {
         let label = next_u16(reader)?;
         Some(label)
+    }
+}
+
+/// An item.
+impl Entry for u32 {
+    type Read = u32;
+
+    ghost use Rattle.stab_json.specs.Values.{item_number};
+
+    ghost meaning = { item_number };
+
+    ghost form = { IsWhole most_u32 };
+
+    fn next(reader: &mut Reader<'_>) -> Option<u32> {
+        let item = next_u32(reader)?;
+        Some(item)
     }
 }

@@ -18,7 +18,7 @@ ghost use Rattle.stab_script.specs.Plain.{IsEvents, IsInObject, IsMemberOfJob, I
 use crate::link_job::{LinkJob, LinkJobFault};
 use crate::number::next_u16;
 use crate::stream_events::take_list;
-use crate::stream_start::read_start;
+use crate::stream_start::next_start;
 use json::{Reader, Scratch, Token};
 use stab_core::{Event, Start};
 use stab_frames::{Params, Sequence};
@@ -172,7 +172,7 @@ pub(crate) fn read_member(
             parts.labels = Some(labels);
         }
         "start" => {
-            let Some(start) = read_start(alloc, reader)? else {
+            let Some(start) = next_start(alloc, reader)? else {
                 return Ok(false);
             };
             parts.start = Some(start);

@@ -99,10 +99,7 @@ fn read_members(alloc: Global, reader: &mut Reader<'_>) -> Result<Option<StartPa
 }
 
 /// The start that comes next, where it has the plain form.
-pub(crate) fn read_start(
-    alloc: Global,
-    reader: &mut Reader<'_>,
-) -> Result<Option<Start>, AllocError>
+pub fn next_start(alloc: Global, reader: &mut Reader<'_>) -> Result<Option<Start>, AllocError>
     ensures value { IfOk result (λ found. IfSome found (λ its_start.
         MeansWithin in_member start reader.old its_start reader.new)) }
     ensures shorter { IfOk result (λ found. IfSome found (λ _.

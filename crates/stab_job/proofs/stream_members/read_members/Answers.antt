@@ -10,10 +10,10 @@ use Rattle.stab_job.proofs.Parts.{no_parts}
 use Rattle.stab_job.proofs.stream_members.read_members.Goals as goal
 
 pub members-init : goal.members-init
-members-init c = (length c.args.reader.now, omega arith, omega arith, values.no_members, λ ms rest later. later, rw c.new.ensures.empty (no_parts c.args.keeps))
+members-init g c = (length c.args.reader.now, omega arith, omega arith, values.no_members, λ ms rest later. later, rw c.new.ensures.empty (no_parts g.M.Beside.its_name g.M.Beside.meaning c.args.keeps))
 
 pub returns-in_default-name : goal.returns-in_default-name
-returns-in_default-name c =
+returns-in_default-name g c =
     let l = c.members in
     let inv = l.invariant in
     let r = c.next_key.new.self in
@@ -21,7 +21,7 @@ returns-in_default-name c =
     (inv.3, inv.4 inv.3 r (no_members in_member inv.3 inv.0 l.reader r inv.1 over), inv.5)
 
 pub members-preserved : goal.members-preserved
-members-preserved c =
+members-preserved g c =
     let l = c.members in
     let inv = l.invariant in
     let name = c.in-Some.name.now in

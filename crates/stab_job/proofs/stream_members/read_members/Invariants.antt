@@ -8,10 +8,10 @@ use Rattle.stab_job.proofs.stream_members.read_members.Given as goal
 
 -- whatever the members of the tokens that are left make of those read so far, is what all of them make
 abbrev pub invariant-members : goal.invariant-members
-invariant-members l =
+invariant-members g l =
     (n : ℕ) × (length l.reader ≤ n) × (length l.reader ≤ length l.initial.reader) × (ms : Members)
     × (PutBefore in_member (length l.initial.reader) l.initial.reader ms n l.reader)
-    × HasParts l.keeps (members_view l.parts.others.entries) l.parts.steps ms
+    × HasParts g.M.Beside.its_name g.M.Beside.meaning l.keeps (members_view l.parts.others.entries) l.parts.steps l.parts.beside ms
 
 abbrev pub decreases-members : goal.decreases-members
-decreases-members l = length l.reader
+decreases-members g l = length l.reader

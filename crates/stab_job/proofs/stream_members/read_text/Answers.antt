@@ -10,13 +10,13 @@ use Rattle.stab_script.proofs.Standing.{an_object}
 use Rattle.stab_job.proofs.stream_members.read_text.Goals as goal
 
 pub returns-in_err-parts-clause-memory : goal.returns-in_err-parts-clause-memory
-returns-in_err-parts-clause-memory c =
+returns-in_err-parts-clause-memory g c =
     let is : tokens c.args.text.now ≡ token_of c.in-Some-BeginObject.field-0 ∷ c.next.new.self = sym c.in_ok-reader.ensures.ok ∙ c.in-Some-BeginObject.ensures.value in
     let some : 0 < length c.args.text.now = some_text c.args.text.now (rw is (omega arith)) in
     grind (arith, some)
 
 pub returns-clause-value : goal.returns-clause-value
-returns-clause-value c =
+returns-clause-value g c =
     let ts = c.next.new.self in
     let is : tokens c.args.text.now ≡ Token.begin_object ∷ ts = sym c.in_ok-reader.ensures.ok ∙ c.in-Some-BeginObject.ensures.value ∙ ap (λ k. token_of k ∷ ts) c.in-Some-BeginObject.field-0-is in
     let found = rw c.in-Some.is at c.in_ok-parts.ensures in
@@ -26,6 +26,6 @@ returns-clause-value c =
     (found.0, rw is first, found.2)
 
 pub returns-clause-some : goal.returns-clause-some
-returns-clause-some c =
+returns-clause-some g c =
     let is : tokens c.args.text.now ≡ token_of c.in-Some-BeginObject.field-0 ∷ c.next.new.self = sym c.in_ok-reader.ensures.ok ∙ c.in-Some-BeginObject.ensures.value in
     some_text c.args.text.now (rw is (omega arith))

@@ -1,32 +1,11 @@
-use Rattle.std.proofs.Common.{◌≡◌, [], Some, Ok, sym, ap, ◌∙◌, subst}
-use Rattle.json.specs.Lex.{tokens}
-use Rattle.serde_json.specs.Data.{object}
-use Rattle.serde_json.specs.Find.{get}
-use Rattle.stab_json.specs.Checks.{◌>>=◌, ◌or◌}
+use Rattle.std.proofs.Common.{◌≡◌, List, Option, Some, None, ℕ}
+use Rattle.serde_json.specs.Data.{Data}
+use Rattle.serde_json.specs.View.{view}
 use Rattle.stab_json.specs.Values.{value_of}
-use Rattle.stab_job.specs.Jobs.{job, job_of_data}
-use Rattle.stab_job.specs.declared.fault.JobFault.TheVariants as fault
-use Rattle.stab_script.specs.Members.{in_job}
-use Rattle.stab_script.specs.Standing.{Stands}
-use Rattle.stab_script.proofs.Jobs.{whole_text}
-use Rattle.stab_job.specs.Unscheduled.{IsKeptOf}
+use Rattle.stab_job.proofs.Parts.{nothing_beside}
 use Rattle.stab_job.proofs.stream_read.read_plain_job.Goals as goal
 
-pub returns-clause-job : goal.returns-clause-job
-returns-clause-job c =
-    let bytes = c.args.bytes.now in
-    let text = c.in-Ok.ensures.cases in
-    let found = rw c.in-Some.is at c.in_ok-parts.ensures.value in
-    let first : Stands in_job (tokens bytes) (object found.0) [] = subst (λ t. Stands in_job (tokens t) (object found.0) []) text.0 found.1 in
-    let is = (rw c.in-Some-2.is at c.in_ok-read.ensures.job) found.0 found.2 in
-    let read : job_of_data (object found.0) ≡ job bytes = ap (λ o. (o or fault.Json) >>= job_of_data) (whole_text bytes (object found.0) text.1 first) in
-    subst (λ its. IsKeptOf c.args.keeps its c.in-Some-2.read.0) read is
-
-pub returns-clause-members : goal.returns-clause-members
-returns-clause-members c =
-    let bytes = c.args.bytes.now in
-    let text = c.in-Ok.ensures.cases in
-    let found = rw c.in-Some.is at c.in_ok-parts.ensures.value in
-    let first : Stands in_job (tokens bytes) (object found.0) [] = subst (λ t. Stands in_job (tokens t) (object found.0) []) text.0 found.1 in
-    let seen = rw c.in-Some-2.is at c.in_ok-read.ensures.members in
-    (object found.0, sym (whole_text bytes (object found.0) text.1 first), λ name other. sym (ap (get name) seen ∙ found.2.0 name other))
+pub returns-in-Some-clause-members : goal.returns-in-Some-clause-members
+returns-in-Some-clause-members c =
+    let its = rw c.in-Some.is at c.in_ok-job.ensures.members in
+    (its.0, its.1, nothing_beside its.0 (view c.in-Some.members) c.in-Some.field-0-2 its.2)

@@ -9,8 +9,8 @@ use Rattle.stab_script.specs.Standing.{Stands}
 use Rattle.stab_script.proofs.Jobs.{a_start, labels_read}
 use Rattle.stab_script.proofs.Plain.{no_some, one_rest}
 use Rattle.stab_script.proofs.Standing.{an_object}
-use Rattle.stab_script.proofs.stream_start.read_start.Goals.{in_default-3-via-in-Some+in_default, in_default-3-via-in_default}
-use Rattle.stab_script.proofs.stream_start.read_start.Goals as goal
+use Rattle.stab_script.proofs.stream_start.next_start.Goals.{in_default-3-via-in-Some+in_default, in_default-3-via-in_default}
+use Rattle.stab_script.proofs.stream_start.next_start.Goals as goal
 
 pub returns-clause-value : goal.returns-clause-value
 returns-clause-value c =
