@@ -12,7 +12,7 @@ use Rattle.stab_frames.specs.Queue.{without}
 use Rattle.stab_frames.specs.declared.frame.Frame.{Frame}
 use Rattle.rignolda_draw.specs.Kept.{Follows, FollowsLink, IsKept, Shows, after_commas, before_of, is_loss}
 use Rattle.rignolda_draw.specs.Words.{frame_word, queue_word}
-use Rattle.rignolda_draw.specs.declared.queues.Queues.{Queues}
+use Rattle.rignolda_draw.specs.declared.link_text.LinkText.{LinkText}
 
 -- ---- bytes of ASCII
 
@@ -258,23 +258,24 @@ module _ (p : Parameters) (s : LinkState) where
   acks_follow e text kept =
       of_both (AcksFollow s (is_loss (Some e)) text) s.closed s (open_step p s e) (acks_stay (is_loss (Some e)) text kept) (open_acks e text kept)
 
--- the queues of a link after an event
-pub event_follows : (p : Parameters) (s : LinkState) (e : Event) (queues : Queues) → Shows queues s
-    → FollowsLink queues (before_of (link_at p s) (Some e)) (step p s e)
-event_follows p s e queues shows =
-    (frames_follow p s e (string_bytes queues.frames) shows.0, acks_follow p s e (string_bytes queues.acks) shows.1)
+-- the text of a link after an event
+pub event_follows : (p : Parameters) (s : LinkState) (e : Event) (text : LinkText) → Shows text s
+    → FollowsLink text (before_of (link_at p s) (Some e)) (step p s e)
+event_follows p s e text shows =
+    (frames_follow p s e (string_bytes text.frames) shows.0, acks_follow p s e (string_bytes text.acks) shows.1, shows.2.made)
 
 -- the same where the link after it is given
-pub link_follows : (link after : LinkValue) (e : Event) (queues : Queues) → Shows queues link.state
-    → after ≡ link_at link.params (step link.params link.state e) → FollowsLink queues (before_of link (Some e)) after.state
-link_follows link after e queues shows is =
-    subst (λ (l : LinkValue). FollowsLink queues (before_of link (Some e)) l.state) (sym is)
-    (event_follows link.params link.state e queues shows)
+pub link_follows : (link after : LinkValue) (e : Event) (text : LinkText) → Shows text link.state
+    → after ≡ link_at link.params (step link.params link.state e) → FollowsLink text (before_of link (Some e)) after.state
+link_follows link after e text shows is =
+    subst (λ (l : LinkValue). FollowsLink text (before_of link (Some e)) l.state) (sym is)
+    (event_follows link.params link.state e text shows)
 
 -- the same where there is no event
-pub nothing_follows : (link : LinkValue) (queues : Queues) → Shows queues link.state
-    → FollowsLink queues (before_of link None) link.state
-nothing_follows link queues shows = (
-  frames_stay link.params link.state false (string_bytes queues.frames) shows.0,
-  acks_stay link.params link.state false (string_bytes queues.acks) shows.1,
+pub nothing_follows : (link : LinkValue) (text : LinkText) → Shows text link.state
+    → FollowsLink text (before_of link None) link.state
+nothing_follows link text shows = (
+  frames_stay link.params link.state false (string_bytes text.frames) shows.0,
+  acks_stay link.params link.state false (string_bytes text.acks) shows.1,
+  shows.2.made,
 )

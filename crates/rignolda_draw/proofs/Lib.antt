@@ -3,3 +3,6 @@ pub mod Going
 pub mod ForCallers
 mod Played
 mod Following
+mod Columns
+mod Still
+mod AllKept

@@ -1,17 +1,17 @@
 //! Words in their columns.
 
 ghost use Rattle.std.specs.Prelude.{◌≡◌, ◌++◌, ◌-◌, ◌≤◌, codes, decimal, length, replicate};
-ghost use Rattle.std.specs.Prelude.{[], slice_get, slice_index_or, string_bytes, OnOk};
+ghost use Rattle.std.specs.Prelude.{[], slice_get, slice_index_or, string_bytes, IfSome, OnOk};
 ghost use Rattle.rignolda_draw.specs.Kept.{IsKept, Shows};
 ghost use Rattle.rignolda_draw.specs.Runs.{state_cells};
-ghost use Rattle.rignolda_draw.specs.Schedules.{act_word, name_cell};
-ghost use Rattle.rignolda_draw.specs.Words.{cell, effect_word, event_word, frame_word, item_word};
-ghost use Rattle.rignolda_draw.specs.Words.{queue_word};
+ghost use Rattle.rignolda_draw.specs.Schedules.{name_cell};
+ghost use Rattle.rignolda_draw.specs.Words.{cell, frame_word, item_word, queue_word};
 
 use crate::entry::Entry;
-use crate::queues::{Queues, push_kept};
-use crate::words::{push_acks, push_decimal, push_event, push_frames, push_item};
-use stab_core::{Effect, Event, Link};
+use crate::link_text::LinkText;
+use crate::queues::push_kept;
+use crate::words::{push_acks, push_decimal, push_frames, push_item};
+use stab_core::Link;
 use stab_frames::{Frame, Item, Label};
 use stab_tree::{NodeId, Tree};
 use std::alloc::AllocError;
@@ -32,44 +32,66 @@ pub fn push_state_cells(
     push_receiver_cells(text, link, delivered)
 }
 
-/// Adds the same, where the text of the queues was kept.
+/// Adds the same, where the text of the link was kept.
 #[tactic(auto, unfolding(crate::specs::Runs::state_cells))]
 pub(crate) fn push_kept_cells(
     text: &mut String,
     link: &Link,
-    queues: &Queues,
+    kept: &LinkText,
     delivered: Option<Item>,
 ) -> Result<(), AllocError>
-    requires { Shows queues.now link.now.state }
+    requires { Shows kept.now link.now.state }
     ensures { OnOk result (string_bytes text.new ≡ string_bytes text.old
         ++ state_cells link.now.state delivered) }
 {
-    push_sender_cells(text, link)?;
-    push_kept_cell::<Frame>(text, queues.frames.as_str(), link, 11)?;
-    push_kept_cell::<Label>(text, queues.acks.as_str(), link, 7)?;
+    text.push_str(kept.sender.cells.as_str())?;
+    push_kept_cell::<Frame>(text, kept.frames.as_str(), link, no_frames(), 11)?;
+    push_kept_cell::<Label>(text, kept.acks.as_str(), link, no_acks(), 7)?;
     push_receiver_cells(text, link, delivered)
 }
 
-/// Adds a queue in a column of this width, from the text that was kept.
+/// The cell of no frames.
 #[tactic(auto, unfolding(crate::specs::Words::cell))]
+fn no_frames() -> &'static str
+    ensures { result.now ≡ cell 11 (codes "-") }
+{
+    "-           "
+}
+
+/// The cell of no acknowledgements.
+#[tactic(auto, unfolding(crate::specs::Words::cell))]
+fn no_acks() -> &'static str
+    ensures { result.now ≡ cell 7 (codes "-") }
+{
+    "-       "
+}
+
+/// Adds a queue in a column of this width, from the text that was kept, or this cell where it is
+/// empty.
+#[tactic(auto, unfolding(crate::specs::Words::cell), using(crate::proofs::Following::none_queued))]
 fn push_kept_cell<E: Entry>(
     text: &mut String,
     kept: &str,
     link: &Link,
+    empty: &str,
     width: usize,
 ) -> Result<(), AllocError>
     requires kept { IsKept E.word (E.queue link.now) kept.now }
+    requires empty { empty.now ≡ cell width (codes "-") }
     requires narrow { width ≤ 19 }
     ensures { OnOk result (string_bytes text.new ≡ string_bytes text.old
         ++ cell width (queue_word E.word (E.queue link.now))) }
 {
+    if E::count(link) == 0 {
+        return text.push_str(empty);
+    }
     let from = text.len();
     push_kept::<E>(text, kept, link)?;
     pad(text, from, width)
 }
 
 /// Adds the sender's label, the item that it holds, and how many items are acknowledged.
-fn push_sender_cells(text: &mut String, link: &Link) -> Result<(), AllocError>
+pub(crate) fn push_sender_cells(text: &mut String, link: &Link) -> Result<(), AllocError>
     ensures { OnOk result (string_bytes text.new ≡ string_bytes text.old
         ++ cell 5 (decimal link.now.state.send_label)
         ++ cell 5 (item_word (slice_get link.now.state.offered link.now.state.acked))
@@ -89,9 +111,33 @@ fn push_receiver_cells(
     ensures { OnOk result (string_bytes text.new ≡ string_bytes text.old
         ++ cell 9 (decimal link.now.state.recv_label) ++ item_word delivered ++ codes "\n") }
 {
+    if let Some(cells) = receiver_cells(link.recv_label(), delivered) {
+        return text.push_str(cells);
+    }
     push_recv_label_cell(text, link)?;
     push_item(text, delivered)?;
     text.push('\n')
+}
+
+/// The same as one text, where the label has one digit and nothing was delivered.
+#[tactic(auto, unfolding(crate::specs::Words::item_word), using(crate::proofs::Columns::one_digit_remembered))]
+fn receiver_cells(label: Label, delivered: Option<Item>) -> Option<&'static str>
+    ensures { IfSome result (λ cells. cells.now
+        ≡ cell 9 (decimal label) ++ item_word delivered ++ codes "\n") }
+{
+    match (label, delivered) {
+        (0, None) => Some("0         -\n"),
+        (1, None) => Some("1         -\n"),
+        (2, None) => Some("2         -\n"),
+        (3, None) => Some("3         -\n"),
+        (4, None) => Some("4         -\n"),
+        (5, None) => Some("5         -\n"),
+        (6, None) => Some("6         -\n"),
+        (7, None) => Some("7         -\n"),
+        (8, None) => Some("8         -\n"),
+        (9, None) => Some("9         -\n"),
+        _ => None,
+    }
 }
 
 /// The item that the sender holds.
@@ -99,47 +145,6 @@ pub(crate) fn held(link: &Link) -> Option<Item>
     ensures { result ≡ slice_get link.now.state.offered link.now.state.acked }
 {
     link.offered().get(link.acked() as usize).copied()
-}
-
-/// Adds an event in its column.
-#[tactic(auto, unfolding(crate::specs::Words::cell, crate::specs::Words::event_word))]
-pub(crate) fn push_event_cell(text: &mut String, event: Event) -> Result<(), AllocError>
-    ensures { OnOk result
-        (string_bytes text.new ≡ string_bytes text.old ++ cell 19 (event_word event)) }
-{
-    match event {
-        Event::SendFrame => text.push_str("\"send_frame\"        "),
-        Event::RecvFrame { keep: false } => text.push_str("\"recv_frame\"        "),
-        Event::RecvFrame { keep: true } => text.push_str("\"recv_frame_keep\"   "),
-        Event::SendAck => text.push_str("\"send_ack\"          "),
-        Event::RecvAck { keep: false } => text.push_str("\"recv_ack\"          "),
-        Event::RecvAck { keep: true } => text.push_str("\"recv_ack_keep\"     "),
-        Event::Close => text.push_str("\"close\"             "),
-        Event::Offer(_) | Event::LoseFrame(_) | Event::LoseAck(_) => push_longer(text, event),
-    }
-}
-
-/// Adds an event with a number in its column.
-#[tactic(auto, unfolding(crate::specs::Words::cell))]
-fn push_longer(text: &mut String, event: Event) -> Result<(), AllocError>
-    ensures { OnOk result
-        (string_bytes text.new ≡ string_bytes text.old ++ cell 19 (event_word event)) }
-{
-    let from = text.len();
-    push_event(text, event)?;
-    pad(text, from, 19)
-}
-
-/// Adds an event in its column, or the offer of no item.
-#[tactic(auto, unfolding(crate::specs::Words::cell, crate::specs::Schedules::act_word))]
-pub(crate) fn push_act_cell(text: &mut String, event: Option<Event>) -> Result<(), AllocError>
-    ensures { OnOk result
-        (string_bytes text.new ≡ string_bytes text.old ++ cell 19 (act_word event)) }
-{
-    match event {
-        Some(event) => push_event_cell(text, event),
-        None => text.push_str("\"offer\"             "),
-    }
 }
 
 /// Adds the name of a node in its column.
@@ -165,45 +170,50 @@ fn name_of(tree: &Tree, node: NodeId) -> &str
     }
 }
 
-/// Adds an effect in its column.
-#[tactic(auto, unfolding(crate::specs::Words::cell, crate::specs::Words::effect_word))]
-pub(crate) fn push_effect_cell(text: &mut String, effect: Effect) -> Result<(), AllocError>
-    ensures { OnOk result
-        (string_bytes text.new ≡ string_bytes text.old ++ cell 7 (effect_word effect)) }
-{
-    text.push_str(match effect {
-        Effect::Nothing => "Nothing ",
-        Effect::Held => "Held    ",
-        Effect::Sent => "Sent    ",
-        Effect::Fresh(_) => "Fresh   ",
-        Effect::Old => "Old     ",
-        Effect::Acked => "Acked   ",
-        Effect::Ignored => "Ignored ",
-        Effect::Lost => "Lost    ",
-        Effect::Closed => "Closed  ",
-    })
-}
-
 /// Adds a label or a count in a narrow column.
 #[tactic(auto, unfolding(crate::specs::Words::cell))]
 pub fn push_number_cell(text: &mut String, number: u64) -> Result<(), AllocError>
     ensures { OnOk result
         (string_bytes text.new ≡ string_bytes text.old ++ cell 5 (decimal number)) }
 {
+    if let Some(cell) = digit_cell(number) {
+        return text.push_str(cell);
+    }
     let from = text.len();
     push_decimal(text, number)?;
     pad(text, from, 5)
 }
 
+/// A number of one digit in a narrow column.
+#[tactic(auto, using(crate::proofs::Columns::one_digit))]
+fn digit_cell(number: u64) -> Option<&'static str>
+    ensures { IfSome result (λ word. word.now ≡ cell 5 (decimal number)) }
+{
+    match number {
+        0 => Some("0     "),
+        1 => Some("1     "),
+        2 => Some("2     "),
+        3 => Some("3     "),
+        4 => Some("4     "),
+        5 => Some("5     "),
+        6 => Some("6     "),
+        7 => Some("7     "),
+        8 => Some("8     "),
+        9 => Some("9     "),
+        _ => None,
+    }
+}
+
 /// Adds an item, or `-`, in a narrow column.
-#[tactic(auto, unfolding(crate::specs::Words::cell))]
+#[tactic(auto, unfolding(crate::specs::Words::cell, crate::specs::Words::item_word))]
 fn push_item_cell(text: &mut String, item: Option<Item>) -> Result<(), AllocError>
     ensures { OnOk result
         (string_bytes text.new ≡ string_bytes text.old ++ cell 5 (item_word item)) }
 {
-    let from = text.len();
-    push_item(text, item)?;
-    pad(text, from, 5)
+    match item {
+        None => text.push_str("-     "),
+        Some(item) => push_number_cell(text, u64::from(item)),
+    }
 }
 
 /// Adds the queued frames in their column.
@@ -240,14 +250,17 @@ fn push_recv_label_cell(text: &mut String, link: &Link) -> Result<(), AllocError
 }
 
 /// Adds a space after the word that begins at this place, and more of them up to this width.
-fn pad(text: &mut String, from: usize, width: usize) -> Result<(), AllocError>
+pub(crate) fn pad(text: &mut String, from: usize, width: usize) -> Result<(), AllocError>
     requires begun { from ≤ length (string_bytes text.old) }
     requires narrow { width ≤ 19 }
     ensures { OnOk result (string_bytes text.new ≡ string_bytes text.old ++ codes " "
         ++ replicate (width - (length (string_bytes text.old) - from)) 32) }
 {
     let len = text.len() - from;
-    text.push_str(blanks(width.saturating_sub(len)))
+    if len >= width {
+        return text.push(' ');
+    }
+    text.push_str(blanks(width - len))
 }
 
 /// One space, and this many more: at most 19.

@@ -12,8 +12,12 @@
 mod act_rows;
 mod cells;
 mod entry;
+mod event_cells;
 mod faults;
+mod kept;
 mod lines;
+mod link_line;
+mod link_text;
 mod next;
 mod output;
 mod queues;
@@ -22,6 +26,7 @@ mod row;
 mod rows;
 mod run;
 mod schedule;
+mod sender;
 mod stopped;
 mod words;
 

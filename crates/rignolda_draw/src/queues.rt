@@ -1,66 +1,25 @@
-//! The text of a link's queues, which is kept from line to line and changed as they change.
+//! The text of a queue of a link, which is kept from line to line and changed as it changes.
 
 ghost use Rattle.std.specs.Prelude.{◌≡◌, ◌≤◌, ◌++◌, List, ℕ, drop, length, option_to_list};
 ghost use Rattle.std.specs.Prelude.{string_bytes, IsAscii, IfOk, OnOk};
-ghost use Rattle.stab_core.specs.Link.{Steps};
-ghost use Rattle.rignolda_draw.specs.Kept.{Follows, FollowsLink, IsKept, Shows};
+ghost use Rattle.rignolda_draw.specs.Kept.{Follows, IsKept};
 ghost use Rattle.rignolda_draw.specs.Kept.{after_commas, before_of, is_loss};
 ghost use Rattle.rignolda_draw.specs.Words.{queue_word};
 
 use crate::entry::Entry;
-use stab_core::{Effect, Event, Link};
+use stab_core::{Event, Link};
 use stab_frames::{Frame, Label};
 use std::alloc::{AllocError, Global};
-
-/// The text of both queues of a link, each entry after a comma.
-#[derive(Drop)]
-pub(crate) struct Queues {
-    pub(crate) frames: String,
-    pub(crate) acks: String,
-}
-
-impl Queues {
-    /// The text of the queues of a link.
-    pub(crate) fn new(alloc: Global, link: &Link) -> Result<Queues, AllocError>
-        ensures { IfOk result (λ queues. Shows queues link.now.state) }
-    {
-        let frames = text_of::<Frame>(alloc, link)?;
-        let acks = text_of::<Label>(alloc, link)?;
-        Ok(Queues { frames, acks })
-    }
-
-    /// Takes a step of the link, and changes the text as the queues change.
-    pub(crate) fn step(&mut self, link: &mut Link, event: Event) -> Result<Effect, AllocError>
-        requires { Shows self.old link.old.state }
-        ensures steps { IfOk result (Steps link.old event link.new) }
-        ensures shows { OnOk result (Shows self.new link.new.state) }
-    {
-        let before = Before::of(link, Some(event));
-        let effect = link.apply(event)?;
-        self.follow(link, before)?;
-        Ok(effect)
-    }
-
-    /// Changes the text of the queues of a link as they changed.
-    pub(crate) fn follow(&mut self, link: &Link, before: Before) -> Result<(), AllocError>
-        requires { FollowsLink self.old before link.now.state }
-        ensures { OnOk result (Shows self.new link.now.state) }
-    {
-        let is_loss = before.is_loss;
-        follow::<Frame>(&mut self.frames, link, before.frames, before.frame, is_loss)?;
-        follow::<Label>(&mut self.acks, link, before.acks, before.ack, is_loss)
-    }
-}
 
 /// How many entries the queues of a link have before an event, the front of each, and whether an
 /// entry is lost in it.
 #[derive(Clone, Copy)]
 pub(crate) struct Before {
-    frames: u16,
-    frame: Option<Frame>,
-    acks: u16,
-    ack: Option<Label>,
-    is_loss: bool,
+    pub(crate) frames: u16,
+    pub(crate) frame: Option<Frame>,
+    pub(crate) acks: u16,
+    pub(crate) ack: Option<Label>,
+    pub(crate) is_loss: bool,
 }
 
 impl Before {
@@ -89,7 +48,7 @@ fn is_loss(event: Option<Event>) -> bool
 }
 
 /// The text of a queue of a link.
-fn text_of<E: Entry>(alloc: Global, link: &Link) -> Result<String, AllocError>
+pub(crate) fn text_of<E: Entry>(alloc: Global, link: &Link) -> Result<String, AllocError>
     ensures { IfOk result (λ text. IsKept E.word (E.queue link.now) (string_bytes text)) }
 {
     let mut text = String::new(alloc);
@@ -124,7 +83,7 @@ fn push_entry<E: Entry>(text: &mut String, entry: Option<E>) -> Result<(), Alloc
 }
 
 /// Changes the text of a queue that had this many entries, and this one in front, before a step.
-fn follow<E: Entry>(
+pub(crate) fn follow<E: Entry>(
     text: &mut String,
     link: &Link,
     count: u16,

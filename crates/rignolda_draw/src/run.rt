@@ -8,9 +8,10 @@ ghost use Rattle.rignolda_draw.specs.Written.{Begun, Written};
 ghost use Rattle.rignolda_draw.specs.Runs.{event_line, event_lines, head, run_text, start_line};
 ghost use Rattle.rignolda_draw.specs.Runs.{state_cells};
 
-use crate::cells::{push_effect_cell, push_event_cell, push_kept_cells, push_state_cells};
+use crate::cells::{push_kept_cells, push_state_cells};
+use crate::event_cells::push_event_cells;
+use crate::link_text::LinkText;
 use crate::output::{OutputFault, write_block};
-use crate::queues::Queues;
 use crate::words::delivered_by;
 use stab_core::{Event, Link, StartFault};
 use stab_script::LinkJob;
@@ -39,9 +40,9 @@ pub fn write_run<W: Write>(
 {
     let mut link = begun(alloc, job)?;
     let mut text = first_lines(alloc, &link)?;
-    let mut queues = Queues::new(alloc, &link)?;
+    let mut kept = LinkText::new(alloc, &link)?;
     let events = job.events.as_slice();
-    write_event_lines(writer, &mut text, &mut link, &mut queues, events)?;
+    write_event_lines(writer, &mut text, &mut link, &mut kept, events)?;
     Ok(text)
 }
 
@@ -74,10 +75,10 @@ fn write_event_lines<W: Write>(
     writer: &mut W,
     text: &mut String,
     link: &mut Link,
-    queues: &mut Queues,
+    kept: &mut LinkText,
     events: &[Event],
 ) -> Result<(), OutputFault>
-    requires { Shows queues.old link.old.state }
+    requires { Shows kept.old link.old.state }
     ensures lines { OnOk result (Written (W.contents writer.old) (W.contents writer.new)
         (string_bytes text.new)
         (string_bytes text.old ++ event_lines link.old.params link.old.state events.now)) }
@@ -86,7 +87,7 @@ fn write_event_lines<W: Write>(
         (string_bytes text.old ++ event_lines link.old.params link.old.state events.now)) }
 {
     for event in events {
-        write_event_line(writer, text, link, queues, *event)?;
+        write_event_line(writer, text, link, kept, *event)?;
     }
     Ok(())
 }
@@ -97,20 +98,20 @@ fn write_event_line<W: Write>(
     writer: &mut W,
     text: &mut String,
     link: &mut Link,
-    queues: &mut Queues,
+    kept: &mut LinkText,
     event: Event,
 ) -> Result<(), OutputFault>
-    requires { Shows queues.old link.old.state }
+    requires { Shows kept.old link.old.state }
     ensures line { OnOk result (Written (W.contents writer.old) (W.contents writer.new)
         (string_bytes text.new)
         (string_bytes text.old ++ event_line event link.old.params link.old.state)) }
     ensures steps { OnOk result (link.new
         ≡ link_at link.old.params (step link.old.params link.old.state event)) }
-    ensures shows { OnOk result (Shows queues.new link.new.state) }
+    ensures shows { OnOk result (Shows kept.new link.new.state) }
     ensures unwritten { IfErr result (λ fault. fault ≢ OutputFault.Write
         → Keeps (W.contents writer.old) (W.contents writer.new)) }
 {
-    push_event_line(text, link, queues, event)?;
+    push_event_line(text, link, kept, event)?;
     write_block(writer, text)
 }
 
@@ -129,18 +130,17 @@ pub fn push_start_line(text: &mut String, link: &Link) -> Result<(), AllocError>
 fn push_event_line(
     text: &mut String,
     link: &mut Link,
-    queues: &mut Queues,
+    kept: &mut LinkText,
     event: Event,
 ) -> Result<(), AllocError>
-    requires { Shows queues.old link.old.state }
+    requires { Shows kept.old link.old.state }
     ensures line { OnOk result (string_bytes text.new ≡ string_bytes text.old
         ++ event_line event link.old.params link.old.state) }
     ensures steps { OnOk result (link.new
         ≡ link_at link.old.params (step link.old.params link.old.state event)) }
-    ensures shows { OnOk result (Shows queues.new link.new.state) }
+    ensures shows { OnOk result (Shows kept.new link.new.state) }
 {
-    let effect = queues.step(link, event)?;
-    push_event_cell(text, event)?;
-    push_effect_cell(text, effect)?;
-    push_kept_cells(text, link, queues, delivered_by(effect))
+    let effect = kept.step(link, event)?;
+    push_event_cells(text, event, effect)?;
+    push_kept_cells(text, link, kept, delivered_by(effect))
 }

@@ -9,12 +9,16 @@ ghost use Rattle.stab_treecore.specs.TreeReplay.{initial_tree};
 ghost use Rattle.stab_treecore.specs.Refusals.{NamesLink, NamesNoLink};
 ghost use Rattle.stab_treecore.specs.TreeStep.{event_on, next_item, tree_effect, tree_step};
 ghost use Rattle.stab_treecore.specs.WholeTree.{link_into};
+ghost use Rattle.rignolda_draw.specs.Kept.{ShowsAll};
 ghost use Rattle.rignolda_draw.specs.Written.{Begun, Written};
 ghost use Rattle.rignolda_draw.specs.Schedules.{link_line, link_start_line, node_start_line};
 ghost use Rattle.rignolda_draw.specs.Schedules.{schedule_run_text, start_lines, step_line};
 ghost use Rattle.rignolda_draw.specs.Schedules.{step_lines, tree_head};
 
-use crate::cells::{push_act_cell, push_effect_cell, push_name_cell, push_state_cells};
+use crate::cells::{push_name_cell, push_state_cells};
+use crate::event_cells::push_act_cells;
+use crate::kept::{none_kept, push_kept_line};
+use crate::link_line::LinkLine;
 use crate::next::event_on;
 use crate::output::{OutputFault, write_block};
 use crate::run::push_start_line;
@@ -35,7 +39,7 @@ const HEAD: &str =
 /// out.
 ///
 /// Whoever replayed the schedule knows that nothing but memory is refused.
-#[tactic(auto, using(crate::proofs::ForCallers::not_begun))]
+#[tactic(auto, using(crate::proofs::ForCallers::not_begun, crate::proofs::AllKept::none_shown))]
 pub fn write_schedule_run<W: Write>(
     alloc: Global,
     writer: &mut W,
@@ -49,8 +53,13 @@ pub fn write_schedule_run<W: Write>(
         (schedule_run_text (network job.now) job.now.schedule)) }
 {
     let mut state = begun(alloc, job)?;
-    let mut text = first_lines(alloc, job.tree(), &state)?;
-    write_step_lines(writer, &mut text, job.tree(), &mut state, job.schedule())?;
+    let tree = job.tree();
+    let mut text = first_lines(alloc, tree, &state)?;
+    let mut kept = none_kept(alloc, tree.len())?;
+    let events = job.schedule();
+    write_step_lines(
+        alloc, writer, &mut text, tree, &mut state, &mut kept, events,
+    )?;
     Ok(text)
 }
 
@@ -115,13 +124,16 @@ fn push_node_start(
 /// part of them may be there.
 #[tactic(auto, using(crate::proofs::ForCallers::kept_whole, crate::proofs::ForCallers::begun_here))]
 fn write_step_lines<W: Write>(
+    alloc: Global,
     writer: &mut W,
     text: &mut String,
     tree: &Tree,
     state: &mut TreeState,
+    kept: &mut Vec<Option<LinkLine>>,
     events: &[TreeEvent],
 ) -> Result<(), OutputFault>
     requires same_tree { state.old.parents ≡ tree.now.parents }
+    requires shows { ShowsAll tree.now kept.old.items state.old.links }
     requires named { All (NamesLink tree.now.parents) events.now }
     ensures lines { OnOk result (Written (W.contents writer.old) (W.contents writer.new)
         (string_bytes text.new)
@@ -131,7 +143,7 @@ fn write_step_lines<W: Write>(
         (string_bytes text.old ++ step_lines tree.now state.old events.now)) }
 {
     for event in events {
-        write_step_line(writer, text, tree, state, *event)?;
+        write_step_line(alloc, writer, text, tree, state, kept, *event)?;
     }
     Ok(())
 }
@@ -139,21 +151,25 @@ fn write_step_lines<W: Write>(
 /// Takes a step, adds its line, and writes what has grown to a block.
 #[tactic(auto, using(crate::proofs::ForCallers::kept_bytes))]
 fn write_step_line<W: Write>(
+    alloc: Global,
     writer: &mut W,
     text: &mut String,
     tree: &Tree,
     state: &mut TreeState,
+    kept: &mut Vec<Option<LinkLine>>,
     event: TreeEvent,
 ) -> Result<(), OutputFault>
     requires same_tree { state.old.parents ≡ tree.now.parents }
+    requires shows { ShowsAll tree.now kept.old.items state.old.links }
     requires named { NamesLink tree.now.parents event }
     ensures line { OnOk result (Written (W.contents writer.old) (W.contents writer.new)
         (string_bytes text.new) (string_bytes text.old ++ step_line tree.now state.old event)) }
     ensures steps { OnOk result (state.new ≡ tree_step state.old event) }
+    ensures shows { OnOk result (ShowsAll tree.now kept.new.items state.new.links) }
     ensures unwritten { IfErr result (λ fault. fault ≢ OutputFault.Write
         → Keeps (W.contents writer.old) (W.contents writer.new)) }
 {
-    match push_step_line(text, tree, state, event) {
+    match push_kept_line(alloc, text, kept, tree, state, event) {
         Ok(()) => write_block(writer, text),
         Err(TreeStepFault::Memory) => Err(OutputFault::Memory),
         Err(TreeStepFault::NoSuchLink) => unreachable!(),
@@ -199,8 +215,7 @@ fn push_link_line(
         None => Ok(()),
         Some(link) => {
             push_name_cell(text, tree, node)?;
-            push_act_cell(text, event)?;
-            push_effect_cell(text, effect)?;
+            push_act_cells(text, event, effect)?;
             push_state_cells(text, link, delivered_by(effect))
         }
     }

@@ -2,7 +2,7 @@ use Rattle.std.proofs.Common.{subst, sym}
 use Rattle.rignolda_draw.specs.Kept.{FollowsLink}
 use Rattle.rignolda_draw.specs.declared.queues.Before.{Before}
 use Rattle.rignolda_draw.proofs.Following.{link_follows}
-use Rattle.rignolda_draw.proofs.queues.Queues.step.Goals as goal
+use Rattle.rignolda_draw.proofs.link_text.LinkText.step.Goals as goal
 
 pub follow-requires : goal.follow-requires
 follow-requires c =
