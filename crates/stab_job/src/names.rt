@@ -90,11 +90,7 @@ impl Names {
     }
 
     /// The nodes of the names in a tree, where each is that of a node.
-    pub fn nodes_of(
-        &self,
-        alloc: Global,
-        tree: &Tree,
-    ) -> Result<Option<Vec<NodeId>>, AllocError>
+    pub fn nodes_of(&self, alloc: Global, tree: &Tree) -> Result<Option<Vec<NodeId>>, AllocError>
         ensures { IfOk result (λ found. IfSome found (λ nodes.
             AreNodesOf tree.now.names self.now nodes.items)) }
     {
