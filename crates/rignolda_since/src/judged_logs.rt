@@ -44,7 +44,8 @@ pub(crate) fn first_broken(
     Ok(None)
 }
 
-/// The first part that is broken at a node.
+/// The first part that is broken at a node. Whether the list is ordered is looked at only where it
+/// does not obey, to tell which part that is.
 #[tactic(auto, using(crate::proofs::AnyGarbage::what_obeys_is_ordered))]
 fn broken_at(
     alloc: Global,
@@ -60,10 +61,10 @@ fn broken_at(
     ensures broken { IfOk result (λ part. IfSome part (IsBrokenLog judge.now logs.now)) }
     ensures there { IfOk result (λ part. IfSome part (λ its. place_of its ≡ node)) }
 {
-    if !is_ordered(judge, job, logs, node) {
-        return Ok(Some(BrokenLog::Strays(node)));
-    }
     if !obeys_alone(alloc, judge, job, logs, node)? {
+        if !is_ordered(judge, job, logs, node) {
+            return Ok(Some(BrokenLog::Strays(node)));
+        }
         return Ok(Some(BrokenLog::Missing(node)));
     }
     if !follows_parent(judge, job, logs, node) {
