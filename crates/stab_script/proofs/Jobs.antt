@@ -1,5 +1,5 @@
 -- A start and a link job, by the members that were read.
-use Rattle.std.proofs.Common.{◌≡◌, ℕ, ◌<◌, List, [], ◌∷◌, length, Option, Some, None, MatchOption, Ok, Err, IsSome, IsUtf8, option_and_then, option_map, refl, sym, arith}
+use Rattle.std.proofs.Common.{◌≡◌, ℕ, ◌-◌, ◌<◌, List, [], ◌∷◌, length, Option, Some, None, MatchOption, Ok, Err, IsSome, IsUtf8, option_and_then, option_map, refl, sym, arith}
 use Rattle.std.proofs.lemmas.Bool.{le-ltb}
 use Rattle.std.proofs.lemmas.Str.{is_utf8-from_IsUtf8}
 use Rattle.json.specs.Token.{Token}
@@ -21,13 +21,13 @@ use Rattle.stab_script.specs.declared.link_job.LinkJob.{LinkJob}
 use Rattle.stab_script.specs.declared.link_job.LinkJobFault.{LinkJobFault}
 use Rattle.stab_script.proofs.LinkChecks.{all_pass}
 use Rattle.stab_script.specs.Standing.{Stands, MeansWithin, MembersMake}
-use Rattle.stab_script.specs.Members.{in_job, in_member, in_start, HasStart, HasJob, job_with}
+use Rattle.stab_script.specs.Members.{in_job, in_member, HasStart, HasJob, job_with}
 use Rattle.stab_script.proofs.Standing.{an_object}
 
 -- a start, by its members
-pub a_start : (ts rest : List Token) (frames : List Frame) (acks : List ℕ) (s r : ℕ) (ms : Members) → MembersMake in_start no_members (length ts) ts ms rest → HasStart frames acks (Some s) (Some r) ms
-    → MeansWithin in_member start (Token.begin_object ∷ ts) (record { frames = frames; acks = acks; send_label = s; recv_label = r }) rest
-a_start ts rest frames acks s r ms inside has = (object ms, an_object in_member ts rest ms (omega arith) inside, rw has.0 (rw has.1 (rw has.2 (rw has.3 refl))))
+pub a_start : (depth : ℕ) (ts rest : List Token) (frames : List Frame) (acks : List ℕ) (s r : ℕ) (ms : Members) → 0 < depth → MembersMake (depth - 1) no_members (length ts) ts ms rest → HasStart frames acks (Some s) (Some r) ms
+    → MeansWithin depth start (Token.begin_object ∷ ts) (record { frames = frames; acks = acks; send_label = s; recv_label = r }) rest
+a_start depth ts rest frames acks s r ms some inside has = (object ms, an_object depth ts rest ms some inside, rw has.0 (rw has.1 (rw has.2 (rw has.3 refl))))
 
 -- where the members are those of a start, both of its labels were read
 pub labels_read : (frames : List Frame) (acks : List ℕ) (send recv : Option ℕ) (ms : Members) → HasStart frames acks send recv ms → IsSome (start (object ms)) → IsSome send × IsSome recv

@@ -38,7 +38,7 @@ pub use events::{loss_act, plain_act};
 pub use fault::PartFault;
 pub use items::{next_item_lists, next_items};
 pub use link_job::{LinkJob, LinkJobFault, MAX_EVENTS, link_job_of_value, read_link_job_by_value};
-pub use number::{next_whole, whole_of};
+pub use number::{next_u16, next_whole, whole_of};
 pub use replay::replay_plain_link_job;
 pub use script_entry::{ScriptEntry, read_script};
 pub use stab_acts::{HalfScript, InAct, OutAct, Script, ScriptFault};

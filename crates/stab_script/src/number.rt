@@ -51,7 +51,7 @@ pub fn next_whole(reader: &mut Reader<'_>) -> Option<u64>
 }
 
 /// The whole number of 16 bits that comes next.
-pub(crate) fn next_u16(reader: &mut Reader<'_>) -> Option<u16>
+pub fn next_u16(reader: &mut Reader<'_>) -> Option<u16>
     ensures value { IfSome result (λ n. (depth : ℕ)
         → Stands depth reader.old (number (unsigned n)) reader.new) }
     ensures small { IfSome result (λ n. n ≤ 65535) }

@@ -1,9 +1,9 @@
-ghost use Rattle.std.specs.Prelude.{◌≡◌, ◌<◌, List, length, IfSome, IfOk, IsTrue};
+ghost use Rattle.std.specs.Prelude.{◌≡◌, ◌<◌, ℕ, List, length, IfSome, IfOk, IsTrue};
 ghost use Rattle.json.specs.Token.{Token as SpecToken};
 ghost use Rattle.serde_json.specs.Data.{Data, Members, no_members, put};
 ghost use Rattle.stab_script.specs.Starts.{start};
 ghost use Rattle.stab_script.specs.Standing.{Stands, MeansWithin, MembersMake};
-ghost use Rattle.stab_script.specs.Members.{in_member, in_start, HasStart};
+ghost use Rattle.stab_script.specs.Members.{HasStart};
 ghost use Rattle.stab_script.specs.Plain.{IsInObject, IsMemberOfStart, IsRead, IsStart};
 
 use crate::entry::Entry;
@@ -29,8 +29,8 @@ fn read_member(
     name: &str,
     parts: &mut StartParts,
 ) -> Result<bool, AllocError>
-    ensures value { IfOk result (λ done. IsTrue done → (d : Data)
-        × (Stands in_start reader.old d reader.new)
+    ensures value { IfOk result (λ done. IsTrue done → (depth : ℕ) → 1 < depth → (d : Data)
+        × (Stands depth reader.old d reader.new)
         × ((ms : Members)
         → HasStart parts.old.frames parts.old.acks parts.old.send parts.old.recv ms
         → HasStart parts.new.frames parts.new.acks parts.new.send parts.new.recv
@@ -71,8 +71,9 @@ fn read_member(
 
 /// The members of a start, whose opening brace was taken.
 fn read_members(alloc: Global, reader: &mut Reader<'_>) -> Result<Option<StartParts>, AllocError>
-    ensures value { IfOk result (λ found. IfSome found (λ parts. (ms : Members)
-        × (MembersMake in_start no_members (length reader.old) reader.old ms reader.new)
+    ensures value { IfOk result (λ found. IfSome found (λ parts. (depth : ℕ) → 1 < depth
+        → (ms : Members)
+        × (MembersMake depth no_members (length reader.old) reader.old ms reader.new)
         × HasStart parts.frames parts.acks parts.send parts.recv ms)) }
     ensures shorter { IfOk result (λ found. IfSome found (λ _.
         length reader.new < length reader.old)) }
@@ -100,8 +101,8 @@ fn read_members(alloc: Global, reader: &mut Reader<'_>) -> Result<Option<StartPa
 
 /// The start that comes next, where it has the plain form.
 pub fn next_start(alloc: Global, reader: &mut Reader<'_>) -> Result<Option<Start>, AllocError>
-    ensures value { IfOk result (λ found. IfSome found (λ its_start.
-        MeansWithin in_member start reader.old its_start reader.new)) }
+    ensures value { IfOk result (λ found. IfSome found (λ its_start. (depth : ℕ) → 2 < depth
+        → MeansWithin depth start reader.old its_start reader.new)) }
     ensures shorter { IfOk result (λ found. IfSome found (λ _.
         length reader.new < length reader.old)) }
     ensures plain { IfOk result (λ found. (rest : List SpecToken)

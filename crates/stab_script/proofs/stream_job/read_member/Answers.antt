@@ -1,4 +1,4 @@
-use Rattle.std.proofs.Common.{refl}
+use Rattle.std.proofs.Common.{refl, arith}
 use Rattle.serde_json.specs.Data.{array}
 use Rattle.stab_script.specs.Members.{in_member}
 use Rattle.stab_script.proofs.Meaning.{not_capped}
@@ -23,7 +23,7 @@ returns-in-Some-next_u16-clause-value c =
 pub returns-in-Some-2-clause-value : goal.returns-in-Some-2-clause-value
 returns-in-Some-2-clause-value c =
     let old = c.args.parts.now in
-    let first = rw c.in-Some-2.is at c.in_ok-start-in-start.ensures.value in
+    let first = (rw c.in-Some-2.is at c.in_ok-start-in-start.ensures.value) in_member (omega arith) in
     λ yes. (first.0, first.1, λ ms has. rw c.in-start.is (has_start old.capacity old.labels old.start old.events first.0 ms has c.in-Some-2.start first.2))
 
 pub returns-in-Some-3-clause-value : goal.returns-in-Some-3-clause-value

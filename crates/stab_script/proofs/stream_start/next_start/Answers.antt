@@ -1,9 +1,9 @@
-use Rattle.std.proofs.Common.{◌≡◌, ◌∷◌, Some, IsSome, refl, ap, subst, ◌∙◌, arith}
+use Rattle.std.proofs.Common.{◌≡◌, ◌-◌, ◌∷◌, Some, IsSome, refl, ap, subst, ◌∙◌, arith}
 use Rattle.json.specs.Token.{Token}
 use Rattle.json.specs.Reads.{token_of}
 use Rattle.serde_json.specs.Data.{object}
 use Rattle.stab_script.specs.Starts.{start}
-use Rattle.stab_script.specs.Members.{HasStart, in_member}
+use Rattle.stab_script.specs.Members.{HasStart, in_member, in_start}
 use Rattle.stab_script.specs.Plain.{IsInObject, IsMemberOfStart}
 use Rattle.stab_script.specs.Standing.{Stands}
 use Rattle.stab_script.proofs.Jobs.{a_start, labels_read}
@@ -19,16 +19,18 @@ returns-clause-value c =
     let parts = c.in-Some.parts in
     let s = c.in-Some-Some.send_label in
     let r = c.in-Some-Some.recv_label in
-    let found = rw c.in-Some.is at c.in_ok-parts.ensures.value in
+    let lists = rw c.in-Some.is at c.in_ok-parts.ensures.value in
+    λ depth some.
+    let found = lists (depth - 1) (omega (arith, some)) in
     let has : HasStart parts.frames parts.acks (Some s) (Some r) found.0 = rw (c.in-Some-Some.is-0, c.in-Some-Some.is-1) at found.2 in
-    rw is (a_start ts c.read_members.new.reader parts.frames parts.acks s r found.0 found.1 has)
+    rw is (a_start depth ts c.read_members.new.reader parts.frames parts.acks s r found.0 (omega (arith, some)) found.1 has)
 
 pub returns-in_default-3-clause-plain : goal.returns-in_default-3-clause-plain
 returns-in_default-3-clause-plain c =
     let ts = c.next.new.self in
     let is : c.args.reader.now ≡ Token.begin_object ∷ ts = c.in-Some-BeginObject.ensures.value ∙ ap (λ k. token_of k ∷ ts) c.in-Some-BeginObject.field-0-is in
     let parts = c.in-Some.parts in
-    let found = rw c.in-Some.is at c.in_ok-parts.ensures.value in
+    let found = (rw c.in-Some.is at c.in_ok-parts.ensures.value) in_start (omega arith) in
     λ rest p.
     let same : p.0 ≡ ts = one_rest Token.begin_object p.1 is in
     let over = (c.in_ok-parts.ensures.plain rest (subst (λ us. IsInObject IsMemberOfStart us rest) same p.2)).1 in
