@@ -42,7 +42,9 @@ mod version;
 pub use beside::Beside;
 pub use fault::JobFault;
 pub use job::Job;
+pub use names::Names;
 pub use read::{job_of_value, read_job_by_value};
+pub use step::next_act;
 pub use stream_read::{
     read_job, read_plain_job, read_plain_job_beside, read_unscheduled_job,
     read_unscheduled_job_beside, unscheduled_job_of_value,

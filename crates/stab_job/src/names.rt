@@ -19,7 +19,7 @@ const EMPTY: u8 = 255;
 /// however many there are. A place is answered only where the name is there, so no fact rests on
 /// what is in a slot.
 #[derive(Drop)]
-pub(crate) struct Names {
+pub struct Names {
     list: Vec<String>,
     slots: [u8; SLOTS],
 }
@@ -57,7 +57,7 @@ fn fill_slot(slots: &mut [u8; SLOTS], name: &str, place: u8) {
 
 impl Names {
     /// No names.
-    pub(crate) fn new(alloc: Global) -> Names
+    pub fn new(alloc: Global) -> Names
         ensures { result ≡ [] }
     {
         Names {
@@ -90,11 +90,7 @@ impl Names {
     }
 
     /// The nodes of the names in a tree, where each is that of a node.
-    pub(crate) fn nodes_of(
-        &self,
-        alloc: Global,
-        tree: &Tree,
-    ) -> Result<Option<Vec<NodeId>>, AllocError>
+    pub fn nodes_of(&self, alloc: Global, tree: &Tree) -> Result<Option<Vec<NodeId>>, AllocError>
         ensures { IfOk result (λ found. IfSome found (λ nodes.
             AreNodesOf tree.now.names self.now nodes.items)) }
     {
@@ -109,7 +105,7 @@ impl Names {
     }
 
     /// The place of a name, which is added where it is not found; none where there are too many.
-    pub(crate) fn place(&mut self, alloc: Global, name: &str) -> Result<Option<u16>, AllocError>
+    pub fn place(&mut self, alloc: Global, name: &str) -> Result<Option<u16>, AllocError>
         ensures grown { (self.new ≡ self.old) ⊎ (self.new ≡ self.old ++ name.now ∷ []) }
         ensures place { IfOk result (λ found. IfSome found (λ place.
             slice_get self.new place ≡ Some name.now)) }

@@ -90,7 +90,7 @@ fn next_loss(reader: &mut Reader<'_>, word: &str) -> Option<LinkAct>
 }
 
 /// The act of a step, whose name and word were taken.
-fn next_act(reader: &mut Reader<'_>, word: &str) -> Option<LinkAct>
+pub fn next_act(reader: &mut Reader<'_>, word: &str) -> Option<LinkAct>
     ensures value { IfSome result (λ act. (child : List ℕ) (depth : ℕ) → 0 < depth
         → MeansWithin depth named_act
         (token.begin_array ∷ token.string child ∷ token.string word.now ∷ reader.old)
