@@ -1,4 +1,5 @@
 pub mod Entries
+pub mod Finding
 pub mod Stepwise
 pub mod Unscheduled
 pub mod Faults

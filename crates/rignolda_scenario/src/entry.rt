@@ -14,14 +14,14 @@ ghost use Rattle.rignolda_scenario.specs.Entries.{step_of_three, step_of_two, st
 ghost use Rattle.rignolda_scenario.specs.Entries.{two_or_three};
 
 use crate::fault::StepFault;
+use crate::finder::NodeFinder;
 use crate::step::Step;
 use serde_json::Value;
 use stab_core::{LinkAct, Start};
 use stab_frames::{Item, Params, Sequence};
-use stab_job::Job;
 use stab_json::{label, read_entries};
 use stab_script::{PartFault, loss_act, plain_act, read_start};
-use stab_tree::{NodeId, Tree};
+use stab_tree::NodeId;
 use stab_treecore::{Change, TreeEvent};
 use std::alloc::Global;
 
@@ -36,34 +36,34 @@ fn is_word(value: &Value, word: &str) -> bool
 }
 
 /// The node that a value names.
-fn node_named(tree: &Tree, value: &Value) -> Result<NodeId, StepFault>
-    ensures { result ≡ node_named tree.now (view value.now) }
+fn node_named(finder: &NodeFinder<'_>, value: &Value) -> Result<NodeId, StepFault>
+    ensures { result ≡ node_named finder.now (view value.now) }
 {
     match value.as_str() {
-        Some(name) => tree.find(name).ok_or(StepFault::UnknownNode),
+        Some(name) => finder.find(name).ok_or(StepFault::UnknownNode),
         None => Err(StepFault::Shape),
     }
 }
 
 /// The child of the link that a value names, and the place of the link.
-fn link_named(tree: &Tree, value: &Value) -> Result<(NodeId, u16), StepFault>
-    ensures { result ≡ link_named tree.now (view value.now) }
+fn link_named(finder: &NodeFinder<'_>, value: &Value) -> Result<(NodeId, u16), StepFault>
+    ensures { result ≡ link_named finder.now (view value.now) }
 {
-    let child = node_named(tree, value)?;
-    match tree.link_place(child) {
+    let child = node_named(finder, value)?;
+    match finder.tree().link_place(child) {
         Some(place) => Ok((child, place)),
         None => Err(StepFault::Root),
     }
 }
 
 /// An act on the link that a value names, where there is an act.
-fn act_step(tree: &Tree, value: &Value, act: Option<LinkAct>) -> Result<Step, StepFault>
-    ensures { result ≡ act_step tree.now (view value.now) act }
+fn act_step(finder: &NodeFinder<'_>, value: &Value, act: Option<LinkAct>) -> Result<Step, StepFault>
+    ensures { result ≡ act_step finder.now (view value.now) act }
 {
     let Some(act) = act else {
         return Err(StepFault::Shape);
     };
-    let (child, _) = link_named(tree, value)?;
+    let (child, _) = link_named(finder, value)?;
     Ok(Step::One(Change::Act(TreeEvent { child, act })))
 }
 
@@ -113,23 +113,23 @@ fn publish_step(alloc: Global, word: &Value, values: &[Value]) -> Result<Step, S
 /// The restart of the node that a value names, with these items.
 fn restart_step(
     alloc: Global,
-    tree: &Tree,
+    finder: &NodeFinder<'_>,
     word: &Value,
     name: &Value,
     values: &[Value],
 ) -> Result<Step, StepFault>
     ensures { MatchResult result
-        (λ step. restart_step tree.now (view word.now) (view name.now) (items_view values.now)
+        (λ step. restart_step finder.now (view word.now) (view name.now) (items_view values.now)
         ≡ Ok step)
         (λ fault. fault ≢ StepFault.Memory
-        → restart_step tree.now (view word.now) (view name.now) (items_view values.now)
+        → restart_step finder.now (view word.now) (view name.now) (items_view values.now)
         ≡ Err fault) }
 {
     if !is_word(word, "restart") {
         return Err(StepFault::Shape);
     }
     let items = items_of(alloc, values)?;
-    let node = node_named(tree, name)?;
+    let node = node_named(finder, name)?;
     Ok(Step::One(Change::Restart(node, items)))
 }
 
@@ -161,27 +161,29 @@ fn start_fits(params: Params, start: &Start) -> Result<(), StepFault>
     Ok(())
 }
 
-/// A strike at the link of a job that a value names, after which this is in it.
+/// A strike at the link that a value names, after which this is in it; the links have these
+/// parameters.
 fn strike_step(
     alloc: Global,
-    job: &Job,
+    finder: &NodeFinder<'_>,
     word: &Value,
     name: &Value,
     value: &Value,
+    params: &[Params],
 ) -> Result<Step, StepFault>
     ensures { MatchResult result
-        (λ step. strike_step job.now.tree job.now.params (view word.now) (view name.now)
+        (λ step. strike_step finder.now params.now (view word.now) (view name.now)
         (view value.now) ≡ Ok step)
         (λ fault. fault ≢ StepFault.Memory
-        → strike_step job.now.tree job.now.params (view word.now) (view name.now)
+        → strike_step finder.now params.now (view word.now) (view name.now)
         (view value.now) ≡ Err fault) }
 {
     if !is_word(word, "strike") {
         return Err(StepFault::Shape);
     }
     let start = start_of(alloc, value)?;
-    let (child, place) = link_named(job.tree(), name)?;
-    let Some(own) = job.params().get(usize::from(place)) else {
+    let (child, place) = link_named(finder, name)?;
+    let Some(own) = params.get(usize::from(place)) else {
         return Err(StepFault::Root);
     };
     start_fits(*own, &start)?;
@@ -202,11 +204,16 @@ fn rounds_step(word: &Value, count: u16) -> Result<Step, StepFault>
 }
 
 /// The step of a list of two values.
-fn step_of_two(alloc: Global, tree: &Tree, first: &Value, second: &Value) -> Result<Step, StepFault>
+fn step_of_two(
+    alloc: Global,
+    finder: &NodeFinder<'_>,
+    first: &Value,
+    second: &Value,
+) -> Result<Step, StepFault>
     ensures { MatchResult result
-        (λ step. step_of_two tree.now (view first.now) (view second.now) ≡ Ok step)
+        (λ step. step_of_two finder.now (view first.now) (view second.now) ≡ Ok step)
         (λ fault. fault ≢ StepFault.Memory
-        → step_of_two tree.now (view first.now) (view second.now) ≡ Err fault) }
+        → step_of_two finder.now (view first.now) (view second.now) ≡ Err fault) }
 {
     match second {
         Value::Array(values) => publish_step(alloc, first, values.as_slice()),
@@ -214,29 +221,30 @@ fn step_of_two(alloc: Global, tree: &Tree, first: &Value, second: &Value) -> Res
             Some(count) => rounds_step(first, count),
             None => Err(StepFault::Shape),
         },
-        _ => act_step(tree, first, plain_of(second)),
+        _ => act_step(finder, first, plain_of(second)),
     }
 }
 
-/// The step of a list of three values, for a job.
+/// The step of a list of three values, where the links have these parameters.
 fn step_of_three(
     alloc: Global,
-    job: &Job,
+    finder: &NodeFinder<'_>,
+    params: &[Params],
     first: &Value,
     second: &Value,
     third: &Value,
 ) -> Result<Step, StepFault>
     ensures { MatchResult result
-        (λ step. step_of_three job.now.tree job.now.params (view first.now) (view second.now)
+        (λ step. step_of_three finder.now params.now (view first.now) (view second.now)
         (view third.now) ≡ Ok step)
         (λ fault. fault ≢ StepFault.Memory
-        → step_of_three job.now.tree job.now.params (view first.now) (view second.now)
+        → step_of_three finder.now params.now (view first.now) (view second.now)
         (view third.now) ≡ Err fault) }
 {
     match third {
-        Value::Array(values) => restart_step(alloc, job.tree(), first, second, values.as_slice()),
-        Value::Object(_) => strike_step(alloc, job, first, second, third),
-        _ => act_step(job.tree(), first, loss_of(second, third)),
+        Value::Array(values) => restart_step(alloc, finder, first, second, values.as_slice()),
+        Value::Object(_) => strike_step(alloc, finder, first, second, third, params),
+        _ => act_step(finder, first, loss_of(second, third)),
     }
 }
 
@@ -253,29 +261,41 @@ fn two_or_three(values: &[Value]) -> Option<(&Value, &Value, Option<&Value>)>
     }
 }
 
-/// The step that these values are, for a job.
-fn step_of_values(alloc: Global, job: &Job, values: &[Value]) -> Result<Step, StepFault>
+/// The step that these values are, where the links have these parameters.
+fn step_of_values(
+    alloc: Global,
+    finder: &NodeFinder<'_>,
+    params: &[Params],
+    values: &[Value],
+) -> Result<Step, StepFault>
     ensures { MatchResult result
-        (λ step. step_of_items job.now.tree job.now.params (items_view values.now) ≡ Ok step)
+        (λ step. step_of_items finder.now params.now (items_view values.now) ≡ Ok step)
         (λ fault. fault ≢ StepFault.Memory
-        → step_of_items job.now.tree job.now.params (items_view values.now) ≡ Err fault) }
+        → step_of_items finder.now params.now (items_view values.now) ≡ Err fault) }
 {
     match two_or_three(values) {
-        Some((first, second, None)) => step_of_two(alloc, job.tree(), first, second),
-        Some((first, second, Some(third))) => step_of_three(alloc, job, first, second, third),
+        Some((first, second, None)) => step_of_two(alloc, finder, first, second),
+        Some((first, second, Some(third))) => {
+            step_of_three(alloc, finder, params, first, second, third)
+        }
         None => Err(StepFault::Shape),
     }
 }
 
-/// The step that a value is, for a job.
-pub(crate) fn read_step(alloc: Global, job: &Job, value: &Value) -> Result<Step, StepFault>
+/// The step that a value is, of a tree whose links have these parameters.
+pub(crate) fn read_step(
+    alloc: Global,
+    finder: &NodeFinder<'_>,
+    params: &[Params],
+    value: &Value,
+) -> Result<Step, StepFault>
     ensures { MatchResult result
-        (λ step. step_of job.now.tree job.now.params (view value.now) ≡ Ok step)
+        (λ step. step_of finder.now params.now (view value.now) ≡ Ok step)
         (λ fault. fault ≢ StepFault.Memory
-        → step_of job.now.tree job.now.params (view value.now) ≡ Err fault) }
+        → step_of finder.now params.now (view value.now) ≡ Err fault) }
 {
     match value.as_array() {
-        Some(values) => step_of_values(alloc, job, values.as_slice()),
+        Some(values) => step_of_values(alloc, finder, params, values.as_slice()),
         None => Err(StepFault::Shape),
     }
 }

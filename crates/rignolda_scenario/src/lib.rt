@@ -13,6 +13,7 @@ mod count;
 mod entry;
 mod fault;
 mod few;
+mod finder;
 mod hits;
 pub mod laws;
 mod read;

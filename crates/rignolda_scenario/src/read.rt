@@ -8,9 +8,10 @@ ghost use Rattle.rignolda_scenario.specs.Scenarios.{with_steps_of};
 
 use crate::entry::read_step;
 use crate::fault::{ScenarioFault, StepFault};
+use crate::finder::NodeFinder;
 use crate::step::Step;
 use serde_json::Value;
-use stab_frames::Sequence;
+use stab_frames::{Params, Sequence};
 use stab_job::{Job, JobFault, read_unscheduled_job, unscheduled_job_of_value};
 use std::alloc::Global;
 
@@ -94,47 +95,53 @@ fn steps_of_value(alloc: Global, job: &Job, value: &Value) -> Result<Sequence<St
         (λ fault. fault ≢ ScenarioFault.Memory → steps_of job.now (view value.now) ≡ Err fault) }
 {
     match listed_steps(value) {
-        Some(values) => steps_of_values(alloc, job, values),
+        Some(values) => {
+            let finder = NodeFinder::new(job.tree());
+            steps_of_values(alloc, &finder, job.params(), values)
+        }
         None => Err(ScenarioFault::Steps),
     }
 }
 
-/// The step of this number that a value means, for a job.
+/// The step of this number that a value means, of a tree whose links have these parameters.
 fn numbered_step(
     alloc: Global,
-    job: &Job,
+    finder: &NodeFinder<'_>,
+    params: &[Params],
     number: u64,
     value: &Value,
 ) -> Result<Step, ScenarioFault>
     ensures { MatchResult result
-        (λ step. numbered job.now.tree job.now.params number (view value.now) ≡ Ok step)
+        (λ step. numbered finder.now params.now number (view value.now) ≡ Ok step)
         (λ fault. fault ≢ ScenarioFault.Memory
-        → numbered job.now.tree job.now.params number (view value.now) ≡ Err fault) }
+        → numbered finder.now params.now number (view value.now) ≡ Err fault) }
 {
-    match read_step(alloc, job, value) {
+    match read_step(alloc, finder, params, value) {
         Ok(step) => Ok(step),
         Err(StepFault::Memory) => Err(ScenarioFault::Memory),
         Err(fault) => Err(ScenarioFault::Step(number, fault)),
     }
 }
 
-/// The steps that these values mean for a job, or the fault of the first that means none.
+/// The steps that these values mean of a tree whose links have these parameters, or the fault of the
+/// first that means none.
 #[tactic(auto, using(crate::proofs::Stepwise::none_before, crate::proofs::Stepwise::no_step_there))]
 fn steps_of_values(
     alloc: Global,
-    job: &Job,
+    finder: &NodeFinder<'_>,
+    params: &[Params],
     values: &[Value],
 ) -> Result<Sequence<Step>, ScenarioFault>
     ensures { MatchResult result
-        (λ steps. steps_after job.now.tree job.now.params 0 (items_view values.now) ≡ Ok steps)
+        (λ steps. steps_after finder.now params.now 0 (items_view values.now) ≡ Ok steps)
         (λ fault. fault ≢ ScenarioFault.Memory
-        → steps_after job.now.tree job.now.params 0 (items_view values.now) ≡ Err fault) }
+        → steps_after finder.now params.now 0 (items_view values.now) ≡ Err fault) }
 {
     let mut steps = Sequence::new(alloc);
     let _total = values.len();
     for value in values {
         let number = steps.len() as u64 + 1;
-        let step = numbered_step(alloc, job, number, value)?;
+        let step = numbered_step(alloc, finder, params, number, value)?;
         steps.push(step)?;
     }
     Ok(steps)

@@ -8,8 +8,8 @@ use Rattle.rignolda_scenario.proofs.read.steps_of_values.Goals as goal
 
 pub loop-value-preserved : goal.loop-value-preserved
 loop-value-preserved c =
-    let t = c.args.job.now.tree in
-    let params = c.args.job.now.params in
+    let t = c.args.finder.now in
+    let params = c.args.params.now in
     let vs = c.args.values.now in
     let i = c.loop-value.value-index in
     let before = c.loop-value.steps in
@@ -26,8 +26,8 @@ loop-value-preserved c =
 
 pub returns-in_err-step : goal.returns-in_err-step
 returns-in_err-step c =
-    let t = c.args.job.now.tree in
-    let params = c.args.job.now.params in
+    let t = c.args.finder.now in
+    let params = c.args.params.now in
     let vs = c.args.values.now in
     let i = c.loop-value.value-index in
     let its_fault = c.in_err-step.field-0.0 in

@@ -8,5 +8,5 @@ use Rattle.rignolda_scenario.proofs.read.steps_of_values.Given as goal
 abbrev pub invariant-loop-value : goal.invariant-loop-value
 invariant-loop-value l =
     (length l.steps ≡ l.value-index)
-    × (steps_after l.job.tree l.job.params 0 (items_view l.values)
-    ≡ behind l.steps (steps_after l.job.tree l.job.params l.value-index (items_view (drop l.value-index l.values))))
+    × (steps_after l.finder l.params 0 (items_view l.values)
+    ≡ behind l.steps (steps_after l.finder l.params l.value-index (items_view (drop l.value-index l.values))))
