@@ -2,6 +2,10 @@ pub mod Entries
 pub mod Finding
 pub mod Stepwise
 pub mod Unscheduled
+pub mod NamedMeaning
+pub mod Tabled
+pub mod Streamed
+pub mod BesideJob
 pub mod Faults
 pub mod Counting
 pub mod Spared

@@ -1,5 +1,6 @@
 pub mod Refusals
 pub mod Entries
+pub mod NamedSteps
 pub mod Scenarios
 pub mod Played
 pub mod LastFault

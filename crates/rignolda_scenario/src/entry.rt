@@ -148,7 +148,7 @@ fn start_of(alloc: Global, value: &Value) -> Result<Start, StepFault>
 }
 
 /// Whether a link of these parameters can have this in it.
-fn start_fits(params: Params, start: &Start) -> Result<(), StepFault>
+pub(crate) fn start_fits(params: Params, start: &Start) -> Result<(), StepFault>
     ensures { result ≡ start_fits params start.now }
 {
     let capacity = usize::from(params.capacity());

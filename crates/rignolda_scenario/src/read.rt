@@ -1,4 +1,4 @@
-ghost use Rattle.std.specs.Prelude.{◌≡◌, ◌≢◌, MatchResult, Ok, Err, IfOk, option_map};
+ghost use Rattle.std.specs.Prelude.{◌≡◌, ◌≢◌, MatchResult, Ok, Err, IfOk, IfSome, option_map};
 ghost use Rattle.serde_json.specs.View.{view, items_view};
 ghost use Rattle.stab_job.specs.Jobs.{job};
 ghost use Rattle.stab_job.specs.Unscheduled.{IsUnscheduled};
@@ -10,10 +10,13 @@ use crate::entry::read_step;
 use crate::fault::{ScenarioFault, StepFault};
 use crate::finder::NodeFinder;
 use crate::step::Step;
+use crate::stream::StepList;
 use serde_json::Value;
 use stab_frames::{Params, Sequence};
-use stab_job::{Job, JobFault, read_unscheduled_job, unscheduled_job_of_value};
-use std::alloc::Global;
+use stab_job::{
+    Job, JobFault, read_plain_job_beside, read_unscheduled_job, unscheduled_job_of_value,
+};
+use std::alloc::{AllocError, Global};
 
 /// A job of a tree, and the steps that happen to it.
 #[derive(Debug)]
@@ -33,8 +36,39 @@ impl Drop for Scenario {
 
 /// The scenario that these bytes mean, or the first check that they fail; memory may be refused
 /// before a later check.
-#[tactic(auto, using(crate::proofs::Unscheduled::by_its_steps))]
 pub fn read_scenario(alloc: Global, bytes: &[u8]) -> Result<Scenario, ScenarioFault>
+    ensures scenario { MatchResult result
+        (λ its_scenario. scenario bytes.now ≡ Ok its_scenario)
+        (λ fault. fault ≢ ScenarioFault.Memory → scenario bytes.now ≡ Err fault) }
+{
+    match read_plain_scenario(alloc, bytes) {
+        Ok(Some(scenario)) => Ok(scenario),
+        Ok(None) => read_scenario_by_value(alloc, bytes),
+        Err(_) => Err(ScenarioFault::Memory),
+    }
+}
+
+/// The scenario that these bytes mean, where they have the plain form and pass each check; nothing
+/// is said of them where there is none.
+fn read_plain_scenario(alloc: Global, bytes: &[u8]) -> Result<Option<Scenario>, AllocError>
+    ensures { IfOk result (λ found. IfSome found (λ its_scenario.
+        scenario bytes.now ≡ Ok its_scenario)) }
+{
+    let Some((job, _, steps)) = read_plain_job_beside::<StepList>(alloc, bytes, false)? else {
+        return Ok(None);
+    };
+    let Some(steps) = steps else {
+        return Ok(None);
+    };
+    let Some(steps) = steps.into_steps(alloc, job.tree(), job.params())? else {
+        return Ok(None);
+    };
+    Ok(Some(Scenario { job, steps }))
+}
+
+/// The same, read by the value of the steps.
+#[tactic(auto, using(crate::proofs::Unscheduled::by_its_steps))]
+fn read_scenario_by_value(alloc: Global, bytes: &[u8]) -> Result<Scenario, ScenarioFault>
     ensures scenario { MatchResult result
         (λ its_scenario. scenario bytes.now ≡ Ok its_scenario)
         (λ fault. fault ≢ ScenarioFault.Memory → scenario bytes.now ≡ Err fault) }
@@ -123,8 +157,8 @@ fn numbered_step(
     }
 }
 
-/// The steps that these values mean of a tree whose links have these parameters, or the fault of the
-/// first that means none.
+/// The steps that these values mean of a tree whose links have these parameters, or the fault of
+/// the first that means none.
 #[tactic(auto, using(crate::proofs::Stepwise::none_before, crate::proofs::Stepwise::no_step_there))]
 fn steps_of_values(
     alloc: Global,
