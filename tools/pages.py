@@ -127,7 +127,10 @@ def says_why(text):
     ones there are. Where they are all of memory or of writing, that is enough."""
     if re.search(r"\.new\b|\bKeeps\b", text):
         return False
-    if re.match(r"MatchResult result|result ≡ (?!Err\b)|IsErrOf result \S+ ↔|OnErr result", text):
+    # (also of whatever value the answer is about)
+    of = r"(\(\w+ : \w+\) → [^→]+ → )?"
+    if re.match(of + r"(MatchResult result|result ≡ (?!Err\b)|IsErrOf result \S+ ↔|OnErr result)",
+                text):
         return True
     body = re.match(r"IfErr result \((?:λ fault\.)?(.*)\)$", text)
     if not body or re.fullmatch(r"( ?⊎? ?\(fault ≡ \w+\.(Write|Memory)\))+", body[1]):
