@@ -351,6 +351,9 @@ tried("one that is in no function is tried in the whole crate", 0, "1 passed, 0 
       [("= 4", "= 5 wrong")])
 tried("those that are tried by hand", 0, "1 passed, 0 failed", [ONE], [FIRST], "--more", "low",
       folder="more_edits")
+tried("controls are proved, and where one is not, each is tried alone", 1, "1 passed, 1 failed",
+      [TWO + ONE, ONE, TWO], [("first", "right"), ("second", "wrong")], "--controls", "low",
+      folder="controls")
 holds("a crate that is not listed is refused",
       house.run(house.top / "tests/try_edits.py", "no_such").status == 2)
 

@@ -1,5 +1,11 @@
 #!/usr/bin/env python3
-"""Sees planted bugs refused, each in its own function: tests/try_edits.py [--more] [CRATE..]
+"""Sees planted bugs refused, each in its own function.
+
+    tests/try_edits.py [CRATE..]               those of tests/edits, as the gate does
+    tests/try_edits.py --more [CRATE..]        those of tests/more_edits, which show what one of the
+                                               gate shows as well, or a smaller clause: by hand,
+                                               where their crate has changed
+    tests/try_edits.py --controls [CRATE..]    sees that the controls of planted bugs are proved
 
 `rt ci` proves a crate once more for the edits of crates/CRATE/must-fail, and loads it for each. But
 an edit changes the body of a function, and all else rests on that function's contract. So here the
@@ -8,10 +14,8 @@ left in this folder, and edits of several functions of a crate are tried togethe
 each. An edit is refused where its own function is not proved, for its meaning and not because a
 proof names what is gone, and nothing else is refused but what calls such a function.
 
-The gate tries those of tests/edits. With --more they are those of tests/more_edits, which show
-what one of the gate shows as well, or a smaller clause: they are tried by hand, where their crate
-has changed. RT_JOBS says how many checks run at once. Nothing of this repository is touched. Each
-edit is one case, and the last line is 'N passed, M failed'.
+RT_JOBS says how many checks run at once. Nothing of this repository is touched. Each edit is one
+case, and the last line is 'N passed, M failed'.
 """
 import concurrent.futures
 import os
@@ -81,9 +85,12 @@ def rounds(crate, edits):
     return found
 
 
-def checked(crate, texts, paths):
-    """What the check of these functions of a crate says, with these texts in its files, and its
-    status."""
+def checked(crate, edits, names):
+    """What the check of a crate says with the edits of these names, each given with the paths of
+    its functions, which are looked at alone; and its status."""
+    texts = texts_with(f"{TOP}/crates/{crate}", [edits[name] for name in names])
+    if texts is None:
+        return "its texts are not in its file once", 1
     with tempfile.TemporaryDirectory(prefix="rt-edit-") as room:
         for part in ("src", "specs", "proofs"):
             if os.path.isdir(f"{TOP}/crates/{crate}/{part}"):
@@ -93,7 +100,8 @@ def checked(crate, texts, paths):
                 it.write(text)
         root = next(it for it in ("src/lib.rt", "src/main.rt") if os.path.isfile(f"{room}/{it}"))
         words = [*compiler("check", crate, root), "--jobs", "1"]
-        words += [word for path in sorted(paths - {""}) for word in ("--only", path)]
+        words += [word for path in sorted(set().union(*names.values()) - {""})
+                  for word in ("--only", path)]
         ran = subprocess.run(words, cwd=room, stdin=subprocess.DEVNULL, stdout=subprocess.PIPE,
                              stderr=subprocess.STDOUT, text=True, errors="replace")
     return ran.stdout, ran.returncode
@@ -120,13 +128,9 @@ def is_one(path, paths):
 
 
 def tried(crate, edits, names):
-    """Checks a crate with the edits of these names, each given with the paths of its functions. Of
-    each edit: its name, whether it is refused, and what was said."""
-    texts = texts_with(f"{TOP}/crates/{crate}", [edits[name] for name in names])
-    if texts is None:
-        return [(name, False, "its texts are not in its file once") for name in names]
+    """Of each of these edits: its name, whether it is refused, and what was said."""
     whole, is_alone = set().union(*names.values()), len(names) == 1
-    said, status = checked(crate, texts, whole)
+    said, status = checked(crate, edits, names)
     told = [line for line in said.split("\n") if re.match(r"(note: )?\S+:\d+:\d+: |error", line)]
     refused = refusals(said, told)
     others = [why for path, why in refused.items() if not is_one(path, whole)]
@@ -145,26 +149,39 @@ def tried(crate, edits, names):
     return found
 
 
+def proved(crate, edits, names):
+    """The same of controls, each of which has to be proved."""
+    said, status = checked(crate, edits, names)
+    if status and len(names) > 1:
+        return [proved(crate, edits, {name: names[name]})[0] for name in names]
+    why = "it is proved" if status == 0 else said.strip()[-160:]
+    return [(name, status == 0, why) for name in names]
+
+
+# What is asked for: the folder of its edits, and what tries them.
+KINDS = {"": ("edits", tried), "--more": ("more_edits", tried), "--controls": ("controls", proved)}
+
+
 def main(words):
-    folder = "tests/more_edits" if "--more" in words else "tests/edits"
-    words, crates = [it for it in words if it != "--more"], listed()
+    kind = words[0] if words and words[0] in KINDS else ""
+    (folder, tries), words, crates = KINDS[kind], words[bool(kind):], listed()
     unknown = [it for it in words if it not in crates]
     if unknown:
         print(f"try_edits: crates.txt lists no crate {unknown[0]}", file=sys.stderr)
         return 2
     passed = failed = 0
     jobs = os.environ.get("RT_JOBS", "")
-    edits = {crate: edits_in(f"{folder}/{crate}") for crate in words or crates}
+    edits = {crate: edits_in(f"tests/{folder}/{crate}") for crate in words or crates}
     works = [(crate, names) for crate in edits for names in rounds(crate, edits[crate])]
     with concurrent.futures.ThreadPoolExecutor(int(jobs) if jobs.isdigit() else tasks()[0]) as pool:
         # (the longest ones first, so that none of them is left alone at the end)
-        begun = {place: pool.submit(tried, crate, edits[crate], names)
+        begun = {place: pool.submit(tries, crate, edits[crate], names)
                  for place, (crate, names) in sorted(
                      enumerate(works), key=lambda it: -lines_of(it[1][0]))}
         for place, (crate, _) in enumerate(works):
-            for name, is_refused, why in begun[place].result():
-                passed, failed = passed + is_refused, failed + (not is_refused)
-                print(f"{'refused' if is_refused else 'FAILED'} {crate}/{name}: {why}", flush=True)
+            for name, is_well, why in begun[place].result():
+                passed, failed = passed + is_well, failed + (not is_well)
+                print(f"{'well  ' if is_well else 'FAILED'} {crate}/{name}: {why}", flush=True)
     print(f"{passed} passed, {failed} failed")
     return 1 if failed else 0
 
