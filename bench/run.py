@@ -3,8 +3,8 @@
 
 Makes the jobs in bench/build/ (the same bytes each time), runs each job five times, and prints the
 median of the processor time, the events per second and the peak memory. Nothing is subtracted: a
-time is that of the whole process. Run it by hand; the gate does not. Needs Python 3.9 or later,
-and the kit, whose clang builds tests/hostile/measure.c.
+time is that of the whole process. Run it by hand; the gate does not. It needs Python 3.9 or later,
+and Debian's package time.
 Without --stab it measures the program of ./stab, which builds it if that was not done yet for these
 sources.
 
@@ -29,7 +29,7 @@ BUILD = os.path.join(HERE, "build")
 TOP = os.path.dirname(HERE)
 sys.dont_write_bytecode = True
 sys.path[:0] = [os.path.join(TOP, "tools"), os.path.join(TOP, "tests", "hostile")]
-from largest import build_measure, run  # noqa: E402
+from largest import run  # noqa: E402
 from programs import built  # noqa: E402
 
 RUNS = 5
@@ -214,11 +214,10 @@ def main():
     if options.runs:
         measure_runs(program)
         return
-    measure = build_measure(BUILD)
     print(f"{'job':24} {'events':>9} {'MB':>6} {'ms':>8} {'events/s':>11} {'peak MB':>8}")
     for words, name, count, job in jobs(options.quick):
         path = path_of(words, name, count, job)
-        runs = [run(measure, program, words, path) for _ in range(RUNS)]
+        runs = [run(program, words, path) for _ in range(RUNS)]
         found = [(processor, peak) for _, processor, peak, status, _ in runs if status == 0]
         if not found:
             print(f"{name:24} {count:9} refused")
