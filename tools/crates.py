@@ -107,15 +107,6 @@ def lines_of(crate, top=TOP):
                if "/out" not in at and name.endswith((".rt", ".antt")))
 
 
-def anew():
-    """The words that have rt ci prove all from nothing. Of some kits it takes what it has passed
-    before on this machine, unless it is told this; of others it always begins from nothing, and
-    knows no such word."""
-    said = subprocess.run(["rt", "help"], stdin=subprocess.DEVNULL, stdout=subprocess.PIPE,
-                          stderr=subprocess.STDOUT, text=True).stdout
-    return ["--anew"] if "--anew" in said else []
-
-
 def kit():
     """The folder of the kit."""
     said = subprocess.run(["rt", "doc"], check=True, stdout=subprocess.PIPE, text=True).stdout

@@ -24,8 +24,8 @@ A program is linked by tools/static.py, of the object of which rt ci has linked 
 is no such C library here, or another one, --check compares that object. The programs of the daemon
 are made by tools/build_daemon --keep; --check sees that they and their sources are those of their
 lines. What was built is kept in out/, under names with its digest, that of its sources and the kit,
-and a build takes what checks have kept there, where it need not begin from nothing. It needs
-Python 3.8.
+and a build takes what rt ci has passed before on this machine, where it need not begin from
+nothing. It needs Python 3.8.
 """
 import contextlib
 import fcntl
@@ -46,7 +46,7 @@ from pathlib import Path
 
 import index_page
 import static
-from crates import anew, below, compiler, kit, listed, read, tasks
+from crates import below, compiler, kit, listed, read, tasks
 from programs import Cases
 from running import Commands, Interrupted
 from static import digest_of
@@ -57,8 +57,6 @@ LOG = KEPT / "build.log"
 DAEMON = TOP / "tools/build_daemon"
 # A build during which the sources change is made again, at most so often.
 MAX_BUILDS = 3
-# The modules of tests at the end of a first file.
-TESTS = re.compile(r"^#\[cfg\(test\)\]\nmod ([a-z0-9_]*);\n", re.M)
 WASM = "wasm64-unknown-unknown"
 # The artefacts for arm64 have names that begin so; the others are for x86-64, or for a page.
 ARM64 = "arm64/"
@@ -196,8 +194,7 @@ class Release(Commands):
                 self.fail(f"the file {KEPT}/lock cannot be written")
 
     def copy_sources(self, to, needed, crates):
-        """Copies what artefacts need to a folder, without the tests in it, which would be proved as
-        well, and moves the last crates beside it."""
+        """Copies what artefacts need to a folder, and moves the last crates beside it."""
         paths = ["HANDLES"]
         for crate in needed:
             parts = ["src", "specs", "proofs"]
@@ -212,14 +209,6 @@ class Release(Commands):
                 shutil.copy(TOP / path, to / path)
         (to / "crates.txt").write_text("".join(
             f"{crates[it].line}\n" for it in needed if it not in self.last))
-        for file in to.glob("crates/*/src/*.rt"):
-            if file.stem in ("lib", "main"):
-                text = read(file)
-                for module in TESTS.findall(text):
-                    file.with_name(f"{module}.rt").unlink(missing_ok=True)
-                    shutil.rmtree(file.with_name(module), ignore_errors=True)
-                # (the layout is right again without the empty lines that are then at the end)
-                file.write_text(TESTS.sub("", text).rstrip("\n") + "\n")
         for crate in self.last:
             shutil.move(to / "crates" / crate, to.parent / crate)
 
@@ -349,24 +338,10 @@ class Release(Commands):
         made = home / "out" / flat(name)
         made.parent.mkdir(exist_ok=True)
         made.unlink(missing_ok=True)
-        # (a check has left the libraries below with stamps, as rt itself takes them)
         if any((tree / f"crates/{it}/out/rlib/stamp").is_file() for it in below(crate, listed())):
-            return self.make_over_checks(home, name)
+            self.fail("checks have left other libraries here than rt ci does: run that first")
         is_well = (self.make_module(tree, crate, made) if kind == "module" else
                    self.make_archive(tree, name, made))
-        return made if is_well and made.is_file() else None
-
-    def make_over_checks(self, home, name):
-        """Makes a library or a module over what checks have kept, and answers its file, or None."""
-        kind, crate = self.artefacts[name][:2]
-        tree, by_rt = home.parent.parent, kind == "library" and not name.startswith(ARM64)
-        made = home / "out" / (f"lib{crate}.a" if by_rt else flat(name))
-        made.unlink(missing_ok=True)
-        is_well = self.does(["rt", "lib"] if by_rt else ["rt", "check", "--jobs", "1"], home)
-        if kind == "module":
-            is_well = is_well and self.make_module(tree, crate, made)
-        elif not by_rt:
-            is_well = is_well and self.make_archive(tree, name, made)
         return made if is_well and made.is_file() else None
 
     def keep(self, name, made):
@@ -394,8 +369,7 @@ class Release(Commands):
         tree = self.room / "tree"
         self.copy_sources(tree, needed, crates)
         with open(LOG, "a", encoding="utf-8") as self.log:
-            words = anew() if is_anew else []
-            process = self.start(["rt", "ci", *words], tree, stdout=subprocess.PIPE)
+            process = self.start(["rt", "ci", *["--anew"] * is_anew], tree, stdout=subprocess.PIPE)
             for line in process.stdout:
                 self.tell(line)
             is_well = self.end(process) == 0
@@ -419,30 +393,6 @@ class Release(Commands):
                     break
                 time.sleep(0.1)
         self.room = None
-
-    def build_over_kept(self, name):
-        """Proves and builds what has changed of an artefact since the last time, crate after crate.
-        """
-        kind, crate = self.artefacts[name][:2]
-        home = TOP / "crates" / crate
-        LOG.write_text("")
-        if kind == "program" and name.startswith(ARM64):
-            made = self.does(["rt", "check"], home) and self.make_program(TOP, name)
-        elif kind == "program":
-            words = read(home / "args").splitlines()
-            given = home / "stdin" if (home / "stdin").is_file() else os.devnull
-            with open(given, "rb") as given:
-                self.does(["rt", "run", "--backend", "rattle", *["--"] * bool(words), *words], home,
-                          stdin=given)
-            # (the status is that of the program, which rt runs once it is built)
-            own = home / "out" / crate
-            made = (re.search("^rt: running ", read(LOG), re.M) and self.is_object_of(own)
-                    and self.make_static(name, own))
-        else:
-            made = self.make_over_checks(home, name)
-        if not made:
-            self.fail(f"{name} was not built, and what rt said is in {LOG}")
-        self.keep(name, made)
 
     def name_fresh(self):
         """Gives fresh artefacts their names in out/, and removes what was built of them before."""
@@ -469,7 +419,7 @@ class Release(Commands):
 
     def build(self, why, is_anew):
         """Proves and builds the artefacts. With `is_anew` this begins from nothing; else it takes
-        what was built before, and what checks or the gate have kept."""
+        what was built before, and what rt ci has passed."""
         if not shutil.which("rt"):
             self.fail(f"{why}: the command rt of the Rattle kit is needed to prove and build the "
                       "program")
@@ -481,23 +431,14 @@ class Release(Commands):
         except OSError:
             self.fail(f"the file {LOG} cannot be written")
         self.take_lock()
-        is_over, how = False, "which takes up to half an hour"
-        if is_anew:
-            how = "from nothing, which takes up to half an hour"
-        elif any((TOP / f"crates/{it.crate}/out/incremental").is_dir()
-                 for it in self.artefacts.values()):
-            is_over, how = True, "over what was kept, which takes minutes"
         for count in range(MAX_BUILDS):
             if not is_anew and all(it.built for it in self.artefacts.values()):
                 return
             self.say("the sources have changed during the build: building again" if count else
-                     f"{why}: proving and building {' '.join(self.artefacts)} {how}")
+                     f"{why}: proving and building {' '.join(self.artefacts)}"
+                     f"{' from nothing' * is_anew}, which takes up to half an hour")
             self.fresh, before = {}, self.sources()
-            if is_over:
-                for name in self.artefacts:
-                    if not self.artefacts[name].built:
-                        self.build_over_kept(name)
-            elif not self.build_in_copy(is_anew):
+            if not self.build_in_copy(is_anew):
                 self.fail(f"the program was not built, and what rt said is in {LOG}")
             self.look()
             if self.sources() == before:
