@@ -111,12 +111,13 @@ def place_is_gone():
     return not Path(house.read("place").strip()).exists()
 
 
-def interrupt(name, crate, number, status, *words):
-    """Whether a build that does not end by itself because of a crate is given up at a signal, and
-    what it had started is ended first."""
-    text(crate, "slow")
-    ended = house.interrupted(number, top / "stab", *words)
-    holds(name, ended.status == status and not ended.out and "interrupted" in ended.err
+def interrupt(number, status):
+    """Whether a build that does not end by itself is given up at a signal, and what it had started
+    is ended first."""
+    text("mid", "slow")
+    ended = house.interrupted(number, top / "stab")
+    holds(f"a build ends at the signal {number}, with all that it started",
+          ended.status == status and not ended.out and "interrupted" in ended.err
           and house.read("ended") and place_is_gone())
 
 
@@ -149,15 +150,6 @@ copied("what it builds is what the program needs", [
 holds("the folder of the build is gone", place_is_gone())
 gave(stab("--prove"), "with --prove all is built again", "stab_cli; ; in", 1,
      "stab_cli is proved: 5 of 5 crates", "there is no release")
-copied("what can be proved side by side by rt", [])
-compiled = house.read("compiled")
-holds("and what is over all of that by the compiler", [
-    it.groups() for it in re.finditer(r"^build --crate-name (\w+) .* -o .*/(out/\S+) (\S+)",
-                                      compiled, re.M)] == [
-    ("top", "out/rlib/top.rlib", "--statements"),
-    ("stab_cli", "out/stab_cli.by-rattle.o", "--backend")])
-holds("which gets what rt has left, and the libraries of the kit", re.search(
-    "--extern low=/.*/out/rlib/low.rlib .*--extern clap=/.*/a kit/rlibs/clap.rlib ", compiled))
 holds("and its folder is gone as well", place_is_gone())
 gave(stab(), "the second use builds nothing", "stab_cli; ; in")
 holds("and says nothing", not house.ended.err)
@@ -214,15 +206,9 @@ holds("of two at once one waits", len(waiting) == 1)
 holds("and uses what the first has built", first.out == second.out != "")
 holds("which is built once", calls() == 1)
 for number, status in ("TERM", 143), ("INT", 130), ("HUP", 129):
-    interrupt(f"a build ends at the signal {number}, with all that it started", "mid", number,
-              status)
+    interrupt(number, status)
 text("mid", "mid")
-interrupt("and one from nothing with what the compiler does", "top", "TERM", 143, "--prove")
-text("top", "broken")
-refused(stab("--prove"), "what the compiler does not prove does not run",
-        "the program was not built")
-text("top", "top")
-refused(stab("--prove", NOT_LINKED="1"), "nor does what cannot be linked",
+refused(stab("--prove", NOT_LINKED="1"), "what cannot be linked does not run",
         "the program was not built")
 text("stab_cli", "again")
 gave(stab(), "the use after an interrupt builds", "again; ; in", 1)
@@ -442,8 +428,9 @@ refused(stab("--prove", **NO_KIT), "without rt nothing is proved",
 text("stab_cli", "differs")
 make_release()
 gave(stab(), "the release runs, whatever it is", "differs ci; ; in")
-gave(stab("--prove"), "what differs from the release is said, and what was built runs",
-     "differs build; ; in", 1, "the release is ANOTHER program")
+gave(stab("--prove", AGAIN=" again"),
+     "what differs from the release is said, and what was built runs", "differs ci again; ; in", 1,
+     "the release is ANOTHER program")
 text("stab_cli", "released")
 make_release()
 remove(out)

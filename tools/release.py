@@ -46,7 +46,7 @@ from pathlib import Path
 
 import index_page
 import static
-from crates import below, compiler, kit, listed, read, tasks
+from crates import below, compiler, kit, listed, read
 from programs import Cases
 from running import Commands, Interrupted
 from static import digest_of
@@ -193,45 +193,6 @@ class Release(Commands):
             if fault.filename:
                 self.fail(f"the file {KEPT}/lock cannot be written")
 
-    def copy_sources(self, to, needed, crates):
-        """Copies what artefacts need to a folder, and moves the last crates beside it."""
-        paths = ["HANDLES"]
-        for crate in needed:
-            parts = ["src", "specs", "proofs"]
-            if (TOP / f"crates/{crate}/src/main.rt").is_file():
-                parts += ["stdin", "stdout", "args", "status", "data"]
-            paths += [f"crates/{crate}/{part}" for part in parts]
-        for path in paths:
-            (to / path).parent.mkdir(parents=True, exist_ok=True)
-            if (TOP / path).is_dir():
-                shutil.copytree(TOP / path, to / path, symlinks=True)
-            elif (TOP / path).exists() or path == "HANDLES":
-                shutil.copy(TOP / path, to / path)
-        (to / "crates.txt").write_text("".join(
-            f"{crates[it].line}\n" for it in needed if it not in self.last))
-        for crate in self.last:
-            shutil.move(to / "crates" / crate, to.parent / crate)
-
-    def tell(self, line):
-        """Writes what rt says to the log, and says how far it is."""
-        self.log.write(line)
-        found = re.match(r"rt: ([a-z0-9_]+) (proved$|is kept:)", line)
-        if found:
-            self.proved += 1
-            how = "proved" if found[2] == "proved" else "proved, as before"
-            self.say(f"{found[1]} is {how}: {self.proved} of {self.needed} crates, after "
-                     f"{int(time.monotonic() - self.begin) // 60} min")
-
-    def find_last(self, needed, crates):
-        """The crates at the end of those that are needed, each of which is over all before it. The
-        lowest of all is not one of them."""
-        last = []
-        for place in range(len(needed) - 1, 0, -1):
-            if not {*needed[:place]} <= {*below(needed[place], crates)}:
-                break
-            last.insert(0, needed[place])
-        return last
-
     def compile(self, tree, crate, source, to, *words):
         """Has the compiler prove and compile a crate over what rt ci has left of the libraries
         below it: the first file, the file to make, and what else the compiler is to be told."""
@@ -249,11 +210,6 @@ class Release(Commands):
         """
         home = kit()
         return self.link(target_of(""), to, made, f"{home}/c/libos_c.a", f"{home}/c/liblibc_c.a")
-
-    def make_object(self, tree, crate, made, jobs):
-        """Has Rattle's own compiler prove a program and make the object beside it."""
-        return self.compile(tree, crate, "src/main.rt", f"{made}.o", "--backend", "rattle",
-                            "--jobs", jobs)
 
     def is_object_of(self, made):
         """Whether the object beside a program is the one of which it was linked."""
@@ -287,7 +243,8 @@ class Release(Commands):
                                    target_of(name), "--jobs", "2", *self.incremental(made.parent))
             return self.make_static(name, made) if is_well else None
         is_well = made.is_file() and (self.is_object_of(made) or (
-            self.make_object(tree, crate, made, "2") and self.is_object_of(made)))
+            self.compile(tree, crate, "src/main.rt", f"{made}.o", "--backend", "rattle", "--jobs",
+                         "2") and self.is_object_of(made)))
         return self.make_static(name, made) if is_well else None
 
     def incremental(self, out):
@@ -307,25 +264,6 @@ class Release(Commands):
             tree, crate, "src/lib.rt", archive, "--crate-type", "staticlib", "--target", WASM,
             "--incremental", "out/incremental", "--jobs", "1",
         ) and self.link(WASM, made, archive, options=["--stack", STACK])
-
-    def prove_last(self, tree, crate):
-        """Proves a crate with all processors, over what rt ci has left of those below it, and
-        builds it if it is a program. It makes the same files as rt ci, and says so in its words."""
-        out = tree / "crates" / crate / "out"
-        (out / "rlib").mkdir(parents=True, exist_ok=True)
-        # (of more than four processes there is no gain)
-        jobs = str(min(tasks()[0], 4))
-        self.log.flush()
-        if (out.parent / "src/main.rt").is_file():
-            made = out / f"{crate}.by-rattle"
-            is_well = (self.make_object(tree, crate, made, jobs)
-                       and self.link_as_rt(f"{made}.o", made))
-        else:
-            is_well = self.compile(tree, crate, "src/lib.rt", out / f"rlib/{crate}.rlib",
-                                   "--statements", "--jobs", jobs)
-        if is_well:
-            self.tell(f"rt: {crate} proved\n")
-        return is_well
 
     def make_after_ci(self, tree, name):
         """Makes an artefact in a tree where rt ci has proved its crates, and answers its file, or
@@ -358,26 +296,29 @@ class Release(Commands):
 
     def build_in_copy(self, is_anew):
         """Proves and builds the artefacts, as the gate does, in a copy of the sources: each crate
-        once, side by side where they do not depend on each other. Where that is from nothing, rt ci
-        does not get the last crates, for which it would not use all processors."""
-        crates, needed = listed(), []
+        once, side by side where they do not depend on each other."""
+        crates, needed, proved, begin = listed(), [], 0, time.monotonic()
         for it in self.artefacts.values():
             below(it.crate, crates, needed)
-        self.needed, self.proved, self.begin = len(needed), 0, time.monotonic()
-        self.last = self.find_last(needed, crates) if is_anew else []
         self.room = Path(tempfile.mkdtemp())
-        tree = self.room / "tree"
-        self.copy_sources(tree, needed, crates)
-        with open(LOG, "a", encoding="utf-8") as self.log:
-            process = self.start(["rt", "ci", *["--anew"] * is_anew], tree, stdout=subprocess.PIPE)
+        shutil.copy(TOP / "HANDLES", self.room)
+        (self.room / "crates.txt").write_text("".join(f"{crates[it].line}\n" for it in needed))
+        for crate in needed:
+            shutil.copytree(TOP / "crates" / crate, self.room / "crates" / crate, symlinks=True,
+                            ignore=shutil.ignore_patterns("out", "must-fail"))
+        with open(LOG, "a", encoding="utf-8") as log:
+            process = self.start(["rt", "ci", *["--anew"] * is_anew], self.room,
+                                 stdout=subprocess.PIPE)
             for line in process.stdout:
-                self.tell(line)
+                log.write(line)
+                found = re.match(r"rt: ([a-z0-9_]+) (proved$|is kept:)", line)
+                if found:
+                    proved += 1
+                    self.say(f"{found[1]} is proved: {proved} of {len(needed)} crates, after "
+                             f"{int(time.monotonic() - begin) // 60} min")
             is_well = self.end(process) == 0
-            for crate in self.last if is_well else ():
-                shutil.move(self.room / crate, tree / "crates" / crate)
-                is_well = is_well and self.prove_last(tree, crate)
         for name in self.artefacts if is_well else ():
-            made = self.make_after_ci(tree, name)
+            made = self.make_after_ci(self.room, name)
             if not made:
                 return False
             self.keep(name, made)
