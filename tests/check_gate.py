@@ -125,8 +125,8 @@ holds("which the environment decides, if it does",
 said = run(*PARTS, "--anew").out
 holds("with --anew all of it is proved again",
       re.search(f"^{house.top}: rt ci --anew, [0-9]+$", said, re.M))
-said = house.run("taskset", "-c", "0", "python3", "-B", house.top / "tools/crates.py", "tasks").out
-holds("never more than the processors", said.startswith("1 "))
+said = house.run("taskset", "-c", "0", house.top / "gate", TMPDIR=str(house.temporary)).out
+holds("never more than the processors", "gate: 1 tasks at once: 1 processors, " in said)
 for pages, release, last, name in (
         ("2 passed, 0 failed", "2 passed, 1 failed; exit 1", "351 passed, 1 failed",
          "a release that differs fails the gate"),

@@ -3,42 +3,11 @@
 
     tests/check_page.py [--jobs N] [--seed N] [chromium|firefox]..
 
-It takes the commands `chromium` and `firefox-esr` (Debian's packages), and the programs.
-In each browser it looks that
-
-- the page is at most 120 kB, and ready in less than 200 ms;
-- each link example, and each drawn job (1,000 of them), gives the text of `stab link --trace`, and
-  the strays and missing items that are counted are within their bounds;
-- each tree example that fits the page, and each drawn small tree with a schedule (1,000 of them),
-  gives the text of `stab tree`; the strays and missing items of each node are those that an own
-  count finds in this text, and within bounds that are added up here;
-- each job that the program refuses is refused, and no other, but for trees that are too large;
-- each exercise is refused with too few events, and solved with the events that are given here, and
-  what is said of events that only seem to solve it is right;
-- what is drawn of the circle is what the module says, an item is delivered where the page says that
-  its acknowledgement will show it, and the rows and stars are those of the runs in
-  docs/PROTOCOL.md;
-- rounds are counted as docs/PROTOCOL.md counts them;
-- the hint, the live check and the solution of an exercise come when they should;
-- what follows a fault in a tree is what the program says of the job that is saved, and backlogs go
-  down, are marked and are counted as it was worked out by hand;
-- a run that the lab writes into an address is drawn as it was, and a spoiled one is refused;
-- the proof steps through states that were worked out by hand, marks what it speaks of, and can be
-  played, left, and opened by an address;
-- by keys alone each exercise is played in as many of them as it has events, and the proof from its
-  first step to its last;
-- an address and an exercise bring what they name onto the screen, at three widths, and on a narrow
-  one the circle is seen together with each control that moves it;
-- the circle is drawn with 2c + 2 places, and called the ring that it is;
-- in Chromium's tree for screen readers each control has a role and a name, and each picture and
-  list a text; a step is announced once;
-- the runs on the slides of the lesson are those of the page; no slide overflows, keys turn them;
-- a step of the slider, the best of ten, takes less than 50 ms at 4,096 events, at 360 pixels
-  nothing is cut off, and nothing but the picture of a page is printed;
-- what is said of missing items fits the number of labels, and of an item whose frame is under way;
-- the buttons, the slider, the keys and the address do what they say;
-
-The last line is 'N passed, M failed'.
+It takes the commands `chromium` and `firefox-esr` (Debian's packages), and the programs. In each
+browser it looks at all that the methods of `Checks` say: that texts, counts and refusals are those
+of the program, for all examples and 1,000 drawn jobs of a link and of a tree; that exercises,
+proof, questions, addresses, keys, faults and backlogs do what was worked out by hand; and that all
+of it is seen, announced once, and in time. The last line is 'N passed, M failed'.
 """
 import argparse
 import base64
@@ -511,6 +480,7 @@ class Checks(Cases):
             time.sleep(0.05)
 
     def ready(self):
+        """The page is ready in time, the best of five."""
         times = []
         for _ in range(5):
             self.go()
@@ -526,10 +496,14 @@ class Checks(Cases):
                 part, self.run(script, [text for _, text, _ in part]), strict=True))
 
     def texts(self):
+        """Each link gives the text of the program, with strays and missing items in their bounds,
+        or is refused as there."""
         for job, _, want, text in self.answers(TEXTS, self.jobs):
             self.see(job, text == want, f"{text}\nand not\n{want}")
 
     def trees(self):
+        """Each tree that fits gives the text of the program, with the strays and missing items of
+        each node that an own count finds in it, within bounds that are added up here."""
         for job, data, want, answer in self.answers(TREES, self.tree_jobs):
             if want is None:
                 self.see(f"{job} is refused", answer[0] in (None, "too large"), answer)
@@ -1028,6 +1002,7 @@ class Checks(Cases):
         self.go(PAGE.as_uri())
 
     def time(self):
+        """A step of the slider at 4,096 events, the best of ten, is drawn in time."""
         times = self.run("""show(readJob(args[0]), 'x', 4000);
             return [4001, 2000, 4096, 4095, 2100, 4090, 3000, 4001, 2000, 3500].map(to => {
                 const from = performance.now();
@@ -1190,6 +1165,7 @@ class Checks(Cases):
                      ["Strays of links at c: 1 of at most C = 3",
                       "Strays of backlogs: 4 of at most E = 4", "Missing: 0 of at most M = 9"]])
     def exercises(self):
+        """Each is refused with too few events, and solved with those that are given here."""
         for i, events in enumerate(SOLVED):
             body = "return checkTask(args[0], { ...TASKS[args[0]].job, events: args[1] });"
             self.same(f"exercise {i + 1} is solved", "", body, i, events)

@@ -1,9 +1,5 @@
-#!/usr/bin/env -S python3 -B
-"""Links a program that needs no C library where it runs: the C library musl is inside.
-
-    tools/static.py ARCHITECTURE OBJECT PROGRAM
-        links a program for Linux on x86_64 or aarch64, of the object that the compiler of the kit
-        has made
+"""Links a program that needs no C library where it runs, since the C library musl is inside: for
+Linux on x86_64 or aarch64, of the object that the compiler of the kit has made.
 
 The compiler and the linker are those of the kit. What a program calls and musl has not is in
 tools/shims. musl is that of Debian's package musl-dev: the one that is installed, or else one
@@ -13,7 +9,6 @@ by the name of an architecture, a folder with lib/ and include/.
 import hashlib
 import os
 import subprocess
-import sys
 import tempfile
 from collections import namedtuple
 from pathlib import Path
@@ -91,17 +86,3 @@ def link(library, architecture, made, program, does=lambda words: subprocess.cal
 def has_object(program, made):
     """Whether a program was linked of the object with this digest, as it says itself."""
     return bytes.fromhex(made) in program
-
-
-def main(words):
-    if len(words) != 3 or words[0] not in DEBIAN:
-        sys.exit(__doc__)
-    library = musl(words[0])
-    if not library:
-        sys.exit(f"static: Debian's package musl-dev for {DEBIAN[words[0]]} is needed")
-    if not link(library, *words):
-        sys.exit("static: the program was not linked")
-
-
-if __name__ == "__main__":
-    main(sys.argv[1:])
