@@ -126,29 +126,32 @@ def obeys_tree_law(strays, without, missing, published, received):
     return False
 
 
+def most_missing(capacities):
+    """How many of the first items a node may miss, by the capacities of its links from its own one
+    upwards: without strays, and at most. (One link may miss 2c + 1, each above it c + 1, and those
+    beneath it none.)"""
+    once = [capacity + 1 for capacity in capacities]
+    return sum(once), max((capacity + sum(once[at:]) for at, capacity in enumerate(capacities)),
+                          default=0)
+
+
 def tree_fault(job, report):
     """Which node does not obey the tree law, or nothing. Every opening counts with its own length,
     and so does what an inner node had for the next one on the path; what the root had for its child
     counts as published. The report has a form that `fault` accepts."""
     parents, backlogs, openings, _, all_capacities = parts_of(job)
     for name, line in zip(parents, report.split("\n")[1::2]):
-        strays = without = 0
-        capacities = []
-        published = job["items"]
-        above = name
+        strays, capacities, published, above = 0, [], job["items"], name
         while parents[above] is not None:
-            capacity = all_capacities[above]
-            strays, without = strays + capacity + len(openings[above]), without + capacity + 1
-            capacities.append(capacity)
+            strays += all_capacities[above] + len(openings[above])
+            capacities.append(all_capacities[above])
             if parents[parents[above]] is None:
                 published = backlogs[above] + published
             else:
                 strays += len(backlogs[above])
             above = parents[above]
         received = [int(word) for word in line.split()[1:]]
-        # (one link may miss 2c + 1, each above it c + 1, and those beneath it none)
-        missing = max((2 * capacity + 1 + sum(it + 1 for it in capacities[at + 1:])
-                       for at, capacity in enumerate(capacities)), default=0)
+        without, missing = most_missing(capacities)
         if not obeys_tree_law(strays, without, missing, published, received):
             return (f"{name}: the tree law is broken, with at most {strays} strays, and none "
                     f"missing but among the first {without}, one more for each stray, and at most "

@@ -28,7 +28,7 @@ TOP = pathlib.Path(__file__).resolve().parent.parent
 sys.path.insert(0, str(TOP / "tools"))
 from check_drawn import blocks, cut, is_head  # noqa: E402
 from jobs import drawn_link, drawn_tree  # noqa: E402
-from programs import Cases, built, ran  # noqa: E402
+from programs import Cases, answered, built, ran  # noqa: E402
 
 PAGE = TOP / "page" / "index.html"
 DATA = TOP / "crates" / "gate_checks" / "data"
@@ -212,9 +212,8 @@ def programs():
 def program(job, *words):
     """What `stab link --trace` answers, or `stab` with these words: its text, or None where it
     refuses."""
-    done = subprocess.run([programs()[0], *(words or ["link", "--trace"])], input=job,
-                          capture_output=True)
-    return done.stdout.decode() if done.returncode == 0 else None
+    status, text, _ = answered(programs()[0], *(words or ["link", "--trace"]), given=job)
+    return text if status == 0 else None
 
 
 def long_job():

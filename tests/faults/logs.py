@@ -5,7 +5,7 @@ import sys
 from pathlib import Path
 
 sys.path.insert(0, str(Path(__file__).resolve().parent.parent.parent / "agents"))
-from check_report import is_subsequence, obeys_tree_law  # noqa: E402
+from check_report import is_subsequence, most_missing, obeys_tree_law  # noqa: E402
 
 
 def path_of(parents, node):
@@ -27,9 +27,7 @@ def sums(parents, capacities, hold, node):
     `capacities` are by child."""
     path = path_of(parents, node)
     strays = sum(capacities[w] + kept(parents, hold, w) for w in path)
-    once = [capacities[w] + 1 for w in path]
-    most = max((sum(once[at:]) + capacities[w] for at, w in enumerate(path)), default=0)
-    return strays, sum(once), most
+    return (strays, *most_missing([capacities[w] for w in path]))
 
 
 def fault_at(received, counted, strays, without, most):
@@ -61,7 +59,8 @@ def text_of(names, parents, capacities, hold, items, received, places):
                     f"out of order or twice\n{lists}")
         if fault == "missing":
             return (f"{name}: published items before its last one are missing, not only among the "
-                    f"first {without} and one more for each stray, at most the first {most}\n{lists}")
+                    f"first {without} and one more for each stray, at most the first {most}\n"
+                    f"{lists}")
         parent = parents[node]
         if parent is None or parents[parent] is None:
             continue

@@ -34,7 +34,7 @@ TOP = HERE.parent.parent
 sys.dont_write_bytecode = True
 sys.path[:0] = [str(TOP / "tools"), str(TOP / "tests")]
 from examples import DATA, words_of  # noqa: E402
-from programs import built  # noqa: E402
+from programs import answered, built  # noqa: E402
 from tables.reader import EVENTS, LETTERS, row  # noqa: E402
 
 SECONDS = 20
@@ -218,17 +218,11 @@ def case(jobs, seed, number):
 # How a case is run and judged.
 
 
-def run(program, command, data):
-    """A run of a program: its status, and what it wrote."""
-    done = subprocess.run([program, *command], input=data, capture_output=True, timeout=SECONDS)
-    return done.returncode, done.stdout.decode(errors="replace"), done.stderr.decode()
-
-
 def wrong_with(programs, command, data):
     """What is wrong with what the programs say of a job, or None, and what `stab` said."""
     wanted = row("a spoilt job", command, data)
     try:
-        status, out, err = run(programs["stab"], command, data)
+        status, out, err = answered(programs["stab"], *command, given=data, timeout=SECONDS)
         if (status, err) != (wanted.status, wanted.err):
             return f"status {status}, {err!r}, and not {wanted.status}, {wanted.err!r}", err
         if isinstance(wanted.out, str):
@@ -237,7 +231,7 @@ def wrong_with(programs, command, data):
             fault = wanted.out.fault(out, None)
         if fault or command[0] == "run":
             return fault, err
-        found, said, more = run(programs["rignolda"], ["explain"], data)
+        found, said, more = answered(programs["rignolda"], "explain", given=data, timeout=SECONDS)
     except subprocess.TimeoutExpired as late:
         return f"{late.cmd} had not ended after {SECONDS} seconds", ""
     lines, fault = said.splitlines(), err.removeprefix("stab: ").strip()

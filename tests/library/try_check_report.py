@@ -100,7 +100,7 @@ def reports(stab):
     for path in sorted(glob.glob(f"{TOP}/examples/trees/*.json")):
         with open(path, encoding="utf-8") as file:
             job = json.load(file)
-        report = answered(stab, "run", path, given="")[1]
+        report = answered(stab, "run", path)[1]
         yield (os.path.basename(path),
                check_report.fault(job, report) is check_report.tree_fault(job, report) is None)
 
