@@ -34,7 +34,12 @@ from programs import counted  # noqa: E402
 # The folders of a crate's edits: those of the gate, by `rt ci` and apart, those that are tried by
 # hand, and controls.
 FOLDERS = ("crates/{}/must-fail", "tests/edits/{}", "tests/more_edits/{}", "tests/controls/{}")
-FUNCTION = re.compile(r'\s*(?:pub(?:\(\w+\))? )?(?:const )?(?:extern "C" )?fn (\w+)')
+# The line that begins a function, by what is before its name; and that of an impl: its own
+# parameters, its trait, if it has one, its type, and the arguments of that.
+FUNCTION = re.compile(r'( *)(?:pub(?:\(\w+\))? )?(?:const )?(?:unsafe )?(?:extern "C" )?fn (\w+)')
+IMPL = re.compile(r"impl(<.*?>)? (?:(\w.*?) for )?(\w+)(<.*>)?")
+# The words in such a part, but for lifetimes.
+WORD = re.compile(r"(?<!['\w])\w+")
 
 
 def edits_in(folder):
@@ -54,15 +59,29 @@ def edits_in(folder):
     return found
 
 
-def function_of(crate, edit):
-    """The name of the function that an edit changes, or None where its text is not there once."""
-    file, pairs = edit
+def path_of(crate, file, old):
+    """The end of the name of the function that has this text, as a check prints it, or an empty
+    text."""
     text = read(f"{TOP}/crates/{crate}/{file}")
-    if text.count(pairs[0][0]) != 1:
-        return None
-    before = text[: text.index(pairs[0][0])].count("\n") + 1
-    names = [it[1] for it in map(FUNCTION.match, text.split("\n")[:before]) if it]
-    return names[-1] if names else ""
+    if text.count(old) != 1 or not file.startswith("src/"):
+        return ""
+    name = ""
+    for line in reversed(text[: text.index(old) + len(old)].split("\n")):
+        if name:
+            began = IMPL.match(line)
+            if began:
+                own, trait, args = (WORD.findall(began[it] or "") for it in (1, 2, 4))
+                args = [it for it in args if it not in own]
+                return f"{began[3]}{''.join(args + trait)}::{name}"
+        elif line == "}":
+            # (what comes after a function is in none)
+            return ""
+        elif began := FUNCTION.match(line):
+            name = began[2]
+            if not began[1]:
+                break
+    place = re.sub(r"(^|/)(lib|main|mod)$", "", file[len("src/") : -len(".rt")])
+    return f"{place}/{name}".strip("/").replace("/", "::") if name else ""
 
 
 def has_answers(crate, file, function):
@@ -93,13 +112,13 @@ def fault_of_texts(crate, file, pairs):
 
 def fault_of_control(crate, bug, control):
     """What is wrong with the control of a planted bug, or with there being none, or None."""
-    function = function_of(crate, bug)
+    its = [path_of(crate, file, pairs[0][0]) for file, pairs in (bug, control or bug) if pairs]
+    function = its[0].rpartition("::")[2]
     if control is None:
         if has_answers(crate, bug[0], function):
             return f"{function} has a file in proofs/, so a control is needed in tests/controls"
-    elif control[1] and not fault_of_texts(crate, *control):
-        if (bug[0], function) != (control[0], function_of(crate, control)):
-            return f"its control is not of the same function, {function} in {bug[0]}"
+    elif not fault_of_texts(crate, *control) and (bug[0], its[0]) != (control[0], its[1]):
+        return f"its control is not of the same function, {function} in {bug[0]}"
     return None
 
 

@@ -26,15 +26,9 @@ import sys
 import tempfile
 
 sys.dont_write_bytecode = True
-from edits import TOP, edits_in, texts_with  # noqa: E402
-from crates import compiler, lines_of, listed, read, tasks  # noqa: E402
+from edits import TOP, edits_in, path_of, texts_with  # noqa: E402
+from crates import compiler, lines_of, listed, tasks  # noqa: E402
 
-# The line that begins a function, by what is before its name; and that of an impl: its own
-# parameters, its trait, if it has one, its type, and the arguments of that.
-FUNCTION = re.compile(r'( *)(?:pub(?:\(\w+\))? )?(?:const )?(?:unsafe )?(?:extern "C" )?fn (\w+)')
-IMPL = re.compile(r"impl(<.*?>)? (?:(\w.*?) for )?(\w+)(<.*>)?")
-# The words in such a part, but for lifetimes.
-WORD = re.compile(r"(?<!['\w])\w+")
 # What a check says of a function that is not proved, and of that what says nothing against it but
 # that it calls another one.
 REFUSED = re.compile(r"^fn \w+::(\S+): (?:no proof|not proved)(.*)$", re.M)
@@ -43,31 +37,6 @@ CALLS = re.compile(r"[:;] it calls [^;]*")
 CLOSURE = re.compile(r"(^|::)fn::(\w+)::.*")
 # What a check says where a proof names what an edit took away.
 GONE = re.compile(r"proofs/.*(has no field|is not in scope|has no `|was not admitted)")
-
-
-def path_of(crate, file, old):
-    """The end of the name of the function that has this text, as a check prints it, or an empty
-    text."""
-    text = read(f"{TOP}/crates/{crate}/{file}")
-    if text.count(old) != 1 or not file.startswith("src/"):
-        return ""
-    name = ""
-    for line in reversed(text[: text.index(old) + len(old)].split("\n")):
-        if name:
-            began = IMPL.match(line)
-            if began:
-                own, trait, args = (WORD.findall(began[it] or "") for it in (1, 2, 4))
-                args = [it for it in args if it not in own]
-                return f"{began[3]}{''.join(args + trait)}::{name}"
-        elif line == "}":
-            # (what comes after a function is in none)
-            return ""
-        elif began := FUNCTION.match(line):
-            name = began[2]
-            if not began[1]:
-                break
-    place = re.sub(r"(^|/)(lib|main|mod)$", "", file[len("src/") : -len(".rt")])
-    return f"{place}/{name}".strip("/").replace("/", "::") if name else ""
 
 
 def rounds(crate, edits):
