@@ -25,8 +25,9 @@ import tempfile
 import time
 
 TOP = pathlib.Path(__file__).resolve().parent.parent
-sys.path.insert(0, str(TOP / "tools"))
+sys.path[:0] = [str(TOP / "tools"), str(TOP / "agents")]
 from check_drawn import blocks, cut, is_head  # noqa: E402
+from check_report import parts_of  # noqa: E402
 from jobs import drawn_link, drawn_tree  # noqa: E402
 from programs import Cases, answered, built, ran  # noqa: E402
 
@@ -271,14 +272,10 @@ def standing(job, text):
     each, counted in the text of the program. No published item may be in a link at its start or in
     an opening, none of an opening in a link, and each is published once."""
     job, rows = json.loads(job), []
+    above, _, openings, _, capacity = parts_of(job)
     lists = [[int(word) for word in line.split()[1:]] for line in text.splitlines()[1::2]]
-    above = {node["name"]: node.get("parent") for node in job["tree"]}
-    own = iter(job.get("links", [{"capacity": job["capacity"]} for _ in job["tree"]]))
-    capacity = {name: (next(own) or job)["capacity"] for name, parent in above.items()
-        if parent is not None}
-    hold, opened = 0, set()
-    if job.get("version") == 2:
-        hold, opened = job["h"], {item for own in job.get("openings", []) for item in own}
+    hold = job["h"] if job.get("version") == 2 else 0
+    opened = {item for own in openings.values() for item in own}
     for name, items in zip(above, lists):
         places = [job["items"].index(item) for item in items if item in job["items"]]
         path, most_held = [], 0
