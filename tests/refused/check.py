@@ -25,6 +25,7 @@ import json
 import os
 import resource
 import shutil
+import struct
 import subprocess
 import sys
 import tempfile
@@ -39,6 +40,8 @@ from programs import Cases  # noqa: E402
 
 # A program that has not ended after this many seconds hangs.
 SECONDS = 60.0
+# So many programs run at a time.
+LANES = 4
 # This many runs one after the other must be whole before a program counts as never refused again.
 ROW = 32
 MOST_ALLOCATIONS = 20_000
@@ -137,10 +140,8 @@ class Ended:
     def __init__(self, status, out, err, report):
         self.seen = (status, out, err)
         self.status, self.out, self.err = self.seen
-        words = report.split()
-        whole = len(words) == 6 and words[::2] == [b"allocations", b"threads", b"refused"]
-        counts = map(int, words[1::2]) if whole else [None] * 3
-        self.allocations, self.threads, self.refused = counts
+        self.allocations, self.threads, self.refused = (
+            struct.unpack("3L", report) if report else [None] * 3)
 
     def __str__(self):
         out, err = (text.decode(errors="replace")[-300:] for text in (self.out, self.err))
@@ -168,12 +169,10 @@ class Room:
         return to
 
     def write(self, name, job):
-        return self.write_text(name, json.dumps(job))
-
-    def write_text(self, name, text):
+        """Writes a job, or its text, and answers its file."""
         path = f"{self.folder}/{name}.json"
         with open(path, "w") as it:
-            it.write(text)
+            it.write(job if isinstance(job, str) else json.dumps(job))
         return path
 
     def run(self, command, input=os.devnull, refuse=None, limit=None):
@@ -352,12 +351,10 @@ def limit_threads(count):
         os.setuid(NOBODY_ELSE)
 
 
-def check_stab(check, room, program, all_examples):
+def check_stab(check, room, program):
     """Parts (b) and (c)."""
-    program, names = room.copy(program), JOBS
-    if all_examples:
-        names = examples.names()
-    for name in names:
+    program = room.copy(program)
+    for name in JOBS:
         words, input, right = of_example(name)
         is_right = lambda ended: ended.seen == right
         # (the C library allocates for a thread, so that refused memory may be a refused thread)
@@ -367,7 +364,7 @@ def check_stab(check, room, program, all_examples):
     with open(input) as it:
         text = it.read().replace("{", NOTE, 1) + SPACES * " "
     name, is_right = "a long file in another form", lambda ended: ended.seen == right
-    input = room.write_text(name, text)
+    input = room.write(name, text)
     check.each(name, [program, *words], input, is_right, [OUT_OF_MEMORY])
     for name, words in RUNS:
         job = {**chain(3, items=5, turns=50, words=words, held=2), "scripts": SCRIPTS}
@@ -424,8 +421,6 @@ def main():
     parser.add_argument("--stab", default=built("stab_cli"))
     parser.add_argument("--rignolda", default=built("rignolda"))
     parser.add_argument("--checks", default=f"{TOP}/crates/gate_checks/out/gate_checks")
-    parser.add_argument("--lanes", type=int, default=4, help="how many programs run at a time")
-    parser.add_argument("--all", action="store_true", help="every example, and not some of them")
     parser.add_argument("--only", default="", help="the cases that have this in their names")
     parser.add_argument("--calls", default=f"{HERE}/calls", help="the calls of gate_checks")
     parser.add_argument("--seconds", type=float, default=SECONDS, help="how long one may run")
@@ -433,11 +428,11 @@ def main():
     with tempfile.TemporaryDirectory(prefix="stab-refused-") as folder:
         room = Room(folder, given.seconds)
         room.build_object()
-        with concurrent.futures.ThreadPoolExecutor(given.lanes) as lanes:
+        with concurrent.futures.ThreadPoolExecutor(LANES) as lanes:
             check = Check(room, lanes, given.only)
             for program, part in (
                 (given.checks, lambda it: check.refused(it, given.calls)),
-                (given.stab, lambda it: check_stab(check, room, it, given.all)),
+                (given.stab, lambda it: check_stab(check, room, it)),
                 (given.rignolda, lambda it: check_rignolda(check, room, it)),
             ):
                 if os.path.isfile(program):
