@@ -10,10 +10,6 @@
  *   REFUSE_REPORT=FD     where the program ends, three numbers are written to this file descriptor,
  *                        as the machine has them: of allocations, of threads, and of refusals
  *
- * Before main it has the stack of the first thread grow by a megabyte. The system ends a program by a
- * signal where this stack cannot grow under a limit of its memory, which is nothing that a program
- * could answer; so under such a limit what the program asks for is refused, and not its stack.
- *
  * An allocation is a call of malloc, calloc, realloc, reallocarray, aligned_alloc, posix_memalign
  * or memalign. A realloc counts also where it makes a block smaller; one that frees
  * its block, since the new size is 0, does not count. Several threads may allocate at a time: each
@@ -154,18 +150,10 @@ static int counted_main(int count, char **words, char **environment) {
     return status;
 }
 
-/* Has the stack grow, from its highest page down. */
-static __attribute__((noinline)) void grow_stack(void) {
-    volatile char deep[1 << 20];
-    for (size_t at = sizeof deep; at >= 4096; at -= 4096)
-        deep[at - 1] = 0;
-}
-
 int __libc_start_main(main_function *given_main, int count, char **words, void (*init)(void),
                       void (*fini)(void), void (*end_loader)(void), void *stack_end) {
     int (*next)(main_function *, int, char **, void (*)(void), void (*)(void), void (*)(void),
                 void *) = dlsym(NEXT_OBJECT, "__libc_start_main");
-    grow_stack();
     next_pthread_create = dlsym(NEXT_OBJECT, "pthread_create");
     next_exit = dlsym(NEXT_OBJECT, "exit");
     next_exit_now = dlsym(NEXT_OBJECT, "_exit");
