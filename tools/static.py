@@ -71,16 +71,22 @@ def linked(library, program, *files, options=()):
             archive, last]
 
 
-def link(library, architecture, made, program, does=lambda words: subprocess.call(words) == 0):
-    """Links a program of an object, and answers whether it does. The digest of the object is in the
-    program, as its build identifier. Commands are run by `does`."""
+def builds(library, architecture, program, sources, *words, first=(), last=(), options=(),
+           does=lambda words: subprocess.call(words) == 0):
+    """Links a program of these sources, which are compiled with these words, and of objects before
+    and after them, and answers whether it does. Commands are run by `does`."""
     with tempfile.TemporaryDirectory() as room:
-        shims = {source: f"{room}/{source.stem}.o" for source in SHIMS}
-        own = digest_of(Path(made).read_bytes())
-        return all(does([*map(str, words)]) for words in (
-            *(compiled(library, architecture, *it) for it in shims.items()),
-            linked(library, program, made, *shims.values(),
-                   options=["--wrap=main", f"--build-id=0x{own}"])))
+        objects = {source: f"{room}/{source.stem}.o" for source in sources}
+        return all(does([*map(str, one)]) for one in (
+            *(compiled(library, architecture, *it, *words) for it in objects.items()),
+            linked(library, program, *first, *objects.values(), *last, options=options)))
+
+
+def link(library, architecture, made, program, does):
+    """The same of an object, whose digest is in the program, as its build identifier."""
+    own = digest_of(Path(made).read_bytes())
+    return builds(library, architecture, program, SHIMS, first=[made], does=does,
+                  options=["--wrap=main", f"--build-id=0x{own}"])
 
 
 def has_object(program, made):
