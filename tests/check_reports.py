@@ -193,8 +193,11 @@ def main(stab, rignolda):
                 status, line = answer_of(rignolda, Path(folder), whole, report,
                                          draw.random() < 0.5)
                 found[kind, "broken" if fault else "obeys"] += 1
-                cases.holds(f"{case}, {kind}", agrees(fault, status, line)
-                            and (kind != "true" or fault is None),
+                if kind == "true":
+                    # (the plain tree law accepts what is printed, too)
+                    law = fault or not is_link and check_report.tree_fault(job, report)
+                    cases.holds(f"{case}: the laws", not law, f"{law}\n{whole}\n{report}", True)
+                cases.holds(f"{case}, {kind}", agrees(fault, status, line),
                             f"{fault}, and the answer is {status} {line}\n{whole}\n{report}", True)
     for (kind, what), times in sorted(found.items()):
         print(f"{kind}: {what} {times}")
