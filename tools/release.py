@@ -282,18 +282,6 @@ class Release(Commands):
                    self.make_archive(tree, name, made))
         return made if is_well and made.is_file() else None
 
-    def keep(self, name, made):
-        """Keeps a file that was built as a fresh one of an artefact, whole or not at all, and at no
-        time as one that somebody else may write to."""
-        fresh = KEPT / f"new-{flat(name)}"
-        with contextlib.suppress(FileNotFoundError):
-            fresh.unlink()
-        to = os.open(fresh, os.O_WRONLY | os.O_CREAT | os.O_EXCL, 0o700)
-        with open(made, "rb") as data, open(to, "wb") as to:
-            shutil.copyfileobj(data, to)
-            os.fchmod(to.fileno(), 0o755)
-        self.fresh[name] = fresh
-
     def build_in_copy(self, is_anew):
         """Proves and builds the artefacts, as the gate does, in a copy of the sources: each crate
         once, side by side where they do not depend on each other."""
@@ -321,7 +309,7 @@ class Release(Commands):
             made = self.make_after_ci(self.room, name)
             if not made:
                 return False
-            self.keep(name, made)
+            self.fresh[name] = made.read_bytes()
         self.remove_room()
         return is_well
 
@@ -335,10 +323,18 @@ class Release(Commands):
                 time.sleep(0.1)
         self.room = None
 
-    def name_fresh(self):
-        """Gives fresh artefacts their names in out/, and removes what was built of them before."""
-        for name, fresh in self.fresh.items():
-            built = self.artefacts[name].kept_as + digest_of(fresh.read_bytes())
+    def keep_fresh(self):
+        """Keeps what was built in out/, under names with digests, and removes what was built there
+        before. A file comes there whole or not at all, and at no time as one that somebody else may
+        write to."""
+        for name, data in self.fresh.items():
+            built = self.artefacts[name].kept_as + digest_of(data)
+            fresh = KEPT / f"new-{flat(name)}"
+            with contextlib.suppress(FileNotFoundError):
+                fresh.unlink()
+            with open(os.open(fresh, os.O_WRONLY | os.O_CREAT | os.O_EXCL, 0o700), "wb") as to:
+                to.write(data)
+                os.fchmod(to.fileno(), 0o755)
             try:
                 os.rename(fresh, built)
             except OSError:
@@ -383,7 +379,7 @@ class Release(Commands):
                 self.fail(f"the program was not built, and what rt said is in {LOG}")
             self.look()
             if self.sources() == before:
-                self.name_fresh()
+                self.keep_fresh()
                 return
         self.fail("the program was not built: the sources keep changing")
 
@@ -492,9 +488,9 @@ class Release(Commands):
             made = self.make_after_ci(TOP, name)
             cases.holds(f"{name} is built", bool(made), f"see {LOG}")
             if made:
-                self.keep(name, made)
+                self.fresh[name] = made.read_bytes()
         if not cases.failed:
-            self.name_fresh()
+            self.keep_fresh()
             self.make(False)
         return cases.sum_up()
 
