@@ -1,12 +1,11 @@
 #!/usr/bin/env python3
-"""Measures `stab` on jobs of growing size: bench/run.py [--stab PROGRAM] [--quick | --runs]
+"""Measures `stab` on jobs of growing size: bench/run.py [--quick | --runs]
 
 Makes the jobs in bench/build/ (the same bytes each time), runs each job five times, and prints the
 median of the processor time, the events per second and the peak memory. Nothing is subtracted: a
 time is that of the whole process. Run it by hand; the gate does not. It needs Python 3.9 or later,
 and Debian's package time.
-Without --stab it measures the program of ./stab, which builds it if that was not done yet for these
-sources.
+It measures the program of ./stab, or the one that PROGRAM_STAB names.
 
 With --runs it measures runs of worker threads instead, in turn with the same tree of threads over
 channels (channels.rs, which rustc builds): alone, and beside one busy loop for each processor.
@@ -201,14 +200,11 @@ def path_of(words, name, count, job):
 
 def main():
     parser = argparse.ArgumentParser(description=__doc__.splitlines()[0])
-    parser.add_argument("--stab", metavar="PROGRAM", help="measure it, not the program of ./stab")
     parser.add_argument("--quick", action="store_true", help="jobs of up to 100,000 events")
     parser.add_argument("--runs", action="store_true", help="runs of worker threads instead")
     options = parser.parse_args()
     os.makedirs(BUILD, exist_ok=True)
-    program = options.stab or built("stab", BUILD)
-    if not os.access(program, os.X_OK):
-        sys.exit(f"there is no program at {program}")
+    program = built("stab", BUILD)
     load = os.getloadavg()[0]
     print(f"{time.strftime('%Y-%m-%d')}, {os.cpu_count()} processors, load {load:.1f}")
     if options.runs:

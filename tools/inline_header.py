@@ -15,7 +15,9 @@ proof covers this translation, as none covers clang; tests/library/both.c compar
 the archive. The build is over the libraries that checks have left. It needs the kit, and Python
 3.8.
 """
+import os
 import re
+import shutil
 import subprocess
 import sys
 import tempfile
@@ -632,12 +634,7 @@ def build(work):
     """Builds the archive in a folder as a release does, and answers its file and the text of the
     module that clang was given."""
     home, tools = kit(), work / "toolchain"
-    (tools / "bin").mkdir(parents=True)
-    for path in Path(home, "toolchain").iterdir():
-        if path.name != "bin":
-            (tools / path.name).symlink_to(path)
-    for path in Path(home, "toolchain/bin").iterdir():
-        (tools / "bin" / path.name).symlink_to(path)
+    shutil.copytree(f"{home}/toolchain", tools, copy_function=os.symlink)
     clang, module, archive = f"{home}/toolchain/bin/clang", work / "module.bc", work / "library.a"
     (tools / "bin/clang").unlink()
     (tools / "bin/clang").write_text(KEEPER.format(kept=module, clang=clang))
