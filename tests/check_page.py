@@ -156,10 +156,7 @@ def program(job, *words):
 
 def long_job():
     """As many events as the page takes, so that the lists are as long as they get."""
-    events = []
-    while len(events) + 5 <= 4096:
-        events += [["offer", len(events)], "send_frame", "recv_frame", "send_ack", "recv_ack"]
-    events += ["send_ack"] * (4096 - len(events))
+    events = [event for item in range(0, 4095, 5) for event in one_round(item)] + ["send_ack"]
     start = {"frames": [[9, 9]] * 64, "acks": [9] * 64, "send": 0, "recv": 65535}
     return json.dumps({"capacity": 64, "labels": 130, "start": start, "events": events})
 

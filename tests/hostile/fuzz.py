@@ -21,6 +21,7 @@ programs of ./stab and ./rignolda, or those that PROGRAM_STAB and PROGRAM_RIGNOL
 import argparse
 import collections
 import concurrent.futures
+import functools
 import json
 import random
 import re
@@ -178,6 +179,7 @@ def with_openings(draw, text):
     return text.replace("{", json.dumps(more)[:-1] + ",", 1)
 
 
+@functools.lru_cache
 def corpus():
     """The examples: each job's text and its command. Those that end well are there several times,
     since most ways to spoil a job need one that is right elsewhere."""
@@ -191,10 +193,10 @@ def corpus():
     return found
 
 
-def case(jobs, seed, number):
+def case(seed, number):
     """The spoilt job of a case, and its command."""
     draw = random.Random(f"{seed}/{number}")
-    text, command = draw.choice(jobs)
+    text, command = draw.choice(corpus())
     if draw.random() < 0.25:
         command = draw.choice(COMMANDS)
     elif command[0] != "link":
@@ -248,20 +250,16 @@ def wrong_with(programs, command, data):
     return None, err
 
 
-def work(programs, keep_in, seed, numbers):
-    """What one lane does: some cases, one after the other."""
-    jobs, counts, wrongs = corpus(), collections.Counter(), []
-    for number in numbers:
-        command, data = case(jobs, seed, number)
-        wrong, said = wrong_with(programs, command, data)
-        counts[said.strip() or f"a text of {' '.join(command)}"] += 1
-        if wrong:
-            wrongs.append((number, wrong))
-            keep_in.mkdir(parents=True, exist_ok=True)
-            path = keep_in / f"seed_{seed}_case_{number}.json"
-            path.write_bytes(data)
-            path.with_suffix(".txt").write_text(f"stab {' '.join(command)} < {path}\n{wrong}\n")
-    return counts, wrongs
+def tried(programs, keep_in, seed, number):
+    """Tries a case: what is wrong with it, or None, and what was said of it."""
+    command, data = case(seed, number)
+    wrong, said = wrong_with(programs, command, data)
+    if wrong:
+        keep_in.mkdir(parents=True, exist_ok=True)
+        path = keep_in / f"seed_{seed}_case_{number}.json"
+        path.write_bytes(data)
+        path.with_suffix(".txt").write_text(f"stab {' '.join(command)} < {path}\n{wrong}\n")
+    return wrong, said.strip() or f"a text of {' '.join(command)}"
 
 
 def main():
@@ -272,22 +270,21 @@ def main():
     parser.add_argument("--lanes", type=int, default=4, help="how many programs run at a time")
     parser.add_argument("--keep", type=Path, default=HERE / "build", help="where failing jobs go")
     given = parser.parse_args()
-    counts, wrongs = collections.Counter(), []
+    counts, failed = collections.Counter(), 0
+    numbers = range(given.first, given.first + given.cases)
     with tempfile.TemporaryDirectory(prefix="stab-fuzz-") as folder:
         programs = {name: built(name, folder) for name in ("stab", "rignolda")}
+        tries = functools.partial(tried, programs, given.keep, given.seed)
         with concurrent.futures.ProcessPoolExecutor(given.lanes) as lanes:
-            numbers = range(given.first, given.first + given.cases)
-            ended = [lanes.submit(work, programs, given.keep, given.seed, numbers[at:at + 500])
-                     for at in range(0, len(numbers), 500)]
-            for one in concurrent.futures.as_completed(ended):
-                more, wrong = one.result()
-                counts, wrongs = counts + more, wrongs + wrong
+            for number, (wrong, said) in zip(numbers, lanes.map(tries, numbers, chunksize=500)):
+                counts[said] += 1
+                failed += bool(wrong)
+                if wrong:
+                    print(f"OTHER  case {number}: {wrong[:1000]}", flush=True)
     for line, count in counts.most_common():
         print(f"{count:7}  {line}")
-    for number, wrong in sorted(wrongs)[:50]:
-        print(f"OTHER  case {number}: {wrong[:1000]}")
-    print(f"{given.cases - len(wrongs)} passed, {len(wrongs)} failed")
-    return 1 if wrongs else 0
+    print(f"{given.cases - failed} passed, {failed} failed")
+    return 1 if failed else 0
 
 
 if __name__ == "__main__":
