@@ -21,13 +21,13 @@ import concurrent.futures
 import os
 import re
 import shutil
-import subprocess
 import sys
 import tempfile
 
 sys.dont_write_bytecode = True
 from edits import TOP, edits_in, path_of, texts_with  # noqa: E402
 from crates import compiler, lines_of, listed, tasks  # noqa: E402
+from programs import ran  # noqa: E402
 
 # What a check says of a function that is not proved, and of that what says nothing against it but
 # that it calls another one.
@@ -71,9 +71,8 @@ def checked(crate, edits, names):
         words = [*compiler("check", crate, root), "--jobs", "1"]
         words += [word for path in sorted(set().union(*names.values()) - {""})
                   for word in ("--only", path)]
-        ran = subprocess.run(words, cwd=room, stdin=subprocess.DEVNULL, stdout=subprocess.PIPE,
-                             stderr=subprocess.STDOUT, text=True, errors="replace")
-    return ran.stdout, ran.returncode
+        status, said = ran(*words, cwd=room)
+    return said, status
 
 
 def refusals(said, told):
