@@ -122,17 +122,17 @@ def proved(crate, edits, names):
     said, status = checked(crate, edits, names)
     if status and len(names) > 1:
         return [proved(crate, edits, {name: names[name]})[0] for name in names]
-    why = "it is proved" if status == 0 else said.strip()[-160:]
-    return [(name, status == 0, why) for name in names]
+    return [(name, status == 0, said.strip()[-160:]) for name in names]
 
 
-# What is asked for: the folder of its edits, and what tries them.
-KINDS = {"": ("edits", tried), "--more": ("more_edits", tried), "--controls": ("controls", proved)}
+# What is asked for: the folder of its edits, what tries them, and what they have to be.
+KINDS = {"": ("edits", tried, "refused"), "--more": ("more_edits", tried, "refused"),
+         "--controls": ("controls", proved, "proved")}
 
 
 def main(words):
     kind = words[0] if words and words[0] in KINDS else ""
-    (folder, tries), words, crates = KINDS[kind], words[bool(kind):], listed()
+    (folder, tries, wanted), words, crates = KINDS[kind], words[bool(kind):], listed()
     unknown = [it for it in words if it not in crates]
     if unknown:
         print(f"try_edits: crates.txt lists no crate {unknown[0]}", file=sys.stderr)
@@ -149,7 +149,7 @@ def main(words):
         for place, (crate, _) in enumerate(works):
             for name, is_well, why in begun[place].result():
                 passed, failed = passed + is_well, failed + (not is_well)
-                print(f"{'well  ' if is_well else 'FAILED'} {crate}/{name}: {why}", flush=True)
+                print(f"{wanted if is_well else 'FAILED'} {crate}/{name}: {why}", flush=True)
     print(f"{passed} passed, {failed} failed")
     return 1 if failed else 0
 
