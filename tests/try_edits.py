@@ -122,7 +122,7 @@ def proved(crate, edits, names):
     said, status = checked(crate, edits, names)
     if status and len(names) > 1:
         return [proved(crate, edits, {name: names[name]})[0] for name in names]
-    return [(name, status == 0, said.strip()[-160:]) for name in names]
+    return [(name, status == 0, said.strip().split("\n")[-1][:160]) for name in names]
 
 
 # What is asked for: the folder of its edits, what tries them, and what they have to be.
