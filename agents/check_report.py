@@ -10,6 +10,8 @@ import json
 import re
 import sys
 
+NUMBER = "(?:0|[1-9][0-9]*)"
+
 
 def is_subsequence(part, whole):
     """Whether some items of `whole`, in their order, are `part`."""
@@ -79,15 +81,12 @@ def fault(job, report):
         return "not two lines for each node"
     items, acked, ended = {}, {}, {}
     for at, name in enumerate(parents):
-        form = re.fullmatch(rf"{re.escape(name)} depth (\d+) received (\d+) acked (-|\d+) "
-                            r"ended (upstream|turns)", lines[2 * at], re.ASCII)
-        if not form or not re.fullmatch(r"items:( \d+)*", lines[2 * at + 1], re.ASCII):
+        form = re.fullmatch(rf"{re.escape(name)} depth ({NUMBER}) received ({NUMBER}) "
+                            rf"acked (-|{NUMBER}) ended (upstream|turns)", lines[2 * at])
+        items[name] = [int(word) for word in lines[2 * at + 1].split()[1:] if word.isdigit()]
+        if (not form or not re.fullmatch(f"items:( {NUMBER})*", lines[2 * at + 1])
+                or max(items[name], default=0) >> 32):
             return f"{name}: the lines have another form"
-        words = lines[2 * at + 1].split()[1:]
-        items[name] = [int(word) for word in words]
-        numbers = [form[1], form[2], *words] + ([form[3]] if form[3] != "-" else [])
-        if any(str(int(word)) != word for word in numbers) or max(items[name], default=0) >> 32:
-            return f"{name}: a number is written in another way"
         if int(form[1]) != depth_of(name, parents) or int(form[2]) != len(items[name]):
             return f"{name}: another depth or number of items"
         if (form[3] == "-") != (parents[name] is None):

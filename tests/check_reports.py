@@ -31,7 +31,7 @@ from jobs import drawn_link, drawn_tree  # noqa: E402
 from programs import Cases, answered, run_with  # noqa: E402
 
 # How the plain program ends where a text is no report.
-NO_REPORT = "another form", "another way", "number of items", "each node", "not end", "have an end"
+NO_REPORT = "another form", "number of items", "each node", "not end", "have an end"
 # Long runs of a chain that begins clean: the words, the number of items, that of the turns, and how
 # long its links lose and repeat.
 LONG = [(["run"], 1_000, 4_000, 200), (["run", "--words"], 10_000, 25_000, 20_000)]
