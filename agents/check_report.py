@@ -10,6 +10,8 @@ import json
 import re
 import sys
 
+NUMBER = "(?:0|[1-9][0-9]*)"
+
 
 def is_subsequence(part, whole):
     """Whether some items of `whole`, in their order, are `part`."""
@@ -79,15 +81,12 @@ def fault(job, report):
         return "not two lines for each node"
     items, acked, ended = {}, {}, {}
     for at, name in enumerate(parents):
-        form = re.fullmatch(rf"{re.escape(name)} depth (\d+) received (\d+) acked (-|\d+) "
-                            r"ended (upstream|turns)", lines[2 * at], re.ASCII)
-        if not form or not re.fullmatch(r"items:( \d+)*", lines[2 * at + 1], re.ASCII):
+        form = re.fullmatch(rf"{re.escape(name)} depth ({NUMBER}) received ({NUMBER}) "
+                            rf"acked (-|{NUMBER}) ended (upstream|turns)", lines[2 * at])
+        items[name] = [int(word) for word in lines[2 * at + 1].split()[1:] if word.isdigit()]
+        if (not form or not re.fullmatch(f"items:( {NUMBER})*", lines[2 * at + 1])
+                or max(items[name], default=0) >> 32):
             return f"{name}: the lines have another form"
-        words = lines[2 * at + 1].split()[1:]
-        items[name] = [int(word) for word in words]
-        numbers = [form[1], form[2], *words] + ([form[3]] if form[3] != "-" else [])
-        if any(str(int(word)) != word for word in numbers) or max(items[name], default=0) >> 32:
-            return f"{name}: a number is written in another way"
         if int(form[1]) != depth_of(name, parents) or int(form[2]) != len(items[name]):
             return f"{name}: another depth or number of items"
         if (form[3] == "-") != (parents[name] is None):
@@ -126,29 +125,32 @@ def obeys_tree_law(strays, without, missing, published, received):
     return False
 
 
+def most_missing(capacities):
+    """How many of the first items a node may miss, by the capacities of its links from its own one
+    upwards: without strays, and at most. (One link may miss 2c + 1, each above it c + 1, and those
+    beneath it none.)"""
+    once = [capacity + 1 for capacity in capacities]
+    return sum(once), max((capacity + sum(once[at:]) for at, capacity in enumerate(capacities)),
+                          default=0)
+
+
 def tree_fault(job, report):
     """Which node does not obey the tree law, or nothing. Every opening counts with its own length,
     and so does what an inner node had for the next one on the path; what the root had for its child
     counts as published. The report has a form that `fault` accepts."""
     parents, backlogs, openings, _, all_capacities = parts_of(job)
     for name, line in zip(parents, report.split("\n")[1::2]):
-        strays = without = 0
-        capacities = []
-        published = job["items"]
-        above = name
+        strays, capacities, published, above = 0, [], job["items"], name
         while parents[above] is not None:
-            capacity = all_capacities[above]
-            strays, without = strays + capacity + len(openings[above]), without + capacity + 1
-            capacities.append(capacity)
+            strays += all_capacities[above] + len(openings[above])
+            capacities.append(all_capacities[above])
             if parents[parents[above]] is None:
                 published = backlogs[above] + published
             else:
                 strays += len(backlogs[above])
             above = parents[above]
         received = [int(word) for word in line.split()[1:]]
-        # (one link may miss 2c + 1, each above it c + 1, and those beneath it none)
-        missing = max((2 * capacity + 1 + sum(it + 1 for it in capacities[at + 1:])
-                       for at, capacity in enumerate(capacities)), default=0)
+        without, missing = most_missing(capacities)
         if not obeys_tree_law(strays, without, missing, published, received):
             return (f"{name}: the tree law is broken, with at most {strays} strays, and none "
                     f"missing but among the first {without}, one more for each stray, and at most "

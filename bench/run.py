@@ -1,12 +1,11 @@
 #!/usr/bin/env python3
-"""Measures `stab` on jobs of growing size: bench/run.py [--stab PROGRAM] [--quick | --runs]
+"""Measures `stab` on jobs of growing size: bench/run.py [--quick | --runs]
 
 Makes the jobs in bench/build/ (the same bytes each time), runs each job five times, and prints the
 median of the processor time, the events per second and the peak memory. Nothing is subtracted: a
-time is that of the whole process. Run it by hand; the gate does not. Needs Python 3.9 or later,
-and the kit, whose clang builds tests/hostile/measure.c.
-Without --stab it measures the program of ./stab, which builds it if that was not done yet for these
-sources.
+time is that of the whole process. Run it by hand; the gate does not. It needs Python 3.9 or later,
+and Debian's package time.
+It measures the program of ./stab, or the one that PROGRAM_STAB names.
 
 With --runs it measures runs of worker threads instead, in turn with the same tree of threads over
 channels (channels.rs, which rustc builds): alone, and beside one busy loop for each processor.
@@ -29,7 +28,7 @@ BUILD = os.path.join(HERE, "build")
 TOP = os.path.dirname(HERE)
 sys.dont_write_bytecode = True
 sys.path[:0] = [os.path.join(TOP, "tools"), os.path.join(TOP, "tests", "hostile")]
-from largest import build_measure, run  # noqa: E402
+from largest import run  # noqa: E402
 from programs import built  # noqa: E402
 
 RUNS = 5
@@ -201,24 +200,20 @@ def path_of(words, name, count, job):
 
 def main():
     parser = argparse.ArgumentParser(description=__doc__.splitlines()[0])
-    parser.add_argument("--stab", metavar="PROGRAM", help="measure it, not the program of ./stab")
     parser.add_argument("--quick", action="store_true", help="jobs of up to 100,000 events")
     parser.add_argument("--runs", action="store_true", help="runs of worker threads instead")
     options = parser.parse_args()
     os.makedirs(BUILD, exist_ok=True)
-    program = options.stab or built("stab", BUILD)
-    if not os.access(program, os.X_OK):
-        sys.exit(f"there is no program at {program}")
+    program = built("stab", BUILD)
     load = os.getloadavg()[0]
     print(f"{time.strftime('%Y-%m-%d')}, {os.cpu_count()} processors, load {load:.1f}")
     if options.runs:
         measure_runs(program)
         return
-    measure = build_measure(BUILD)
     print(f"{'job':24} {'events':>9} {'MB':>6} {'ms':>8} {'events/s':>11} {'peak MB':>8}")
     for words, name, count, job in jobs(options.quick):
         path = path_of(words, name, count, job)
-        runs = [run(measure, program, words, path) for _ in range(RUNS)]
+        runs = [run(program, words, path) for _ in range(RUNS)]
         found = [(processor, peak) for _, processor, peak, status, _ in runs if status == 0]
         if not found:
             print(f"{name:24} {count:9} refused")

@@ -65,11 +65,9 @@ def tries_library(cases, room, before):
     made = {}
     for name, sources in ("both", ["both", "inline"]), ("plain", ["both", "plain"]), (
             "link", ["link"]):
-        objects = [room / f"{name}-{it}.o" for it in sources]
-        builds = all(subprocess.call([*map(str, static.compiled(
-            library, "aarch64", TOP / f"tests/library/{it}.c", to, "-I", TOP / "include"))]) == 0
-            for it, to in zip(sources, objects)) and subprocess.call([*map(str, static.linked(
-                library, room / name, *objects, *archives))]) == 0
+        sources = [TOP / f"tests/library/{it}.c" for it in sources]
+        builds = static.builds(library, "aarch64", room / name, sources, "-I", TOP / "include",
+                               last=archives)
         cases.holds(f"arm64: {name} builds", builds)
         made[name] = wrapped(before, room / name, room / "c" / name)
     for name in "both", "plain":

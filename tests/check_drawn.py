@@ -19,14 +19,13 @@ PROGRAM_RIGNOLDA and PROGRAM_STAB in the environment name others. The last line 
 
 import json
 import re
-import subprocess
 import sys
 from pathlib import Path
 
 TOP = Path(__file__).resolve().parent.parent
 sys.path[:0] = [str(TOP / "tools"), str(TOP / "tests/faults")]
 
-from programs import counted, run_with
+from programs import answered, counted, run_with
 from reference import Link
 from tree_picture import drawn
 
@@ -49,11 +48,8 @@ WITHOUT_JOB = ["What goes wrong with two labels"]
 
 def draw(drawer, name, *words, command="draw"):
     """What the program draws of an example, or None and what it said."""
-    job = DATA / (name + ".json")
-    done = subprocess.run([drawer, command, *words, job], capture_output=True, text=True)
-    if done.returncode == 0:
-        return done.stdout, None
-    return None, done.stderr.strip() or f"status {done.returncode}"
+    status, text, said = answered(drawer, command, *words, DATA / f"{name}.json")
+    return (None, said.strip() or f"status {status}") if status else (text, None)
 
 
 def pictures(drawer):
@@ -223,11 +219,10 @@ def compare_command(files, words, lines):
     if name not in files:
         return None if (TOP / name).is_file() else f"there is no {name}"
     # (the file comes as a word, since its path may have spaces)
-    done = subprocess.run(["bash", "-c", f'"$0" {rest}', files[name]], cwd=TOP,
-                          capture_output=True, text=True)
+    text, said = answered("bash", "-c", f'"$0" {rest}', files[name], cwd=TOP)[1:]
     wanted = "".join(
         r"(?:.*\n)*?" if line == "..." else re.escape(f"{line}\n") for line in lines)
-    return None if re.fullmatch(wanted, done.stdout) else f"it prints:\n{done.stdout}{done.stderr}"
+    return None if re.fullmatch(wanted, text) else f"it prints:\n{text}{said}"
 
 
 # ---- all of it

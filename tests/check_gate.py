@@ -40,7 +40,7 @@ def run_gate(*words, **env):
 
 def run(first=PARTS[0], second=PARTS[1], *words, **env):
     """Runs the gate with these two parts. Further words are those of the gate."""
-    house.command(house.bin / "rt", f'[ "$1" = ci ] || {{ echo "kit-1 ${{KEEPS-}}"; exit; }}\n'
+    house.command(house.bin / "rt", '[ "$1" = ci ] || { echo kit-1; exit; }\n'
                   f'echo "$PWD: rt $*, ${{RT_JOBS-none}}"; {FIRST}; {first}')
     house.command("tests/refused/check.py", f'echo "$PWD: check $*"; {second}')
     return run_gate(*words, **env)
@@ -122,13 +122,11 @@ holds("it says how many tasks run at once, and why", re.search("^gate: [0-9]+ ta
 run(RT_JOBS="3")
 holds("which the environment decides, if it does",
       {"gate: 3 tasks at once: as RT_JOBS says", f"{house.top}: rt ci, 3"} <= {*lines()})
-for keeps, name in ("[--anew]", "with --anew all of it is proved again"), (
-        "", "also by a kit that keeps nothing, and has no such word"):
-    said = run(*PARTS, "--anew", KEEPS=keeps).out
-    words = " --anew" if keeps else ""
-    holds(name, re.search(f"^{house.top}: rt ci{words}, [0-9]+$", said, re.M))
-said = house.run("taskset", "-c", "0", "python3", "-B", house.top / "tools/crates.py", "tasks").out
-holds("never more than the processors", said.startswith("1 "))
+said = run(*PARTS, "--anew").out
+holds("with --anew all of it is proved again",
+      re.search(f"^{house.top}: rt ci --anew, [0-9]+$", said, re.M))
+said = house.run("taskset", "-c", "0", house.top / "gate", TMPDIR=str(house.temporary)).out
+holds("never more than the processors", "gate: 1 tasks at once: 1 processors, " in said)
 for pages, release, last, name in (
         ("2 passed, 0 failed", "2 passed, 1 failed; exit 1", "351 passed, 1 failed",
          "a release that differs fails the gate"),
@@ -212,71 +210,10 @@ holds("and what rt says of that is kept", "`rt ci` did 3 of the 9 proofs (of cra
       "tests), and took" in page.read_text())
 remove(house.top / "tests/edits")
 
-# The loop of a developer, in a house of four crates: a program over mid, which has tests and is
-# over low; and a crate beside them. What rt does with a crate is in the file steps.
-house.write("crates.txt", "low:\nmid: low\nbeside: low\nprogram: mid\n")
-house.write("crates/mid/src/tests.rt", "#[test]\nfn holds() {}\n")
-house.write("crates/program/src/main.rt")
-for crate in "low", "mid", "beside":
-    house.write(f"crates/{crate}/src/lib.rt")
-for crate in "low", "mid":
-    house.write(f"crates/{crate}/must-fail/a.edit")
-
-
-def run_only(fails, *crates):
-    """Runs the gate with --only, where rt fails at one step."""
-    house.write(house.work / "steps")
-    house.command(house.bin / "rt", f"""at=${{PWD##*/}}
-        [ "$1" != must-fail ] || at=$2
-        echo "$1 $at" >>"$WORK/steps"
-        echo "what rt says of $1 $at"
-        if [ "$1" = must-fail ]; then
-            echo "rt: must-fail $2/a.edit: refused, as it must be: x"
-            echo "rt: must-fail $2/b.edit: refused, as it must be: x"
-        fi
-        [ "$1 $at" != '{fails}' ] || {{
-            [ "$1" != must-fail ] || echo "rt: must-fail $2/c.edit: NOT REFUSED: x"
-            exit 1; }}""")
-    return run_gate("--only", *crates, RT_JOBS="2")
-
-
 def did(status, last, *steps):
     """Whether it ended with this status and this last line, after these steps."""
     return ended(status, last) and house.read("steps").split("\n")[:-1] == [*steps]
 
-
-MID = "lib mid", "test mid", "check program", "must-fail mid"
-said = run_only("", "mid").out
-holds("a crate, its tests and those above it, and then planted bugs",
-      did(0, "5 passed, 0 failed", *MID))
-holds("with the time so far",
-      re.search("^gate: 0 min  ?[0-9]+ s: mid is proved: well$", said, re.M))
-holds("without what rt says", "what rt says" not in said)
-house.command("tests/try_edits.py", """echo "apart $*" >>"$WORK/steps"
-    echo 2 passed, 1 failed
-    exit 1""")
-for crate in "mid", "beside":
-    (house.top / "tests/edits" / crate).mkdir(parents=True)
-run_only("", "mid")
-holds("and those that are tried apart", did(1, "7 passed, 1 failed", *MID, "apart mid"))
-remove(house.top / "tests/edits")
-run_only("", "program", "beside")
-holds("two crates, and no more", did(0, "2 passed, 0 failed", "lib beside", "check program"))
-run_only("", "low")
-holds("all that stand on the lowest", ended(0, "9 passed, 0 failed")
-      and sorted(house.read("steps").split("\n")[:-1]) == [
-          "check program", "lib beside", "lib low", "lib mid", "must-fail low", "must-fail mid",
-          "test mid"])
-said = run_only("lib mid", "mid").out
-holds("after a crate that is not proved nothing follows", did(1, "0 passed, 1 failed", MID[0]))
-holds("and what rt says is shown", "what rt says of lib mid\n" in said)
-run_only("test mid", "mid")
-holds("nor after tests that fail", did(1, "1 passed, 1 failed", *MID[:2]))
-said = run_only("must-fail mid", "mid").out
-holds("a planted bug that is not refused fails", did(1, "5 passed, 1 failed", *MID))
-holds("and is named", "mid/c.edit: NOT REFUSED" in said)
-holds("a crate that is not listed is refused", run_only("", "mid", "no_such").status == 2)
-holds("and so is none", run_only("").status == 2)
 
 # Planted bugs that are tried apart, of a crate of four functions. The prover is a command that goes
 # by what a body says.
@@ -351,6 +288,9 @@ tried("one that is in no function is tried in the whole crate", 0, "1 passed, 0 
       [("= 4", "= 5 wrong")])
 tried("those that are tried by hand", 0, "1 passed, 0 failed", [ONE], [FIRST], "--more", "low",
       folder="more_edits")
+tried("controls are proved, and where one is not, each is tried alone", 1, "1 passed, 1 failed",
+      [TWO + ONE, ONE, TWO], [("first", "right"), ("second", "wrong")], "--controls", "low",
+      folder="controls")
 holds("a crate that is not listed is refused",
       house.run(house.top / "tests/try_edits.py", "no_such").status == 2)
 
@@ -358,8 +298,7 @@ holds("a crate that is not listed is refused",
 house.command(house.bin / "rt", """trap 'kill $!; echo ended >"$WORK/ended"; exit 1' TERM
     sleep 600 & echo started >"$WORK/started"; wait""")
 for name, status in ("TERM", 143), ("INT", 130), ("HUP", 129):
-    for words in [], ["--only", "low"]:
-        house.interrupted(name, house.top / "gate", *words, TMPDIR=str(house.temporary))
-        holds(f"it ends at the signal {name}, with what it started ({' '.join(words)})",
-              house.ended.status == status and house.read("ended") and house.left_nothing())
+    house.interrupted(name, house.top / "gate", TMPDIR=str(house.temporary))
+    holds(f"it ends at the signal {name}, with what it started",
+          house.ended.status == status and house.read("ended") and house.left_nothing())
 sys.exit(house.sum_up())

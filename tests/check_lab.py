@@ -1,23 +1,16 @@
 #!/usr/bin/env -S python3 -B
-"""Judges right and wrong ends by lab/check_ends.py, as a student would.
-
-    tests/check_lab.py            judges them
-    tests/check_lab.py --count    counts the states of the right protocols anew, and nothing else:
-                                  half a minute
-
-Each run that is said to break the law is played again here, with objects of the ends themselves,
-and the law is read from its lists. The last line is 'N passed, M failed'."""
+"""Judges right and wrong ends by lab/check_ends.py, as a student would. Each run that is said to
+break the law is played again here, with objects of the ends themselves, and the law is read from
+its lists. The last line is 'N passed, M failed'."""
 import ast
 import base64
 import importlib.util
-import itertools
 import json
 import os
 import re
 import subprocess
 import sys
 import tempfile
-from collections import deque
 from pathlib import Path
 
 TOP = Path(__file__).resolve().parent.parent
@@ -28,13 +21,14 @@ from programs import Cases  # noqa: E402
 NOT_DELIVERED = "counts as acknowledged and was not delivered"
 NOT_FIRST = NOT_DELIVERED + ", and it is not among the first 3"
 NO_MORE = "in the last 3 rounds nothing was lost, and no item counts as acknowledged"
-# How many states the right ends have, and those that miss nothing: `counted` counts them from the
-# rules of the two protocols alone.
-STATES = [("right", "", 5_691), ("right", "-k 3", 3_038), ("right", "-c 2", 1_136_168),
-          ("misses_nothing", "--miss-nothing", 2_478),
-          ("misses_nothing", "--miss-nothing -c 2", 439_369)]
-# For each of them: more words, the status, and what is said.
+# By the name of ends in lab/ends: more words, the status, and what is said. (A search by the rules
+# of the two right protocols alone counted as many states.)
 CASES = [
+    ("right", "", 0, "labels, 5691 states.\n"),
+    ("right", "-k 3", 0, "labels, 3038 states.\n"),
+    ("right", "-c 2", 0, "labels, 1136168 states.\n"),
+    ("misses_nothing", "--miss-nothing", 0, "labels, 2478 states.\n"),
+    ("misses_nothing", "--miss-nothing -c 2", 0, "labels, 439369 states.\n"),
     ("two_labels", "", 1, f"BROKEN after 14 events: item 3 {NOT_FIRST}"),
     ("next_label", "", 1, f"BROKEN after 14 events: item 3 {NOT_FIRST}"),
     ("any_acknowledgement", "", 1, f"BROKEN after 8 events: item 3 {NOT_FIRST}"),
@@ -251,83 +245,8 @@ def replayed(file, said, page, misses):
     return None
 
 
-# ---- the states of the two right protocols
-
-def counted(capacity, labels, misses_nothing):
-    """How many states two ends have from all starts, with any number of items: the frames, the
-    acknowledgements, the sender's label and item, the receiver's label, the last item delivered,
-    and the items that count as acknowledged, up to so many as may be missing; from there on all
-    numbers are counted down."""
-    of_line = [*range(labels), 65535]
-    of_sender = range(labels) if misses_nothing else of_line
-    most = 1 if misses_nothing else 2 * capacity + 1
-    todo = deque()
-    seen = set()
-
-    def add(*state):
-        if state not in seen:
-            seen.add(state)
-            todo.append(state)
-
-    for send, recv, item in itertools.product(of_sender, of_line, (None, 0)):
-        for front in itertools.product(of_line, repeat=capacity):
-            for acks in itertools.product(of_line, repeat=capacity):
-                # (an idle sender that misses nothing has label 0)
-                if not (misses_nothing and item is None and send):
-                    first = int(misses_nothing and item == 0)
-                    add(tuple(zip(front, range(-capacity, 0))), acks, send, item, recv,
-                        -capacity - 1, 0, first)
-    while todo:
-        frames, acks, send, item, recv, last, acked, first = todo.popleft()
-        if item is None:
-            add(frames, acks, send, acked, recv, last, acked, first)
-        elif len(frames) < capacity:
-            add((*frames, (send, item)), acks, send, item, recv, last, acked, first)
-        if len(acks) < capacity:
-            add(frames, (*acks, recv), send, item, recv, last, acked, first)
-        for k in range(len(frames)):
-            add(frames[:k] + frames[k + 1:], acks, send, item, recv, last, acked, first)
-        for k in range(len(acks)):
-            add(frames, acks[:k] + acks[k + 1:], send, item, recv, last, acked, first)
-        if frames and frames[0][0] != recv:
-            label, given = frames[0]
-            then = given if not misses_nothing or label == labels - 1 else last
-            for rest in frames[1:], frames:
-                add(rest, acks, send, item, label, then, acked, first)
-        if acks and item is not None and acks[0] == send:
-            after = send + 1 if send + 1 < labels else 0
-            for rest in acks[1:], acks:
-                if misses_nothing and after:
-                    add(frames, rest, after, item, recv, last, acked, first)
-                elif acked < most:
-                    add(frames, rest, after, None, recv, last, acked + 1, first)
-                else:
-                    less = tuple((label, one if one < 1 else one - 1) for label, one in frames)
-                    add(less, rest, after, None, recv, last - 1, acked, first)
-    return len(seen)
-
-
-def count_anew():
-    """Counts the states that are written down above."""
-    cases = Cases()
-    for ends, words, states in STATES:
-        capacity, labels = (int((re.findall(f"{flag} ([0-9]+)", words) or [0])[0]) for flag in
-                            ("-c", "-k"))
-        capacity = capacity or 1
-        found = counted(capacity, labels or 2 * capacity + 2, "--miss" in words)
-        cases.holds(f"{ends} {words}: its states", found == states, found)
-    return cases.sum_up()
-
-
 def main():
-    if sys.argv[1:] == ["--count"]:
-        return count_anew()
     cases = Cases()
-    for ends, words, states in STATES:
-        said = judged(TOP / f"lab/ends/{ends}.py", *words.split())
-        cases.holds(f"{ends} {words}: its states", said.returncode == 0
-                    and f"labels, {states} states.\n" in said.stdout,
-                    f"{states}, and: {said.stdout}{said.stderr}")
     with tempfile.TemporaryDirectory() as folder:
         page = Path(folder, "run.html")
         mine = Path(folder, "mine.py")

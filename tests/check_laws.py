@@ -85,31 +85,22 @@ def costs(rng):
 
 
 class Reading:
-    """What a reading round of a link waits for, and whether one is complete."""
+    """How far a link is in a reading round, whose acts it awaits in their order."""
 
     def __init__(self, capacity):
-        self.capacity, self.left, self.is_complete = capacity, 0, False
-        self.state = "offer"
+        self.acts, self.at, self.is_complete = reading_round(capacity), 0, False
 
     def awaited(self):
-        return {"offer": "offer", "frames": "recv_frame" if self.left else "send_frame",
-                "frame": "recv_frame", "acks": "recv_ack" if self.left else "send_ack",
-                "ack": "recv_ack"}[self.state]
+        return self.acts[self.at]
 
     def see(self, act):
-        if (self.state, act) in (("frame", "lose_frame"), ("ack", "lose_ack")):
-            self.state, self.left = f"{self.state}s", 0
-        elif act != self.awaited():
-            return
-        elif self.state in ("frames", "acks") and self.left:
-            self.left -= 1
-        elif self.state in ("frames", "acks"):
-            self.state = self.state[:-1]
-        elif self.state == "ack":
-            self.state, self.is_complete = "offer", True
-        else:
-            self.state = "frames" if self.state == "offer" else "acks"
-            self.left = self.capacity
+        """Notes an act. What was just sent, and is lost, has to be sent again."""
+        if act == self.awaited():
+            self.at = (self.at + 1) % len(self.acts)
+            self.is_complete = self.is_complete or self.at == 0
+        elif (self.acts[self.at - 1], act) in (("send_frame", "lose_frame"),
+                                               ("send_ack", "lose_ack")):
+            self.at -= 1
 
 
 def path_round(rng, tree, way, new):

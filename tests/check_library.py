@@ -78,7 +78,8 @@ class Library(Cases):
                        status == 1 and said.startswith("broken: "), said)
 
     def in_both(self, name, rounds, words):
-        """Compares each call of the archive with the inline one, and with what plain C says."""
+        """Compares each call of the archive with the inline one, which so does what the archive is
+        seen to do, and with what plain C says."""
         for form in "inline", "plain":
             made = self.room / form
             self.works(f"{name}: {form} calls build", words[0], "tests/library/both.c",
@@ -151,7 +152,6 @@ class Library(Cases):
         words = clang("-std=gnu11", "-nostdinc", "-isystem", "tests/library/bare",
                       f"-I{self.include}", "-fsanitize=undefined", "-fsanitize-trap=undefined")
         self.in_c("the kit", "20000", 300, [*words, self.archive])
-        self.in_c("the kit, inline", "20000", 300, [*words, INLINE])
         self.in_both("the kit", "100000 1", [*words, self.archive])
         self.has_all_calls()
         self.declares_the_calls_of_settings()
@@ -171,10 +171,9 @@ class Library(Cases):
                 continue
             words = [name, *IN_C, "-Wconversion", f"-I{self.include}", "-Wl,--as-needed"]
             safe = [*words, "-g", "-fsanitize=address,undefined", "-fno-sanitize-recover=all"]
+            self.in_c(name, "1000000", 10000, [*words, self.archive])
+            self.in_c(f"{name}, sanitizers", "200000", 2000, [*safe, self.archive])
             for form, more in ("", []), (", inline", [INLINE]):
-                linked = more or [self.archive]
-                self.in_c(name + form, "1000000", 10000, [*words, *linked])
-                self.in_c(f"{name}{form}, sanitizers", "200000", 2000, [*safe, *linked])
                 for kind in ["c++", "-std=c++11"], ["c", "-std=c11", "-pedantic"]:
                     self.works(f"{name}{form}: the header in {kind[1][5:]}", name, "-x", *kind,
                                *WARNED, "-Wconversion", *more, "-fsyntax-only",

@@ -3,42 +3,11 @@
 
     tests/check_page.py [--jobs N] [--seed N] [chromium|firefox]..
 
-It takes the commands `chromium` and `firefox-esr` (Debian's packages), and the programs.
-In each browser it looks that
-
-- the page is at most 120 kB, and ready in less than 200 ms;
-- each link example, and each drawn job (1,000 of them), gives the text of `stab link --trace`, and
-  the strays and missing items that are counted are within their bounds;
-- each tree example that fits the page, and each drawn small tree with a schedule (1,000 of them),
-  gives the text of `stab tree`; the strays and missing items of each node are those that an own
-  count finds in this text, and within bounds that are added up here;
-- each job that the program refuses is refused, and no other, but for trees that are too large;
-- each exercise is refused with too few events, and solved with the events that are given here, and
-  what is said of events that only seem to solve it is right;
-- what is drawn of the circle is what the module says, an item is delivered where the page says that
-  its acknowledgement will show it, and the rows and stars are those of the runs in
-  docs/PROTOCOL.md;
-- rounds are counted as docs/PROTOCOL.md counts them;
-- the hint, the live check and the solution of an exercise come when they should;
-- what follows a fault in a tree is what the program says of the job that is saved, and backlogs go
-  down, are marked and are counted as it was worked out by hand;
-- a run that the lab writes into an address is drawn as it was, and a spoiled one is refused;
-- the proof steps through states that were worked out by hand, marks what it speaks of, and can be
-  played, left, and opened by an address;
-- by keys alone each exercise is played in as many of them as it has events, and the proof from its
-  first step to its last;
-- an address and an exercise bring what they name onto the screen, at three widths, and on a narrow
-  one the circle is seen together with each control that moves it;
-- the circle is drawn with 2c + 2 places, and called the ring that it is;
-- in Chromium's tree for screen readers each control has a role and a name, and each picture and
-  list a text; a step is announced once;
-- the runs on the slides of the lesson are those of the page; no slide overflows, keys turn them;
-- a step of the slider, the best of ten, takes less than 50 ms at 4,096 events, at 360 pixels
-  nothing is cut off, and nothing but the picture of a page is printed;
-- what is said of missing items fits the number of labels, and of an item whose frame is under way;
-- the buttons, the slider, the keys and the address do what they say;
-
-The last line is 'N passed, M failed'.
+It takes Debian's packages chromium-driver, firefox-esr and python3-websocket, and the programs. In
+each browser it looks at all that the methods of `Checks` say: that texts, counts and refusals are
+those of the program, for all examples and 1,000 drawn jobs of a link and of a tree; that exercises,
+proof, questions, addresses, keys, faults and backlogs do what was worked out by hand; and that all
+of it is seen, announced once, and in time. The last line is 'N passed, M failed'.
 """
 import argparse
 import base64
@@ -49,17 +18,21 @@ import os
 import pathlib
 import random
 import re
-import socket
 import subprocess
 import sys
 import tempfile
+import threading
 import time
+import urllib.request
+
+import websocket
 
 TOP = pathlib.Path(__file__).resolve().parent.parent
-sys.path.insert(0, str(TOP / "tools"))
+sys.path[:0] = [str(TOP / "tools"), str(TOP / "agents")]
 from check_drawn import blocks, cut, is_head  # noqa: E402
+from check_report import parts_of  # noqa: E402
 from jobs import drawn_link, drawn_tree  # noqa: E402
-from programs import Cases, built, ran  # noqa: E402
+from programs import Cases, answered, built, ran  # noqa: E402
 
 PAGE = TOP / "page" / "index.html"
 DATA = TOP / "crates" / "gate_checks" / "data"
@@ -73,62 +46,74 @@ SCREENS = (1280, 800), (1024, 768), (390, 844)
 CONTROLS = "button, input, select, textarea"
 
 
-class Chromium:
-    """Chromium, driven over a pipe."""
+class Browser:
+    """Chromium or Firefox, driven by WebDriver BiDi over a socket of this machine."""
 
-    def __init__(self, folder):
-        to_read, self.write = os.pipe()
-        self.read, to_write = os.pipe()
-        self.rest, self.count = b"", 0
+    def __init__(self, name, folder):
+        self.count = 0
+        (self.chromium if name == "chromium" else self.firefox)(folder)
+        # (in the first tab of Firefox, which has no focus, Enter presses no button)
+        self.context = self.ask("browsingContext.create", type="tab")["context"]
 
-        def wire():
-            os.dup2(to_read, 103), os.dup2(to_write, 104)
-            os.dup2(103, 3), os.dup2(104, 4)
+    def started(self, said, *words, **env):
+        """Starts a program, and answers what it says where its socket is."""
+        self.process = subprocess.Popen(words, env={**os.environ, **env}, text=True,
+                                        stdout=subprocess.PIPE, stderr=subprocess.STDOUT)
+        for line in self.process.stdout:
+            if found := re.search(said, line):
+                # (what it says later is not read)
+                threading.Thread(target=self.process.stdout.read, daemon=True).start()
+                return found[1]
+        raise RuntimeError(f"{words[0]} has ended")
 
-        words = ["chromium", "--headless=new", "--no-sandbox", "--disable-gpu", "--no-first-run",
-                 "--remote-debugging-pipe", f"--user-data-dir={folder}", "about:blank"]
-        quiet = {"stdout": subprocess.DEVNULL, "stderr": subprocess.DEVNULL}
-        self.process = subprocess.Popen(words, preexec_fn=wire, close_fds=False, **quiet)
-        os.close(to_read), os.close(to_write)
-        target = next(t for t in self.ask("Target.getTargets")["targetInfos"]
-            if t["type"] == "page")
-        said = self.ask("Target.attachToTarget", targetId=target["targetId"], flatten=True)
-        self.session = said["sessionId"]
-        self.ask("Page.enable")
+    def chromium(self, folder):
+        port = self.started(r"successfully on port (\d+)", "chromedriver", "--port=0")
+        args = ["--headless=new", "--no-sandbox", "--disable-gpu", f"--user-data-dir={folder}"]
+        asked = {"capabilities": {"alwaysMatch": {
+            "webSocketUrl": True, "goog:chromeOptions": {"args": args}}}}
+        request = urllib.request.Request(f"http://127.0.0.1:{port}/session",
+                                         json.dumps(asked).encode(),
+                                         {"Content-Type": "application/json"})
+        with urllib.request.urlopen(request) as it:
+            its = json.load(it)["value"]["capabilities"]
+        self.socket = websocket.create_connection(its["webSocketUrl"], suppress_origin=True)
 
-    session = None
+    def firefox(self, folder):
+        url = self.started(r"listening on (ws:\S+)", "firefox-esr", "--headless",
+                           "--remote-debugging-port=0", "--no-remote", "--profile", folder,
+                           HOME=folder)
+        self.socket = websocket.create_connection(f"{url}/session", suppress_origin=True)
+        self.ask("session.new", capabilities={})
 
-    def ask(self, method, **params):
+    def ask(self, method, /, **params):
         self.count += 1
-        message = {"id": self.count, "method": method, "params": params}
-        if self.session:
-            message["sessionId"] = self.session
-        data = json.dumps(message).encode() + b"\0"
-        while data:
-            data = data[os.write(self.write, data):]
+        self.socket.send(json.dumps({"id": self.count, "method": method, "params": params}))
         while True:
-            while b"\0" not in self.rest:
-                self.rest += os.read(self.read, 1 << 20)
-            one, _, self.rest = self.rest.partition(b"\0")
-            said = json.loads(one)
+            said = json.loads(self.socket.recv())
             if said.get("id") == self.count:
-                if "error" in said:
-                    raise RuntimeError(f"{method}: {said['error']}")
+                if said["type"] == "error":
+                    raise RuntimeError(f"{method}: {said['message']}")
                 return said["result"]
 
+    def ask_chromium(self, method, /, **params):
+        """What no standard has yet."""
+        its = self.ask("goog:cdp.getSession", context=self.context)
+        return self.ask("goog:cdp.sendCommand", method=method, params=params, **its)["result"]
+
     def size(self, width, height):
-        self.ask("Emulation.setDeviceMetricsOverride", width=width, height=height,
-                 deviceScaleFactor=1, mobile=width < 600)
+        self.ask("browsingContext.setViewport", context=self.context,
+                 viewport={"width": width, "height": height})
 
     def go(self, address):
-        self.ask("Page.navigate", url="about:blank")
-        self.ask("Page.navigate", url=address)
+        for url in "about:blank", address:
+            self.ask("browsingContext.navigate", context=self.context, url=url, wait="complete")
 
     def run(self, text):
         """The value of an expression of the page, which is a text of JSON."""
-        said = self.ask("Runtime.evaluate", expression=text, returnByValue=True)
-        if "exceptionDetails" in said:
-            raise RuntimeError(json.dumps(said["exceptionDetails"])[:500])
+        said = self.ask("script.evaluate", expression=text, target={"context": self.context},
+                        awaitPromise=False)
+        if said["type"] != "success":
+            raise RuntimeError(json.dumps(said)[:500])
         return json.loads(said["result"]["value"])
 
     def spoken(self):
@@ -137,98 +122,20 @@ class Chromium:
         value = lambda node, key: node.get(key, {}).get("value", "")
         return [(value(node, "role"), value(node, "name"), value(node, "description"),
                  {one["name"]: one["value"].get("value") for one in node.get("properties", [])})
-                for node in self.ask("Accessibility.getFullAXTree")["nodes"] if not node["ignored"]]
+                for node in self.ask_chromium("Accessibility.getFullAXTree")["nodes"]
+                if not node["ignored"]]
 
     def key(self, name, shift=False):
         """Presses Enter or a digit, as a keyboard does."""
-        key, code, number, text = (("Enter", "Enter", 13, "\r") if name == "Enter" else
-            (")!@#$%^&*("[int(name)] if shift else name, f"Digit{name}", 48 + int(name), name))
-        same = {"key": key, "code": code, "windowsVirtualKeyCode": number, "modifiers": 8 * shift}
-        self.ask("Input.dispatchKeyEvent", type="keyDown", text=text, **same)
-        self.ask("Input.dispatchKeyEvent", type="keyUp", **same)
-
-    def end(self):
-        self.process.terminate()
-        self.process.wait()
-
-
-class Firefox:
-    """Firefox, driven by its own protocol over a socket of this machine."""
-
-    def __init__(self, folder):
-        with socket.socket() as any_port:
-            any_port.bind(("127.0.0.1", 0))
-            port = any_port.getsockname()[1]
-        prefs = {"marionette.port": port, "browser.shell.checkDefaultBrowser": False,
-                 "app.update.enabled": False}
-        lines = [f"user_pref({json.dumps(k)}, {json.dumps(v)});\n" for k, v in prefs.items()]
-        pathlib.Path(folder, "user.js").write_text("".join(lines))
-        words = ["firefox-esr", "--headless", "--marionette", "--no-remote", "--profile",
-            str(folder)]
-        quiet = {"stdout": subprocess.DEVNULL, "stderr": subprocess.DEVNULL}
-        env = {**os.environ, "HOME": str(folder), "MOZ_HEADLESS_WIDTH": "1100"}
-        self.process = subprocess.Popen(words, env=env, **quiet)
-        self.count, self.rest = 0, b""
-        end = time.time() + SECONDS
-        while True:
-            try:
-                self.socket = socket.create_connection(("127.0.0.1", port))
-                break
-            except OSError:
-                if time.time() > end:
-                    raise
-                time.sleep(0.2)
-        self.message()
-        self.ask("WebDriver:NewSession", capabilities={"alwaysMatch": {}})
-
-    def message(self):
-        while b":" not in self.rest:
-            self.rest += self.socket.recv(1 << 20)
-        length, _, self.rest = self.rest.partition(b":")
-        while len(self.rest) < int(length):
-            self.rest += self.socket.recv(1 << 20)
-        said, self.rest = self.rest[:int(length)], self.rest[int(length):]
-        return json.loads(said)
-
-    def ask(self, method, **params):
-        self.count += 1
-        data = json.dumps([0, self.count, method, params]).encode()
-        self.socket.sendall(str(len(data)).encode() + b":" + data)
-        _, _, error, result = self.message()
-        if error:
-            raise RuntimeError(f"{method}: {error.get('message')}")
-        return result
-
-    def size(self, width, height):
-        self.ask("WebDriver:SetWindowRect", width=width, height=height + 90)
-
-    def go(self, address):
-        self.ask("WebDriver:Navigate", url="about:blank")
-        self.ask("WebDriver:Navigate", url=address)
-
-    def run(self, text):
-        # (a script of the page sees what the page's own script declares)
-        script = """const script = document.createElement('script');
-            window.answerOfCheck = undefined;
-            script.textContent = 'window.answerOfCheck = ' + arguments[0];
-            document.documentElement.append(script);
-            script.remove();
-            return window.answerOfCheck;"""
-        said = self.ask("WebDriver:ExecuteScript", script=script, args=[text])
-        if said["value"] is None:
-            raise RuntimeError(f"no answer of {text[:2000]}")
-        return json.loads(said["value"])
-
-    def key(self, name, shift=False):
-        """Presses Enter or a digit, as a keyboard does."""
-        keys = ["\ue008"] * shift + ["\ue007" if name == "Enter" else name]
+        keys = ["\ue008"] * shift + ["\ue006" if name == "Enter" else name]
         steps = ([{"type": "keyDown", "value": key} for key in keys]
                  + [{"type": "keyUp", "value": key} for key in reversed(keys)])
-        self.ask("WebDriver:PerformActions",
+        self.ask("input.performActions", context=self.context,
                  actions=[{"type": "key", "id": "keyboard", "actions": steps}])
 
     def end(self):
-        self.socket.close()
+        with contextlib.suppress(RuntimeError, OSError, websocket.WebSocketException):
+            self.ask("browser.close")
         self.process.terminate()
         self.process.wait()
 
@@ -243,17 +150,13 @@ def programs():
 def program(job, *words):
     """What `stab link --trace` answers, or `stab` with these words: its text, or None where it
     refuses."""
-    done = subprocess.run([programs()[0], *(words or ["link", "--trace"])], input=job,
-                          capture_output=True)
-    return done.stdout.decode() if done.returncode == 0 else None
+    status, text, _ = answered(programs()[0], *(words or ["link", "--trace"]), given=job)
+    return text if status == 0 else None
 
 
 def long_job():
     """As many events as the page takes, so that the lists are as long as they get."""
-    events = []
-    while len(events) + 5 <= 4096:
-        events += [["offer", len(events)], "send_frame", "recv_frame", "send_ack", "recv_ack"]
-    events += ["send_ack"] * (4096 - len(events))
+    events = [event for item in range(0, 4095, 5) for event in one_round(item)] + ["send_ack"]
     start = {"frames": [[9, 9]] * 64, "acks": [9] * 64, "send": 0, "recv": 65535}
     return json.dumps({"capacity": 64, "labels": 130, "start": start, "events": events})
 
@@ -303,14 +206,10 @@ def standing(job, text):
     each, counted in the text of the program. No published item may be in a link at its start or in
     an opening, none of an opening in a link, and each is published once."""
     job, rows = json.loads(job), []
+    above, _, openings, _, capacity = parts_of(job)
     lists = [[int(word) for word in line.split()[1:]] for line in text.splitlines()[1::2]]
-    above = {node["name"]: node.get("parent") for node in job["tree"]}
-    own = iter(job.get("links", [{"capacity": job["capacity"]} for _ in job["tree"]]))
-    capacity = {name: (next(own) or job)["capacity"] for name, parent in above.items()
-        if parent is not None}
-    hold, opened = 0, set()
-    if job.get("version") == 2:
-        hold, opened = job["h"], {item for own in job.get("openings", []) for item in own}
+    hold = job["h"] if job.get("version") == 2 else 0
+    opened = {item for own in openings.values() for item in own}
     for name, items in zip(above, lists):
         places = [job["items"].index(item) for item in items if item in job["items"]]
         path, most_held = [], 0
@@ -511,6 +410,7 @@ class Checks(Cases):
             time.sleep(0.05)
 
     def ready(self):
+        """The page is ready in time, the best of five."""
         times = []
         for _ in range(5):
             self.go()
@@ -526,10 +426,14 @@ class Checks(Cases):
                 part, self.run(script, [text for _, text, _ in part]), strict=True))
 
     def texts(self):
+        """Each link gives the text of the program, with strays and missing items in their bounds,
+        or is refused as there."""
         for job, _, want, text in self.answers(TEXTS, self.jobs):
             self.see(job, text == want, f"{text}\nand not\n{want}")
 
     def trees(self):
+        """Each tree that fits gives the text of the program, with the strays and missing items of
+        each node that an own count finds in it, within bounds that are added up here."""
         for job, data, want, answer in self.answers(TREES, self.tree_jobs):
             if want is None:
                 self.see(f"{job} is refused", answer[0] in (None, "too large"), answer)
@@ -1028,6 +932,7 @@ class Checks(Cases):
         self.go(PAGE.as_uri())
 
     def time(self):
+        """A step of the slider at 4,096 events, the best of ten, is drawn in time."""
         times = self.run("""show(readJob(args[0]), 'x', 4000);
             return [4001, 2000, 4096, 4095, 2100, 4090, 3000, 4001, 2000, 3500].map(to => {
                 const from = performance.now();
@@ -1052,7 +957,7 @@ class Checks(Cases):
         self.browser.size(*WIDE)
         if self.name == "chromium":
             self.run("show(RUNS['The worst start'], 'x', 9);")
-            self.browser.ask("Emulation.setEmulatedMedia", media="print")
+            self.browser.ask_chromium("Emulation.setEmulatedMedia", media="print")
             self.same("no control is printed", 0, f"""return all('{CONTROLS}, summary').filter(e =>
                 e.checkVisibility() && !e.classList.contains('msg')).length""")
             self.same("the table is printed whole, its head where it begins", ["none", "static"],
@@ -1062,7 +967,7 @@ class Checks(Cases):
             self.same("the sentence of the proof is printed", [True, True, False],
                       "proofTo(7); return ['proof-name', 'proof-says', 'proof-forth'].map("
                       "id => $(id).checkVisibility())")
-            self.browser.ask("Emulation.setEmulatedMedia", media="")
+            self.browser.ask_chromium("Emulation.setEmulatedMedia", media="")
 
     def faults(self):
         """A struck link and a restarted node, against the program's answer to the job that is
@@ -1190,6 +1095,7 @@ class Checks(Cases):
                      ["Strays of links at c: 1 of at most C = 3",
                       "Strays of backlogs: 4 of at most E = 4", "Missing: 0 of at most M = 9"]])
     def exercises(self):
+        """Each is refused with too few events, and solved with those that are given here."""
         for i, events in enumerate(SOLVED):
             body = "return checkTask(args[0], { ...TASKS[args[0]].job, events: args[1] });"
             self.same(f"exercise {i + 1} is solved", "", body, i, events)
@@ -1287,7 +1193,7 @@ def main():
     for name in words.browsers:
         with tempfile.TemporaryDirectory(ignore_cleanup_errors=True) as folder:
             checks.name = name
-            browser = checks.browser = (Chromium if name == "chromium" else Firefox)(folder)
+            browser = checks.browser = Browser(name, folder)
             try:
                 browser.size(*WIDE)
                 for part in ("ready", "texts", "exercises", "labels", "hands", "drawn_rows",

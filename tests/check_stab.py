@@ -98,8 +98,8 @@ def modes():
 
 
 def copied(name, files, *lines):
-    """Whether the copy for rt had just the files of three crates, without tests, and these more,
-    and just their lines in crates.txt."""
+    """Whether the copy for rt had just the files of three crates and these more, and just their
+    lines in crates.txt."""
     files = ["HANDLES", "crates.txt", *(f"crates/{it}" for it in (
         "low/src/lib.rt", "mid/src/lib.rt", "mid/src/part.rt", "other/src/lib.rt", *files))]
     holds(name, sorted(house.read("files").split()) == sorted(f"./{it}" for it in files)
@@ -111,23 +111,23 @@ def place_is_gone():
     return not Path(house.read("place").strip()).exists()
 
 
-def interrupt(name, crate, number, status, *words):
-    """Whether a build that does not end by itself because of a crate is given up at a signal, and
-    what it had started is ended first."""
-    text(crate, "slow")
-    ended = house.interrupted(number, top / "stab", *words)
-    holds(name, ended.status == status and not ended.out and "interrupted" in ended.err
+def interrupt(number, status):
+    """Whether a build that does not end by itself is given up at a signal, and what it had started
+    is ended first."""
+    text("mid", "slow")
+    ended = house.interrupted(number, top / "stab")
+    holds(f"a build ends at the signal {number}, with all that it started",
+          ended.status == status and not ended.out and "interrupted" in ended.err
           and house.read("ended") and place_is_gone())
 
 
 # A house of six crates, of which the program needs five: two at the bottom, one over the first, one
-# over all of these, and its own. One has tests.
+# over all of these, and its own.
 for crate in "low", "other", "mid", "top", "unused", "stab_cli":
     text(crate, crate)
     (top / f"crates/{crate}/specs").mkdir()
-text("mid", "mod part;\n\n#[cfg(test)]\nmod plain;\n#[cfg(test)]\nmod tests;")
-for file in "plain", "tests", "tests/more", "part":
-    write(f"crates/mid/src/{file}.rt", "a test\n")
+text("mid", "mod part;")
+write("crates/mid/src/part.rt", "a part\n")
 write("crates/stab_cli/stdin", "input\n")
 write("crates.txt", "# crates\nlow: itoa\nother:\nmid: low itoa\ntop: other mid\nunused: low\n\n"
       "stab_cli may_wait=4: low top clap\n")
@@ -144,21 +144,12 @@ for tool in ("bash cat chmod cp dirname env find flock gzip mkdir mktemp mv read
 gave(stab("one", "two words"), "the first use builds, and hands on words, input and status",
      "stab_cli; one two words; in", 1, "there is no release")
 holds("it says how far it is", "stab_cli is proved: 5 of 5 crates" in house.ended.err)
-copied("what it builds is what the program needs, without tests", [
+copied("what it builds is what the program needs", [
     "top/src/lib.rt", "stab_cli/src/main.rt", "stab_cli/stdin"],
     "top: other mid", "stab_cli may_wait=4: low top clap")
 holds("the folder of the build is gone", place_is_gone())
 gave(stab("--prove"), "with --prove all is built again", "stab_cli; ; in", 1,
      "stab_cli is proved: 5 of 5 crates", "there is no release")
-copied("what can be proved side by side by rt", [])
-compiled = house.read("compiled")
-holds("and what is over all of that by the compiler", [
-    it.groups() for it in re.finditer(r"^build --crate-name (\w+) .* -o .*/(out/\S+) (\S+)",
-                                      compiled, re.M)] == [
-    ("top", "out/rlib/top.rlib", "--statements"),
-    ("stab_cli", "out/stab_cli.by-rattle.o", "--backend")])
-holds("which gets what rt has left, and the libraries of the kit", re.search(
-    "--extern low=/.*/out/rlib/low.rlib .*--extern clap=/.*/a kit/rlibs/clap.rlib ", compiled))
 holds("and its folder is gone as well", place_is_gone())
 gave(stab(), "the second use builds nothing", "stab_cli; ; in")
 holds("and says nothing", not house.ended.err)
@@ -215,30 +206,18 @@ holds("of two at once one waits", len(waiting) == 1)
 holds("and uses what the first has built", first.out == second.out != "")
 holds("which is built once", calls() == 1)
 for number, status in ("TERM", 143), ("INT", 130), ("HUP", 129):
-    interrupt(f"a build ends at the signal {number}, with all that it started", "mid", number,
-              status)
+    interrupt(number, status)
 text("mid", "mid")
-interrupt("and one from nothing with what the compiler does", "top", "TERM", 143, "--prove")
-text("top", "broken")
-refused(stab("--prove"), "what the compiler does not prove does not run",
-        "the program was not built")
-text("top", "top")
-refused(stab("--prove", NOT_LINKED="1"), "nor does what cannot be linked",
+refused(stab("--prove", NOT_LINKED="1"), "what cannot be linked does not run",
         "the program was not built")
 text("stab_cli", "again")
 gave(stab(), "the use after an interrupt builds", "again; ; in", 1)
-(top / "crates/stab_cli/out/incremental").mkdir(parents=True)
-text("stab_cli", "kept")
-gave(stab(), "over what checks have kept, the program is built in its folder", "kept; ; in", 1,
-     "over what was kept")
-holds("by rt run", house.read("calls") == "run --backend rattle\n")
-remove(top / "crates/stab_cli/out")
 write(work / "calls")
 gave(house.run("bash", "-c", 'cd -- "$0/.." && "./a house/stab" one', top, given="in",
-               CDPATH=f"{work}:/"), "CDPATH changes nothing", "kept; one; in")
+               CDPATH=f"{work}:/"), "CDPATH changes nothing", "again; one; in")
 (house.bin / "linked").symlink_to(top / "stab")
 gave(house.run("linked", "two", given="in", cwd="/"),
-     "a symbolic link on the path leads to the program", "kept; two; in")
+     "a symbolic link on the path leads to the program", "again; two; in")
 text("stab_cli", "far")
 gave(house.run("bash", "-c", 'cd / && "$0" three', house.bin / "linked", given="in",
                CDPATH=f"{work}:{top}:/", TMPDIR="/no/such/folder"), "a build from another folder, "
@@ -436,8 +415,6 @@ holds("whose file is then the newest program of out",
 gave(stab("--prove", "one"), "with --prove, the program is built, and compared",
      "released; one; in", 1, "the release is the same program, byte for byte")
 holds("from nothing, whatever rt has proved before", house.read("calls") == "ci --anew\n")
-stab("--prove", KEEPS="")
-holds("also by a kit that keeps nothing, and has no such word", house.read("calls") == "ci\n")
 gave(stab("--prove"), "each time", "released; ; in", 1)
 gave(stab("one", "--prove"), "as the first word alone", "released; one --prove; in")
 kit("kit-3")
@@ -448,15 +425,15 @@ gave(stab("--prove"), "of other sources nothing is compared", "other; ; in", 1,
      "nothing was compared: the release was made from other")
 refused(stab("--prove", **NO_KIT), "without rt nothing is proved",
         "the command rt of the Rattle kit is needed")
-(top / "crates/stab_cli/out/incremental").mkdir(parents=True)
 text("stab_cli", "differs")
 make_release()
-gave(stab(), "the release runs, whatever it is", "differs run; ; in")
-gave(stab("--prove"), "what differs from the release is said, and what was built runs",
-     "differs build; ; in", 1, "the release is ANOTHER program")
+gave(stab(), "the release runs, whatever it is", "differs ci; ; in")
+gave(stab("--prove", AGAIN=" again"),
+     "what differs from the release is said, and what was built runs", "differs ci again; ; in", 1,
+     "the release is ANOTHER program")
 text("stab_cli", "released")
 make_release()
-remove(out, top / "crates/stab_cli/out")
+remove(out)
 shutil.copytree(release, work / "release")
 
 
@@ -502,7 +479,6 @@ def rignolda(*words, **more):
 refused(rignolda(), "a program of a crate that is not listed is refused",
         "crates.txt lists no crate")
 text("rignolda", "second")
-write("crates/rignolda/args", "--some\ntwo words\n")
 change("crates.txt", r"\Z", "rignolda: mid\n")
 refused(rignolda(**NO_KIT), "a release without a program runs nothing for it",
         "the release has no rignolda")
@@ -510,12 +486,6 @@ gave(rignolda("one"), "the second program is built, of its own crates alone", "s
      "rignolda is proved: 3 of 3 crates")
 gave(stab(), "beside which the first one runs", "released; ; in")
 gave(rignolda("one"), "and both are kept", "second; one; in")
-(top / "crates/rignolda/out/incremental").mkdir(parents=True)
-text("rignolda", "over")
-gave(rignolda("one"), "over what checks have kept rt gets the words of its example",
-     "over; one; in", 1)
-holds("by rt run", house.read("calls") == "run --backend rattle -- --some two words\n")
-text("rignolda", "second")
 make_release()
 holds("both are released together",
       [it.split()[0] for it in manifest.read_text().splitlines()] == ["kit", "stab", "rignolda"])

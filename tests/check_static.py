@@ -55,18 +55,6 @@ PLANTED_IN_STEPS = [
 ]
 
 
-def build(library, architecture, shims, room, *words):
-    """A program of the calls and of these shims, compiled with these words, or None."""
-    made = []
-    for source in CALLS, *shims:
-        made.append(f"{room}/{source.stem}.o")
-        compiles = static.compiled(library, architecture, source, made[-1], *words)
-        if subprocess.call([*map(str, compiles)]):
-            return None
-    links = static.linked(library, f"{room}/calls", *made, options=["--wrap=main"])
-    return None if subprocess.call([*map(str, links)]) else f"{room}/calls"
-
-
 def planted(room, old, new):
     """The shims with a planted bug, of which one has the old text, or none if that is not so."""
     texts = {source.name: source.read_text() for source in static.SHIMS}
@@ -105,15 +93,19 @@ def main():
                   + " for arm64, and qemu-user" * (before is None))
             continue
         with tempfile.TemporaryDirectory() as room:
-            program = build(library, architecture, static.SHIMS, room)
-            cases.holds(f"what programs call, on {architecture}",
-                        program and not faults(program, before),
-                        program and faults(program, before))
+            def said(shims, *words):
+                """What is wrong with the calls over these shims, or nothing."""
+                program = f"{room}/calls"
+                return faults(program, before) if static.builds(
+                    library, architecture, program, [CALLS, *shims], *words,
+                    options=["--wrap=main"]) else "they do not fit"
+
+            wrong = said(static.SHIMS)
+            cases.holds(f"what programs call, on {architecture}", not wrong, wrong)
             for old, new in PLANTED_IN_STEPS if before else PLANTED:
-                program = build(library, architecture, planted(room, old, new), room, "-w")
+                wrong = said(planted(room, old, new), "-w")
                 cases.holds(f"a planted bug is found: {' '.join(new.split())}",
-                            program and faults(program, before), "it was not, or does not fit",
-                            quiet=True)
+                            wrong not in ("", "they do not fit"), wrong, quiet=True)
     return cases.sum_up()
 
 

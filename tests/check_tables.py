@@ -22,7 +22,7 @@ from pathlib import Path
 
 sys.path.insert(0, str(Path(__file__).resolve().parent.parent / "tools"))
 
-from programs import BUILT, TOP, counted, run_with
+from programs import BUILT, TOP, answered, counted, run_with
 from tables import rignolda_bounds, rignolda_check, rignolda_draw, rignolda_explain
 from tables import rignolda_files, rignolda_jobs, rignolda_lines, rignolda_moment
 from tables import rignolda_scenario, stab_examples, stab_limits, stab_lines, stab_links
@@ -55,23 +55,19 @@ class Refused(Exception):
     """A run that another one needs did not end well."""
 
 
-def run(called, file, words, given, folder):
-    """A run of a program: its status, and what it prints on the standard output and error."""
-    # (its help names the program as it was called, and a file that was kept has a longer name)
-    done = subprocess.run([called, *words], executable=file, input=given,
-                          capture_output=True, cwd=folder, timeout=LONGEST)
-    return done.returncode, done.stdout, done.stderr
-
-
 def fault_of(called, file, row, folder):
     """What is wrong with the run of a row, or None."""
 
+    def run(words, given=""):
+        # (its help names the program as it was called, and a file that was kept has a longer name)
+        return answered(called, *words, given=given, executable=file, cwd=folder, timeout=LONGEST)
+
     def printed(words):
         """What a run with these words prints."""
-        status, out, err = run(called, file, words, b"", folder)
+        status, out, err = run(words)
         if status != 0 or err:
-            raise Refused(f"{' '.join(words)} ends with status {status}: {err.decode()}")
-        return out.decode()
+            raise Refused(f"{' '.join(words)} ends with status {status}: {err}")
+        return out
 
     for beside, text in row.files.items():
         path = Path(folder) / beside
@@ -82,9 +78,7 @@ def fault_of(called, file, row, folder):
         given = printed(given.words)
     elif isinstance(given, Repeated):
         given = given.text()
-    given = given.encode() if isinstance(given, str) else given
-    status, *texts = run(called, file, row.words, given, folder)
-    out, err = (text.decode() for text in texts)
+    status, out, err = run(row.words, given)
     if status != row.status:
         return f"status {status}, and not {row.status}; it printed {(out + err)[:SHOWN]!r}"
     for where, text, wanted in [("output", out, row.out), ("error", err, row.err)]:

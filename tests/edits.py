@@ -1,20 +1,13 @@
 #!/usr/bin/env -S python3 -B
-"""Looks after the planted bugs that the prover has to refuse, and after their controls.
+"""Finds planted bugs that a change of the code has broken, and controls: tests/edits.py [CRATE..]
 
-    tests/edits.py             finds those that a change of the code has broken, as the gate does:
-                               this takes a second, and proves nothing
-    tests/edits.py CRATE..     does so for these crates, and then sees that their controls are
-                               proved; by hand, after a change of a crate
-    tests/edits.py --all       the same for all crates: some hours of processor time
-
-A planted bug shows something of a contract only where an edit of the same place that keeps the
-meaning is proved. Of a function with a file of its own in proofs/ that is not sure: its answers
-name values of the code, and are refused as well where an edit only takes such a name away. So each
-planted bug of such a function has a control of its name in tests/controls/CRATE: an edit of the
-same function, which keeps the meaning and as much of the bug's form as it can. The planted bugs in
-crates/CRATE/must-fail and tests/edits/CRATE are tried by the gate, the latter by
-tests/try_edits.py; those in tests/more_edits/CRATE show what one of them shows as well, or a
-smaller clause, and are tried by hand. Of each of these edits it is found that
+This takes a second, and proves nothing: tests/try_edits.py has the prover refuse the planted bugs,
+and prove the controls. A planted bug shows something of a contract only where an edit of the same
+place that keeps the meaning is proved. Of a function with a file of its own in proofs/ that is not
+sure: its answers name values of the code, and are refused as well where an edit only takes such a
+name away. So each planted bug of such a function has a control of its name in tests/controls/CRATE:
+an edit of the same function, which keeps the meaning and as much of the bug's form as it can. Of
+each edit it is found that
 
 - `rt must-fail` can read it: a line 'file: ', and then pairs of lines 'old: ' and 'new: ';
 - its file is one of src/, or of specs/ where that is what a law is shown by, and has each old text
@@ -24,28 +17,29 @@ smaller clause, and are tried by hand. Of each of these edits it is found that
 - a control is of the same function as the planted bug of its name;
 - a planted bug of a function that has a file in proofs/ has a control.
 
-Controls are tried on a copy of the crates, with what earlier checks have kept: those of a crate
-together, and one by one where they are refused together or change one line. Each edit is
-one case, and so is each folder of edits, whose crate has to be listed. The last line is 'N passed,
-M failed'.
+Each edit is one case, and so is each folder of edits, whose crate has to be listed. The last line
+is 'N passed, M failed'.
 """
 import glob
+import itertools
 import os
 import re
-import shutil
-import subprocess
 import sys
-import tempfile
 
 TOP = os.path.dirname(os.path.dirname(os.path.realpath(__file__)))
 sys.path.insert(0, f"{TOP}/tools")
-from crates import below, listed, read  # noqa: E402
+from crates import listed, read  # noqa: E402
 from programs import counted  # noqa: E402
 
 # The folders of a crate's edits: those of the gate, by `rt ci` and apart, those that are tried by
 # hand, and controls.
 FOLDERS = ("crates/{}/must-fail", "tests/edits/{}", "tests/more_edits/{}", "tests/controls/{}")
-FUNCTION = re.compile(r'\s*(?:pub(?:\(\w+\))? )?(?:const )?(?:extern "C" )?fn (\w+)')
+# The line that begins a function, by what is before its name; and that of an impl: its own
+# parameters, its trait, if it has one, its type, and the arguments of that.
+FUNCTION = re.compile(r'( *)(?:pub(?:\(\w+\))? )?(?:const )?(?:unsafe )?(?:extern "C" )?fn (\w+)')
+IMPL = re.compile(r"impl(<.*?>)? (?:(\w.*?) for )?(\w+)(<.*>)?")
+# The words in such a part, but for lifetimes.
+WORD = re.compile(r"(?<!['\w])\w+")
 
 
 def edits_in(folder):
@@ -65,15 +59,29 @@ def edits_in(folder):
     return found
 
 
-def function_of(crate, edit):
-    """The name of the function that an edit changes, or None where its text is not there once."""
-    file, pairs = edit
+def path_of(crate, file, old):
+    """The end of the name of the function that has this text, as a check prints it, or an empty
+    text."""
     text = read(f"{TOP}/crates/{crate}/{file}")
-    if text.count(pairs[0][0]) != 1:
-        return None
-    before = text[: text.index(pairs[0][0])].count("\n") + 1
-    names = [it[1] for it in map(FUNCTION.match, text.split("\n")[:before]) if it]
-    return names[-1] if names else ""
+    if text.count(old) != 1 or not file.startswith("src/"):
+        return ""
+    name = ""
+    for line in reversed(text[: text.index(old) + len(old)].split("\n")):
+        if name:
+            began = IMPL.match(line)
+            if began:
+                own, trait, args = (WORD.findall(began[it] or "") for it in (1, 2, 4))
+                args = [it for it in args if it not in own]
+                return f"{began[3]}{''.join(args + trait)}::{name}"
+        elif line == "}":
+            # (what comes after a function is in none)
+            return ""
+        elif began := FUNCTION.match(line):
+            name = began[2]
+            if not began[1]:
+                break
+    place = re.sub(r"(^|/)(lib|main|mod)$", "", file[len("src/") : -len(".rt")])
+    return f"{place}/{name}".strip("/").replace("/", "::") if name else ""
 
 
 def has_answers(crate, file, function):
@@ -104,13 +112,13 @@ def fault_of_texts(crate, file, pairs):
 
 def fault_of_control(crate, bug, control):
     """What is wrong with the control of a planted bug, or with there being none, or None."""
-    function = function_of(crate, bug)
+    its = [path_of(crate, file, pairs[0][0]) for file, pairs in (bug, control or bug) if pairs]
+    function = its[0].rpartition("::")[2]
     if control is None:
         if has_answers(crate, bug[0], function):
             return f"{function} has a file in proofs/, so a control is needed in tests/controls"
-    elif control[1] and not fault_of_texts(crate, *control):
-        if (bug[0], function) != (control[0], function_of(crate, control)):
-            return f"its control is not of the same function, {function} in {bug[0]}"
+    elif not fault_of_texts(crate, *control) and (bug[0], its[0]) != (control[0], its[1]):
+        return f"its control is not of the same function, {function} in {bug[0]}"
     return None
 
 
@@ -151,20 +159,6 @@ def look_at_folders(crates):
                 yield folder, f"{others[0]} is no edit: nobody tries it" if others else None
 
 
-def copy_crates(work, chosen, crates):
-    """Copies all crates, with what was kept of the chosen ones and of those that they stand on."""
-    for name in ("crates.txt", "HANDLES"):
-        shutil.copy(f"{TOP}/{name}", work)
-    shutil.copytree(f"{TOP}/crates", f"{work}/crates",
-                    ignore=shutil.ignore_patterns("out", "must-fail"))
-    for crate in {lower for it in chosen for lower in below(it, crates)}:
-        if os.path.isdir(f"{TOP}/crates/{crate}/out"):
-            # (what a check keeps of a crate's own proof is large, and is of use to this one alone)
-            ignore = None if crate in chosen else shutil.ignore_patterns("incremental")
-            shutil.copytree(f"{TOP}/crates/{crate}/out", f"{work}/crates/{crate}/out",
-                            ignore=ignore)
-
-
 def texts_with(folder, controls):
     """The texts of the files that these edits change, or None where one cannot be applied."""
     texts = {}
@@ -177,64 +171,15 @@ def texts_with(folder, controls):
     return texts
 
 
-def write_all(folder, texts):
-    for file, text in texts.items():
-        with open(f"{folder}/{file}", "w", encoding="utf-8") as it:
-            it.write(text)
-
-
-def refusal(folder, controls):
-    """Checks a crate with these controls: None where it is proved, or else what the check says."""
-    texts = texts_with(folder, controls)
-    was = {file: read(f"{folder}/{file}") for file in texts}
-    try:
-        write_all(folder, texts)
-        ran = subprocess.run(["rt", "check", "--jobs", "1"], cwd=folder, stdin=subprocess.DEVNULL,
-                             stdout=subprocess.PIPE, stderr=subprocess.STDOUT, errors="replace")
-    finally:
-        write_all(folder, was)
-    if ran.returncode == 0:
-        return None
-    told = [it for it in ran.stdout.split("\n") if re.match(r"(note: )?\S+:\d+:\d+:", it)]
-    return (told or ran.stdout.split("\n"))[0][:200]
-
-
-def try_controls(crate, work):
-    """Each control of a crate, with why it is not proved, or None."""
-    folder, place = f"{work}/crates/{crate}", FOLDERS[-1].format(crate)
-    left = edits_in(place)
-    while left:
-        names = []
-        for name in left:
-            if not names or texts_with(folder, [left[it] for it in [*names, name]]) is not None:
-                names.append(name)
-        whole = len(names) > 1 and refusal(folder, [left[it] for it in names]) is None
-        for name in names:
-            yield f"{place}/{name}.edit", None if whole else refusal(folder, [left[name]])
-            del left[name]
-
-
-def cases(chosen, crates):
-    """What is looked at, and then what is tried of the chosen crates."""
-    found = [] if chosen else list(look_at_folders(crates))
-    for crate in chosen or crates:
-        found += look_at(crate)
-    yield from found
-    if chosen and not any(fault for _, fault in found):
-        with tempfile.TemporaryDirectory(prefix="edits-") as work:
-            copy_crates(work, chosen, crates)
-            for crate in chosen:
-                yield from try_controls(crate, work)
-
-
 def main(words):
     crates = listed()
-    chosen = [*crates] if words == ["--all"] else words
-    unknown = [it for it in chosen if it not in crates]
+    unknown = [it for it in words if it not in crates]
     if unknown:
         print(f"edits: crates.txt lists no crate {unknown[0]}", file=sys.stderr)
         return 2
-    return counted(cases(chosen, crates), quiet=not chosen)
+    found = [] if words else look_at_folders(crates)
+    each = (case for crate in words or crates for case in look_at(crate))
+    return counted(itertools.chain(found, each), quiet=not words)
 
 
 if __name__ == "__main__":

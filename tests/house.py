@@ -46,32 +46,22 @@ make() {
 RT = KIT + r"""
 case $1 in
     version) cat "$WORK/kit"; exit ;;
-    help) echo "rt ci ${KEEPS-[--anew]}" >&2; exit ;;
     doc) echo "$WORK/a kit/START-HERE.md"; exit ;;
-    ci) at=. ;;
-    run | lib | check) at=../.. ;;
+    ci) ;;
     *) exit 9 ;;
 esac
 printf '%s\n' "$*" >>"$WORK/calls"
 pwd >"$WORK/place"
-(cd "$at" && find . -type f | LC_ALL=C sort) >"$WORK/files"
-cat "$at/crates.txt" >"$WORK/lines"
-do_as "$(cat "$at"/crates/*/src/*)"
-name=${PWD##*/}
-mkdir -p out
-case $1 in
-    run) make run "out/$name.o" && cp "out/$name.o" "out/$name" && echo 'rt: running it' ;;
-    lib) make lib "out/lib$name.a" ;;
-    ci)
-        for file in crates/*/src/main.rt; do
-            [ ! -e "$file" ] || (
-                cd "${file%/src*}" && mkdir -p out && made=out/${PWD##*/}.by-rattle &&
-                    make ci "$made" && { [ -n "${TAKEN-}" ] || cp "$made" "$made.o"; }
-            )
-        done
-        ;;
-esac
-sed -n 's/^\([a-z_]*\).*:.*/rt: \1 proved/p' "$at/crates.txt"
+find . -type f | LC_ALL=C sort >"$WORK/files"
+cat crates.txt >"$WORK/lines"
+do_as "$(cat crates/*/src/*)"
+for file in crates/*/src/main.rt; do
+    [ ! -e "$file" ] || (
+        cd "${file%/src*}" && mkdir -p out && made=out/${PWD##*/}.by-rattle &&
+            make "ci${AGAIN-}" "$made" && cp "$made" "$made.o"
+    )
+done
+sed -n 's/^\([a-z_]*\).*:.*/rt: \1 proved/p' crates.txt
 echo '5 passed, 0 failed'"""
 COMPILER = KIT + r"""
 printf '%s\n' "$*" >>"$WORK/compiled"

@@ -1,15 +1,15 @@
 """Drawn jobs of a link or a tree, for the checks that compare what is said of them."""
 import json
 import re
-import subprocess
+
+from programs import answered
 
 
 def drawn_tree(draw, rignolda, names=(), **options):
     """A job of `rignolda random` with these options, in which some parts are left out. Its nodes
     get some of these names, if any are given."""
     options = {"seed": draw.randrange(1 << 32), **options}
-    said = subprocess.run([rignolda, "random", *(f"--{it}={n}" for it, n in options.items())],
-                          check=True, stdout=subprocess.PIPE, text=True).stdout
+    said = answered(rignolda, "random", *(f"--{it}={n}" for it, n in options.items()))[1]
     if names:
         names = draw.sample(names, len(names))
         said = re.sub(r'"n(\d+)"', lambda it: f'"{names[int(it[1])]}"', said)

@@ -1,5 +1,11 @@
 #!/usr/bin/env python3
-"""Sees planted bugs refused, each in its own function: tests/try_edits.py [--more] [CRATE..]
+"""Sees planted bugs refused, each in its own function.
+
+    tests/try_edits.py [CRATE..]               those of tests/edits, as the gate does
+    tests/try_edits.py --more [CRATE..]        those of tests/more_edits, which show what one of the
+                                               gate shows as well, or a smaller clause: by hand,
+                                               where their crate has changed
+    tests/try_edits.py --controls [CRATE..]    sees that the controls of planted bugs are proved
 
 `rt ci` proves a crate once more for the edits of crates/CRATE/must-fail, and loads it for each. But
 an edit changes the body of a function, and all else rests on that function's contract. So here the
@@ -8,29 +14,21 @@ left in this folder, and edits of several functions of a crate are tried togethe
 each. An edit is refused where its own function is not proved, for its meaning and not because a
 proof names what is gone, and nothing else is refused but what calls such a function.
 
-The gate tries those of tests/edits. With --more they are those of tests/more_edits, which show
-what one of the gate shows as well, or a smaller clause: they are tried by hand, where their crate
-has changed. RT_JOBS says how many checks run at once. Nothing of this repository is touched. Each
-edit is one case, and the last line is 'N passed, M failed'.
+RT_JOBS says how many checks run at once. Nothing of this repository is touched. Each edit is one
+case, and the last line is 'N passed, M failed'.
 """
 import concurrent.futures
 import os
 import re
 import shutil
-import subprocess
 import sys
 import tempfile
 
 sys.dont_write_bytecode = True
-from edits import TOP, edits_in, texts_with  # noqa: E402
-from crates import compiler, lines_of, listed, read, tasks  # noqa: E402
+from edits import TOP, edits_in, path_of, texts_with  # noqa: E402
+from crates import compiler, lines_of, listed, tasks  # noqa: E402
+from programs import ran  # noqa: E402
 
-# The line that begins a function, by what is before its name; and that of an impl: its own
-# parameters, its trait, if it has one, its type, and the arguments of that.
-FUNCTION = re.compile(r'( *)(?:pub(?:\(\w+\))? )?(?:const )?(?:unsafe )?(?:extern "C" )?fn (\w+)')
-IMPL = re.compile(r"impl(<.*?>)? (?:(\w.*?) for )?(\w+)(<.*>)?")
-# The words in such a part, but for lifetimes.
-WORD = re.compile(r"(?<!['\w])\w+")
 # What a check says of a function that is not proved, and of that what says nothing against it but
 # that it calls another one.
 REFUSED = re.compile(r"^fn \w+::(\S+): (?:no proof|not proved)(.*)$", re.M)
@@ -39,31 +37,6 @@ CALLS = re.compile(r"[:;] it calls [^;]*")
 CLOSURE = re.compile(r"(^|::)fn::(\w+)::.*")
 # What a check says where a proof names what an edit took away.
 GONE = re.compile(r"proofs/.*(has no field|is not in scope|has no `|was not admitted)")
-
-
-def path_of(crate, file, old):
-    """The end of the name of the function that has this text, as a check prints it, or an empty
-    text."""
-    text = read(f"{TOP}/crates/{crate}/{file}")
-    if text.count(old) != 1 or not file.startswith("src/"):
-        return ""
-    name = ""
-    for line in reversed(text[: text.index(old) + len(old)].split("\n")):
-        if name:
-            began = IMPL.match(line)
-            if began:
-                own, trait, args = (WORD.findall(began[it] or "") for it in (1, 2, 4))
-                args = [it for it in args if it not in own]
-                return f"{began[3]}{''.join(args + trait)}::{name}"
-        elif line == "}":
-            # (what comes after a function is in none)
-            return ""
-        elif began := FUNCTION.match(line):
-            name = began[2]
-            if not began[1]:
-                break
-    place = re.sub(r"(^|/)(lib|main|mod)$", "", file[len("src/") : -len(".rt")])
-    return f"{place}/{name}".strip("/").replace("/", "::") if name else ""
 
 
 def rounds(crate, edits):
@@ -81,9 +54,12 @@ def rounds(crate, edits):
     return found
 
 
-def checked(crate, texts, paths):
-    """What the check of these functions of a crate says, with these texts in its files, and its
-    status."""
+def checked(crate, edits, names):
+    """What the check of a crate says with the edits of these names, each given with the paths of
+    its functions, which are looked at alone; and its status."""
+    texts = texts_with(f"{TOP}/crates/{crate}", [edits[name] for name in names])
+    if texts is None:
+        return "its texts are not in its file once", 1
     with tempfile.TemporaryDirectory(prefix="rt-edit-") as room:
         for part in ("src", "specs", "proofs"):
             if os.path.isdir(f"{TOP}/crates/{crate}/{part}"):
@@ -93,10 +69,10 @@ def checked(crate, texts, paths):
                 it.write(text)
         root = next(it for it in ("src/lib.rt", "src/main.rt") if os.path.isfile(f"{room}/{it}"))
         words = [*compiler("check", crate, root), "--jobs", "1"]
-        words += [word for path in sorted(paths - {""}) for word in ("--only", path)]
-        ran = subprocess.run(words, cwd=room, stdin=subprocess.DEVNULL, stdout=subprocess.PIPE,
-                             stderr=subprocess.STDOUT, text=True, errors="replace")
-    return ran.stdout, ran.returncode
+        words += [word for path in sorted(set().union(*names.values()) - {""})
+                  for word in ("--only", path)]
+        status, said = ran(*words, cwd=room)
+    return said, status
 
 
 def refusals(said, told):
@@ -120,13 +96,9 @@ def is_one(path, paths):
 
 
 def tried(crate, edits, names):
-    """Checks a crate with the edits of these names, each given with the paths of its functions. Of
-    each edit: its name, whether it is refused, and what was said."""
-    texts = texts_with(f"{TOP}/crates/{crate}", [edits[name] for name in names])
-    if texts is None:
-        return [(name, False, "its texts are not in its file once") for name in names]
+    """Of each of these edits: its name, whether it is refused, and what was said."""
     whole, is_alone = set().union(*names.values()), len(names) == 1
-    said, status = checked(crate, texts, whole)
+    said, status = checked(crate, edits, names)
     told = [line for line in said.split("\n") if re.match(r"(note: )?\S+:\d+:\d+: |error", line)]
     refused = refusals(said, told)
     others = [why for path, why in refused.items() if not is_one(path, whole)]
@@ -145,26 +117,39 @@ def tried(crate, edits, names):
     return found
 
 
+def proved(crate, edits, names):
+    """The same of controls, each of which has to be proved."""
+    said, status = checked(crate, edits, names)
+    if status and len(names) > 1:
+        return [proved(crate, edits, {name: names[name]})[0] for name in names]
+    return [(name, status == 0, said.strip().split("\n")[-1][:160]) for name in names]
+
+
+# What is asked for: the folder of its edits, what tries them, and what they have to be.
+KINDS = {"": ("edits", tried, "refused"), "--more": ("more_edits", tried, "refused"),
+         "--controls": ("controls", proved, "proved")}
+
+
 def main(words):
-    folder = "tests/more_edits" if "--more" in words else "tests/edits"
-    words, crates = [it for it in words if it != "--more"], listed()
+    kind = words[0] if words and words[0] in KINDS else ""
+    (folder, tries, wanted), words, crates = KINDS[kind], words[bool(kind):], listed()
     unknown = [it for it in words if it not in crates]
     if unknown:
         print(f"try_edits: crates.txt lists no crate {unknown[0]}", file=sys.stderr)
         return 2
     passed = failed = 0
     jobs = os.environ.get("RT_JOBS", "")
-    edits = {crate: edits_in(f"{folder}/{crate}") for crate in words or crates}
+    edits = {crate: edits_in(f"tests/{folder}/{crate}") for crate in words or crates}
     works = [(crate, names) for crate in edits for names in rounds(crate, edits[crate])]
     with concurrent.futures.ThreadPoolExecutor(int(jobs) if jobs.isdigit() else tasks()[0]) as pool:
         # (the longest ones first, so that none of them is left alone at the end)
-        begun = {place: pool.submit(tried, crate, edits[crate], names)
+        begun = {place: pool.submit(tries, crate, edits[crate], names)
                  for place, (crate, names) in sorted(
                      enumerate(works), key=lambda it: -lines_of(it[1][0]))}
         for place, (crate, _) in enumerate(works):
-            for name, is_refused, why in begun[place].result():
-                passed, failed = passed + is_refused, failed + (not is_refused)
-                print(f"{'refused' if is_refused else 'FAILED'} {crate}/{name}: {why}", flush=True)
+            for name, is_well, why in begun[place].result():
+                passed, failed = passed + is_well, failed + (not is_well)
+                print(f"{wanted if is_well else 'FAILED'} {crate}/{name}: {why}", flush=True)
     print(f"{passed} passed, {failed} failed")
     return 1 if failed else 0
 

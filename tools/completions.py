@@ -8,33 +8,63 @@
 The commands and options of rignolda are those of its help, and the man pages have to name them all.
 The program that is asked is that of tests/check_tables.py. The program stab has no help, so its
 commands and flags are those of the table in docs/FORMATS.md. """
-
-import argparse
 import os
-import pathlib
 import re
 import subprocess
 import sys
 import textwrap
 from collections import namedtuple
 
-from programs import Cases, run_with
+from programs import TOP, Cases, run_with
 
-ROOT = pathlib.Path(__file__).resolve().parent.parent
-HOME = ROOT / "completions"
-WRITTEN = "Written by tools/completions.py; change nothing here."
+HOME = TOP / "completions"
 OPTION = re.compile(r"^ +(?:-\w, |    )?--([a-z-]+)(?: <(\w+)>)?(?:  +(\S.*))?$")
-ENTRY = re.compile(r"^  ([a-z]+) +(\S.*)$")
-# Words are folded between them alone.
-WHOLE = {"break_long_words": False, "break_on_hyphens": False}
+# A command: its name, what it does, its options (name, value, help), and whether it has a file.
+Command = namedtuple("Command", "name about options has_file")
+
+BASH = """\
+# The completions of {program} for bash: source this file. \
+Written by tools/completions.py; change nothing here.
+_{program}() {{
+    local word=${{COMP_WORDS[COMP_CWORD]}} flags='' files=''
+    COMPREPLY=()
+    if [ "$COMP_CWORD" -eq 1 ]; then
+        mapfile -t COMPREPLY < <(compgen -W '{names}' -- "$word")
+        return
+    fi
+    case ${{COMP_WORDS[1]}} in
+{cases}
+    esac
+    mapfile -t COMPREPLY < <(compgen -W "$flags" -- "$word")
+    if [ -n "$files" ] && [[ $word != -* ]]; then
+        mapfile -t COMPREPLY < <(compgen -f -- "$word")
+    fi
+}}
+complete -o filenames -F _{program} {program}
+"""
+ZSH = """\
+#compdef {program}
+# The completions of {program} for zsh. Written by tools/completions.py; change nothing here.
+local -a commands
+commands=(
+{commands}
+)
+if (( CURRENT == 2 )); then
+    _describe -t commands command commands
+{options}    return
+fi
+case ${{words[2]}} in
+{cases}
+esac
+"""
+FISH = """\
+# The completions of {program} for fish. Written by tools/completions.py; change nothing here.
+complete -c {program} -f
+"""
 
 
-class Command(namedtuple("Command", "name about options has_file")):
-    """A command: its name, what it does, its options (name, value, help), and whether it has a
-    file."""
-
-    def flags(self):
-        return " ".join("--" + name for name, _, _ in self.options)
+def names_of(options):
+    return ["--" + name for name, _, _ in options]
 
 
 def section(text, head):
@@ -55,29 +85,25 @@ def options_of(text):
     return [tuple(option) for option in found]
 
 
-def asked(program, *words):
-    """The help that the program prints."""
-    return subprocess.run([program, *words, "--help"], capture_output=True, text=True,
-        check=True).stdout
-
-
 def rignolda(program):
     """What rignolda has, by its help: its commands, and its own options."""
-    text = asked(program)
+    def asked(*words):
+        return subprocess.run([program, *words, "--help"], capture_output=True, text=True,
+                              check=True).stdout
+
     commands = []
-    for line in section(text, "Commands:"):
-        name, about = ENTRY.match(line).groups()
-        inner = "" if name == "help" else asked(program, name)
-        usage = next((u for u in inner.split("\n") if u.startswith("Usage:")), "")
-        has_file = bool(re.search(r"[\[<](FILE|JOB|REPORT)[\]>]", usage))
-        commands.append(Command(name, about, options_of(inner), has_file))
-    return commands, options_of(text)
+    for line in section(asked(), "Commands:"):
+        name, about = re.match(r"^  ([a-z]+) +(\S.*)$", line).groups()
+        inner = "" if name == "help" else asked(name)
+        has_file = re.search(r"^Usage:.*[\[<](FILE|JOB|REPORT)[\]>]", inner, re.M)
+        commands.append(Command(name, about, options_of(inner), bool(has_file)))
+    return commands, options_of(asked())
 
 
 def stab():
     """What stab has, by the table of its command line."""
     commands = []
-    for row in (ROOT / "docs" / "FORMATS.md").read_text().split("\n"):
+    for row in (TOP / "docs/FORMATS.md").read_text().split("\n"):
         match = re.match(r"^\| `([a-z]+)` (.*?)\| (reads.*) \|$", row.replace(r"\|", "/"))
         if match:
             flags = [(flag, None, "") for flag in re.findall(r"--([a-z]+)", match[2])]
@@ -86,44 +112,30 @@ def stab():
     return commands, []
 
 
+def folded(words, width):
+    """Words in lines, which are folded between them alone."""
+    return textwrap.wrap(" ".join(words), width, break_long_words=False, break_on_hyphens=False)
+
+
 def bash(program, commands, options):
     """The completions for bash."""
-    names = " ".join([c.name for c in commands] + ["--" + name for name, _, _ in options])
-    lines = [
-        "# The completions of %s for bash: source this file. %s" % (program, WRITTEN),
-        "_%s() {" % program,
-        "    local word=${COMP_WORDS[COMP_CWORD]} flags='' files=''",
-        "    COMPREPLY=()",
-        '    if [ "$COMP_CWORD" -eq 1 ]; then',
-        "        mapfile -t COMPREPLY < <(compgen -W '%s' -- \"$word\")" % names,
-        "        return",
-        "    fi",
-        "    case ${COMP_WORDS[1]} in",
-    ]
-    for c in commands:
-        if c.name == "help":
-            lines.append("        help) flags='%s' ;;" % " ".join(it.name for it in commands))
+    cases, names = [], [it.name for it in commands]
+    for it in commands:
+        if it.name == "help":
+            cases.append(f"        help) flags='{' '.join(names)}' ;;")
             continue
-        lines.append("        %s)" % c.name)
-        lines += ["            flags%s'%s%s'" % (("+=", " ", part) if at else ("=", "", part))
-                  for at, part in enumerate(textwrap.wrap(c.flags(), 75, **WHOLE))]
-        lines += ["            files=yes"] * c.has_file
-        valued = " ".join("--" + name for name, value, _ in c.options if value)
+        cases.append(f"        {it.name})")
+        for at, part in enumerate(folded(names_of(it.options), 75)):
+            cases.append(f"            flags{'+' * bool(at)}='{' ' * bool(at)}{part}'")
+        cases += ["            files=yes"] * it.has_file
+        valued = names_of(option for option in it.options if option[1])
         if valued:
-            lines += ["            case ${COMP_WORDS[COMP_CWORD - 1]} in",
-                      *("                %s) return ;;" % "|".join(part.split())
-                        for part in textwrap.wrap(valued, 70, **WHOLE)), "            esac"]
-        lines.append("            ;;")
-    lines += [
-        "    esac",
-        "    mapfile -t COMPREPLY < <(compgen -W \"$flags\" -- \"$word\")",
-        '    if [ -n "$files" ] && [[ $word != -* ]]; then',
-        "        mapfile -t COMPREPLY < <(compgen -f -- \"$word\")",
-        "    fi",
-        "}",
-        "complete -o filenames -F _%s %s" % (program, program),
-    ]
-    return "\n".join(lines) + "\n"
+            cases += ["            case ${COMP_WORDS[COMP_CWORD - 1]} in",
+                      *(f"                {'|'.join(part.split())}) return ;;"
+                        for part in folded(valued, 70)), "            esac"]
+        cases.append("            ;;")
+    return BASH.format(program=program, names=" ".join(names + names_of(options)),
+                       cases="\n".join(cases))
 
 
 def quoted(text):
@@ -133,113 +145,89 @@ def quoted(text):
 
 def zsh(program, commands, options):
     """The completions for zsh."""
-    escaped = lambda text: text.replace("[", "\\[").replace("]", "\\]").replace(":", "\\:")
-    lines = ["#compdef %s" % program,
-             "# The completions of %s for zsh. %s" % (program, WRITTEN),
-             "local -a commands",
-             "commands=("]
-    lines += ["    " + quoted("%s:%s" % (c.name, c.about.replace(":", "\\:"))) for c in commands]
-    lines += [")", "if (( CURRENT == 2 )); then", "    _describe -t commands command commands"]
-    if options:
-        lines.append("    compadd -- " + " ".join("--" + name for name, _, _ in options))
-    lines += ["    return", "fi", "case ${words[2]} in"]
-    for c in commands:
-        specs = ["--%s[%s]" % (name, escaped(text)) + (":%s:" % value if value else "")
-                 for name, value, text in c.options]
-        specs += ["*:file:_files"] if c.has_file else []
-        specs += ["*:command:(%s)" % " ".join(o.name for o in commands)] if c.name == "help" else []
+    def escaped(text):
+        return re.sub(r"([\[\]:])", r"\\\1", text)
+
+    cases = []
+    for it in commands:
+        specs = [f"--{name}[{escaped(text)}]" + f":{value}:" * bool(value)
+                 for name, value, text in it.options]
+        specs += ["*:file:_files"] * it.has_file
+        if it.name == "help":
+            specs.append(f"*:command:({' '.join(other.name for other in commands)})")
         if specs:
-            lines.append("    %s)" % c.name)
-            lines.append("        _arguments \\")
-            lines += ["            %s%s" % (quoted(spec), " \\" if spec is not specs[-1] else "")
-                for spec in specs]
-            lines.append("        ;;")
-    return "\n".join(lines + ["esac"]) + "\n"
+            cases += [f"    {it.name})", " \\\n            ".join(
+                ["        _arguments", *map(quoted, specs)]), "        ;;"]
+    listed = [quoted(f"{it.name}:" + it.about.replace(":", "\\:")) for it in commands]
+    return ZSH.format(
+        program=program, cases="\n".join(cases),
+        commands="\n".join(f"    {it}" for it in listed),
+        options=f"    compadd -- {' '.join(names_of(options))}\n" if options else "")
 
 
 def fish(program, commands, options):
     """The completions for fish."""
-    lines = ["# The completions of %s for fish. %s" % (program, WRITTEN),
-        "complete -c %s -f" % program]
-    for name, _, text in options:
-        lines.append("complete -c %s -n __fish_use_subcommand -l %s -d %s" % (program, name,
-            quoted(text)))
-    for c in commands:
-        lines.append("complete -c %s -n __fish_use_subcommand -a %s -d %s" % (program, c.name,
-            quoted(c.about)))
-        seen = "complete -c %s -n '__fish_seen_subcommand_from %s'" % (program, c.name)
-        for name, value, text in c.options:
-            lines.append("%s -l %s%s%s" % (seen, name, " -x" if value else "",
-                " -d " + quoted(text) if text else ""))
-        if c.has_file:
-            lines.append(seen + " -F")
-    return "\n".join(lines) + "\n"
+    first = f"complete -c {program} -n __fish_use_subcommand"
+    lines = [f"{first} -l {name} -d {quoted(text)}" for name, _, text in options]
+    for it in commands:
+        lines.append(f"{first} -a {it.name} -d {quoted(it.about)}")
+        seen = f"complete -c {program} -n '__fish_seen_subcommand_from {it.name}'"
+        lines += [f"{seen} -l {name}{' -x' * bool(value)}" + (f" -d {quoted(text)}" if text else "")
+                  for name, value, text in it.options]
+        lines += [f"{seen} -F"] * it.has_file
+    return FISH.format(program=program) + "".join(f"{line}\n" for line in lines)
 
 
-def files_of(program):
+def files_of(both):
     """Each file of completions/ and its text."""
-    made = {}
-    for name, (commands, options) in (("rignolda", rignolda(program)), ("stab", stab())):
-        made[name + ".bash"] = bash(name, commands, options)
-        made["_" + name] = zsh(name, commands, options)
-        made[name + ".fish"] = fish(name, commands, options)
-    return made
+    return {form.format(name): made(name, *its) for name, its in both.items()
+            for form, made in (("{}.bash", bash), ("_{}", zsh), ("{}.fish", fish))}
 
 
 def completed(program, *words):
     """What bash completes these words with, of which the last is being typed."""
-    script = ('source "$1"; shift; COMP_WORDS=("$@"); COMP_CWORD=$(($# - 1)); _%s; '
-        'printf "%%s\\n" "${COMPREPLY[@]}"')
-    said = subprocess.run(["bash", "-c", script % program, "-", str(HOME / (program + ".bash")),
-        program, *words],
+    script = ('source "$1"; shift; COMP_WORDS=("$@"); COMP_CWORD=$(($# - 1)); "_$1"; '
+              'printf "%s\\n" "${COMPREPLY[@]}"')
+    said = subprocess.run(["bash", "-c", script, "-", HOME / f"{program}.bash", program, *words],
                           capture_output=True, text=True, cwd=HOME)
-    return sorted(said.stdout.split()) if said.returncode == 0 and not said.stderr else [
-        said.stderr]
+    return said.stderr or sorted(said.stdout.split())
 
 
-def cases(program):
+def cases(both):
     """Each case: its name, and whether it holds."""
-    made = files_of(program)
+    made = files_of(both)
     yield "the files of completions/", sorted(os.listdir(HOME)) == sorted(made)
     for name, text in made.items():
-        yield "completions/" + name, (HOME / name).is_file() and (HOME / name).read_text() == text
-    for name, (commands, options) in (("rignolda", rignolda(program)), ("stab", stab())):
-        names = [c.name for c in commands]
-        page = (ROOT / "man" / (name + ".1")).read_text().replace("\\-", "-")
-        wanted = names + ["--" + option for c in commands for option, _, _ in c.options]
-        yield "man/%s.1" % name, all(re.search(re.escape(word) + r"\b", page) for word in wanted)
-        yield name + " has commands", len(names) > 2 and (name == "stab" or len(options) > 1)
-        firsts = sorted(names + ["--" + option for option, _, _ in options])
-        yield "%s in bash" % name, completed(name, "") == firsts
-        for c in commands:
-            if c.options:
-                yield "%s %s in bash" % (name, c.name), completed(name, c.name,
-                    "--") == sorted(c.flags().split())
-            if c.has_file:
-                yield "%s %s FILE in bash" % (name, c.name), completed(name, c.name,
-                    "_") == ["_rignolda", "_stab"]
+        yield f"completions/{name}", (HOME / name).is_file() and (HOME / name).read_text() == text
+    for name, (commands, options) in both.items():
+        names = [it.name for it in commands]
+        page = (TOP / f"man/{name}.1").read_text().replace("\\-", "-")
+        wanted = names + [word for it in commands for word in names_of(it.options)]
+        yield f"man/{name}.1", all(re.search(re.escape(word) + r"\b", page) for word in wanted)
+        yield f"{name} has commands", len(names) > 2 and (name == "stab" or len(options) > 1)
+        yield f"{name} in bash", completed(name, "") == sorted(names + names_of(options))
+        for it in commands:
+            if it.options:
+                yield (f"{name} {it.name} in bash",
+                       completed(name, it.name, "--") == sorted(names_of(it.options)))
+            if it.has_file:
+                yield (f"{name} {it.name} FILE in bash",
+                       completed(name, it.name, "_") == ["_rignolda", "_stab"])
 
 
-def main():
-    parser = argparse.ArgumentParser()
-    parser.add_argument("--check", action="store_true")
-    sys.exit(run_with(check if parser.parse_args().check else write, "rignolda"))
-
-
-def write(program):
-    """Writes the files."""
-    HOME.mkdir(exist_ok=True)
-    for name, text in files_of(program).items():
-        (HOME / name).write_text(text)
-
-
-def check(program):
-    """Compares the files, and tries them."""
-    found = Cases()
-    for case in cases(program):
+def main(program):
+    """Writes the files, or compares them and tries them."""
+    both, found = {"rignolda": rignolda(program), "stab": stab()}, Cases()
+    if not sys.argv[1:]:
+        for name, text in files_of(both).items():
+            (HOME / name).write_text(text)
+        return 0
+    for case in cases(both):
         found.holds(*case)
     return found.sum_up()
 
 
 if __name__ == "__main__":
-    main()
+    if sys.argv[1:] not in ([], ["--check"]):
+        sys.exit("tools/completions.py takes --check, or no words at all")
+    sys.exit(run_with(main, "rignolda"))

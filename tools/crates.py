@@ -1,17 +1,8 @@
-#!/usr/bin/env -S python3 -B
-"""What the scripts share: the crates of crates.txt, how many tasks fit, and the kit's compiler.
-
-  tools/crates.py tasks    how many tasks that prove may run at once here, and why
-  tools/crates.py build TREE CRATE SOURCE WORD..
-                           is the compiler of the kit in the folder of this crate: builds it from
-                           its first file, over the libraries that checks have left in the tree,
-                           with these words more
-"""
+"""What the scripts share: the crates of crates.txt, how many tasks fit, and the kit's compiler."""
 import collections
 import os
 import re
 import subprocess
-import sys
 
 TOP = os.path.dirname(os.path.dirname(os.path.realpath(__file__)))
 
@@ -107,15 +98,6 @@ def lines_of(crate, top=TOP):
                if "/out" not in at and name.endswith((".rt", ".antt")))
 
 
-def anew():
-    """The words that have rt ci prove all from nothing. Of some kits it takes what it has passed
-    before on this machine, unless it is told this; of others it always begins from nothing, and
-    knows no such word."""
-    said = subprocess.run(["rt", "help"], stdin=subprocess.DEVNULL, stdout=subprocess.PIPE,
-                          stderr=subprocess.STDOUT, text=True).stdout
-    return ["--anew"] if "--anew" in said else []
-
-
 def kit():
     """The folder of the kit."""
     said = subprocess.run(["rt", "doc"], check=True, stdout=subprocess.PIPE, text=True).stdout
@@ -152,19 +134,3 @@ def clang(*words, is_program=True):
             "libc_nonshared.a"))
     return [f"{home}/bin/clang", "-O2", "-Wall", "-Wextra", "-Werror", "-nostdlib",
             "-fuse-ld=lld", *own, *words]
-
-
-def main(words):
-    if words == ["tasks"]:
-        print(*tasks())
-    elif words[:1] == ["build"] and len(words) > 3:
-        tree, crate, source = words[1:4]
-        command = [*compiler("build", crate, source, os.path.abspath(tree)), *words[4:]]
-        os.chdir(f"{tree}/crates/{crate}")
-        os.execv(command[0], command)
-    else:
-        sys.exit(__doc__)
-
-
-if __name__ == "__main__":
-    main(sys.argv[1:])

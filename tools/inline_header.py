@@ -15,7 +15,9 @@ proof covers this translation, as none covers clang; tests/library/both.c compar
 the archive. The build is over the libraries that checks have left. It needs the kit, and Python
 3.8.
 """
+import os
 import re
+import shutil
 import subprocess
 import sys
 import tempfile
@@ -100,9 +102,8 @@ class Header:
 
 FLAGS = re.compile(r"\b(?:nuw|nsw|exact|inbounds|nneg|disjoint|samesign|noundef|tail|nonnull"
                    r"|zeroext|range\([^)]*\)|align \d+|dereferenceable\(\d+\)) ")
-OPERATORS = {"add": "+", "sub": "-", "mul": "*", "and": "&", "or": "|", "xor": "^", "shl": "<<",
-             "lshr": ">>", "udiv": "/", "urem": "%"}
-RELATIONS = {"eq": "==", "ne": "!=", "ult": "<", "ule": "<=", "ugt": ">", "uge": ">="}
+OPERATORS = {"add": "+", "sub": "-", "and": "&", "or": "|", "shl": "<<", "lshr": ">>", "urem": "%"}
+RELATIONS = {"eq": "==", "ne": "!=", "ult": "<", "ule": "<=", "ugt": ">"}
 OPPOSITE = {"==": "!=", "!=": "==", "<": ">=", ">=": "<", ">": "<=", "<=": ">"}
 
 
@@ -129,7 +130,6 @@ def step_of(line):
          lambda c, kind, a, b: Step(name, kind, "select", c, a, b)),
         (rf"(zext|trunc) (i\d+) {number} to (i\d+)",
          lambda act, of, a, kind: Step(name, kind, act, a, more=of)),
-        (rf"freeze (i\d+) {number}", lambda kind, a: Step(name, kind, "freeze", a)),
         (rf"load (i\d+), ptr {number}", lambda kind, a: Step(name, kind, "load", a)),
         (rf"store (i\d+) {number}, ptr {number}",
          lambda kind, a, to: Step("", kind, "store", a, to)),
@@ -349,13 +349,9 @@ class Function:
         self.say(depth, "}")
         if ends:
             return self.go(block, no, follow, depth)
-        at = len(self.lines)
         self.lines[-1] += " else {"
-        ends = self.go(block, no, follow, depth + 1)
-        if len(self.lines) == at:
-            self.lines[-1] = "    " * depth + "}"
-        else:
-            self.say(depth, "}")
+        self.go(block, no, follow, depth + 1)
+        self.say(depth, "}")
         return False
 
     def go(self, block, to, follow, depth):
@@ -489,13 +485,10 @@ class Function:
             return self.place(step.operands[0], step.kind)
         if step.act == "phi":
             raise Unknown(f"a value of another block in {self.name}")
-        if step.act == "freeze":
-            return self.value(step.operands[0], step.kind)
         if step.act in ("zext", "trunc"):
-            text = self.value(step.operands[0], step.more)
             if step.act == "trunc" and step.kind == "i1":
-                return f"(({text} & 1) != 0)"
-            return f"({C_TYPES[step.kind]}){text}"
+                raise Unknown(f"a truth of more bits in {self.name}")
+            return f"({C_TYPES[step.kind]}){self.value(step.operands[0], step.more)}"
         if step.act == "icmp":
             text = self.relation(step, False)
         elif step.act == "select":
@@ -504,8 +497,6 @@ class Function:
             text = self.value(condition, "i1")
             if one == "true":
                 text += f" || {other}"
-            elif other == "false":
-                text += f" && {one}"
             else:
                 text = self.narrowed(f"{text} ? {one} : {other}", step.kind)
         elif step.act == "minmax":
@@ -523,18 +514,15 @@ class Function:
         """A sum, a product, or the like."""
         kind, (a, b) = step.kind, step.operands
         if kind == "i1":
-            if step.act not in ("and", "or", "xor"):
+            if step.act not in ("and", "or"):
                 raise Unknown(f"{step.act} of truths in {self.name}")
-            if step.act == "xor":
-                return self.negated(a) if b == "true" else \
-                    f"{self.value(a, kind)} != {self.value(b, kind)}"
             sign = "&&" if step.act == "and" else "||"
             return f"{self.value(a, kind)} {sign} {self.value(b, kind)}"
         sign = OPERATORS[step.act]
         if step.act == "add" and b.startswith("-"):
             sign, b = "-", b[1:]
         one, other = self.value(a, kind), self.value(b, kind)
-        if kind in ("i8", "i16") and step.act in ("mul", "shl"):
+        if kind in ("i8", "i16") and step.act == "shl":
             one = f"(uint32_t){one}"
         if self.given.get(a, [""])[0] == "size_t" and b not in self.steps:
             # (a size may be narrower in C)
@@ -632,12 +620,7 @@ def build(work):
     """Builds the archive in a folder as a release does, and answers its file and the text of the
     module that clang was given."""
     home, tools = kit(), work / "toolchain"
-    (tools / "bin").mkdir(parents=True)
-    for path in Path(home, "toolchain").iterdir():
-        if path.name != "bin":
-            (tools / path.name).symlink_to(path)
-    for path in Path(home, "toolchain/bin").iterdir():
-        (tools / "bin" / path.name).symlink_to(path)
+    shutil.copytree(f"{home}/toolchain", tools, copy_function=os.symlink)
     clang, module, archive = f"{home}/toolchain/bin/clang", work / "module.bc", work / "library.a"
     (tools / "bin/clang").unlink()
     (tools / "bin/clang").write_text(KEEPER.format(kept=module, clang=clang))

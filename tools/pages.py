@@ -282,19 +282,26 @@ def cited_records():
     return {name for page in pages() for name in re.findall(r"`(\w+)\.\w+`", page.read_text())}
 
 
+def records_of(path):
+    """The records of a file of definitions: the name of each, what it is of, and its fields with
+    their texts."""
+    for block in re.split(r"\n(?=\S)", path.read_text()):
+        record = re.match(r"pub record (\w+) *(.*?) *: Type \S+ where\n(.*)", block, re.S)
+        if record:
+            text = re.sub(r" *--.*\n", "", record[3] + "\n")
+            fields = re.findall(r"  pub (\w+) :\s+(.*?)\n(?!    )", text, re.S)
+            yield record[1], " ".join(record[2].split()), {
+                name: " ".join(its.split()) for name, its in fields}
+
+
 def records(crate, names):
-    """The lines of those records of a crate's definitions that have these names: each with what it
-    is of, and its fields with their texts."""
+    """The lines of those records of a crate's definitions that have these names."""
     lines = []
     for path in sorted((TOP / "crates" / crate / "specs").glob("*.antt")):
-        for block in re.split(r"\n(?=\S)", path.read_text()):
-            record = re.match(r"pub record (\w+) *(.*?) *: Type \S+ where\n(.*)", block, re.S)
-            if record and record[1] in names:
-                of = " ".join(record[2].split())
-                lines += ["", f"**`{record[1]}`**" + (f" `{of}`" if of else ""), ""]
-                fields = re.sub(r" *--.*\n", "", record[3] + "\n")
-                for field in re.findall(r"  pub (\w+) : (.*?)\n(?!    )", fields, re.S):
-                    lines += [f"- `.{field[0]}` `{' '.join(field[1].split())}`"]
+        for name, of, fields in records_of(path):
+            if name in names:
+                lines += ["", f"**`{name}`**" + (f" `{of}`" if of else ""), ""]
+                lines += [f"- `.{field}` `{text}`" for field, text in fields.items()]
     return lines[1:]
 
 
@@ -319,7 +326,7 @@ def page_of_claims():
             cited_here = records(crate, cited) if folder == "specs" else []
             lines += [*cited_here, ""] if cited_here else []
         folders = home / "must-fail", TOP / "tests/edits" / crate
-        bugs = [f"`{it}`" for it in sorted(path.stem for at in folders for path in at.glob("*.edit"))]
+        bugs = sorted(f"`{path.stem}`" for at in folders for path in at.glob("*.edit"))
         if bugs:
             lines += [f"Planted bugs: {', '.join(bugs)}.", ""]
     return "\n".join(lines)
@@ -436,7 +443,9 @@ class Sources:
                 self.add([function for function in of_all if function.public])
                 private += [function for function in of_all if not function.public]
             if path.suffix == ".antt" and path.parent.name == "specs":
-                self.add_records(path)
+                # (what a record says is as the clauses of its name)
+                for name, _, fields in records_of(path):
+                    self.clauses.setdefault(name, set()).update(fields)
         # (where a public function has the name, it is the one that is meant)
         self.add([function for function in private if function.name not in self.clauses])
 
@@ -445,19 +454,6 @@ class Sources:
         for function in some:
             for name in {function.name, function.path()}:
                 self.clauses.setdefault(name, set()).update(function.clauses())
-
-    def add_records(self, path):
-        """Adds what each record of a file of definitions says, as the clauses of its name."""
-        record = None
-        for line in path.read_text().splitlines():
-            head = re.match(r"pub record (\w+)", line)
-            field = re.match(r"  pub (\w+) :", line)
-            if head:
-                record = self.clauses.setdefault(head[1], set())
-            elif field and record is not None:
-                record.add(field[1])
-            elif line and not line.startswith(" "):
-                record = None
 
     def has_file(self, name):
         """Whether there is such a file or folder. The folders above may be left out, and the ending

@@ -84,12 +84,13 @@ def ran(*words, **options):
     return done.returncode, done.stdout
 
 
-def answered(file, *words, given, **options):
-    """The status of a program that reads this text, or this job, and what it writes on both of its
-    outputs."""
-    given = given if isinstance(given, str) else json.dumps(given)
-    done = subprocess.run([file, *words], input=given.encode(), capture_output=True, **options)
-    return done.returncode, done.stdout.decode(), done.stderr.decode()
+def answered(file, *words, given="", **options):
+    """The status of a program that reads this text, or these bytes, or this job, and what it writes
+    on both of its outputs."""
+    given = given if isinstance(given, (str, bytes)) else json.dumps(given)
+    given = given if isinstance(given, bytes) else given.encode()
+    done = subprocess.run([file, *words], input=given, capture_output=True, **options)
+    return done.returncode, *(it.decode(errors="replace") for it in (done.stdout, done.stderr))
 
 
 class Cases:

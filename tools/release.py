@@ -24,8 +24,8 @@ A program is linked by tools/static.py, of the object of which rt ci has linked 
 is no such C library here, or another one, --check compares that object. The programs of the daemon
 are made by tools/build_daemon --keep; --check sees that they and their sources are those of their
 lines. What was built is kept in out/, under names with its digest, that of its sources and the kit,
-and a build takes what checks have kept there, where it need not begin from nothing. It needs
-Python 3.8.
+and a build takes what rt ci has passed before on this machine, where it need not begin from
+nothing. It needs Python 3.8.
 """
 import contextlib
 import fcntl
@@ -46,7 +46,7 @@ from pathlib import Path
 
 import index_page
 import static
-from crates import anew, below, compiler, kit, listed, read, tasks
+from crates import below, compiler, kit, listed, read
 from programs import Cases
 from running import Commands, Interrupted
 from static import digest_of
@@ -57,8 +57,6 @@ LOG = KEPT / "build.log"
 DAEMON = TOP / "tools/build_daemon"
 # A build during which the sources change is made again, at most so often.
 MAX_BUILDS = 3
-# The modules of tests at the end of a first file.
-TESTS = re.compile(r"^#\[cfg\(test\)\]\nmod ([a-z0-9_]*);\n", re.M)
 WASM = "wasm64-unknown-unknown"
 # The artefacts for arm64 have names that begin so; the others are for x86-64, or for a page.
 ARM64 = "arm64/"
@@ -195,54 +193,6 @@ class Release(Commands):
             if fault.filename:
                 self.fail(f"the file {KEPT}/lock cannot be written")
 
-    def copy_sources(self, to, needed, crates):
-        """Copies what artefacts need to a folder, without the tests in it, which would be proved as
-        well, and moves the last crates beside it."""
-        paths = ["HANDLES"]
-        for crate in needed:
-            parts = ["src", "specs", "proofs"]
-            if (TOP / f"crates/{crate}/src/main.rt").is_file():
-                parts += ["stdin", "stdout", "args", "status", "data"]
-            paths += [f"crates/{crate}/{part}" for part in parts]
-        for path in paths:
-            (to / path).parent.mkdir(parents=True, exist_ok=True)
-            if (TOP / path).is_dir():
-                shutil.copytree(TOP / path, to / path, symlinks=True)
-            elif (TOP / path).exists() or path == "HANDLES":
-                shutil.copy(TOP / path, to / path)
-        (to / "crates.txt").write_text("".join(
-            f"{crates[it].line}\n" for it in needed if it not in self.last))
-        for file in to.glob("crates/*/src/*.rt"):
-            if file.stem in ("lib", "main"):
-                text = read(file)
-                for module in TESTS.findall(text):
-                    file.with_name(f"{module}.rt").unlink(missing_ok=True)
-                    shutil.rmtree(file.with_name(module), ignore_errors=True)
-                # (the layout is right again without the empty lines that are then at the end)
-                file.write_text(TESTS.sub("", text).rstrip("\n") + "\n")
-        for crate in self.last:
-            shutil.move(to / "crates" / crate, to.parent / crate)
-
-    def tell(self, line):
-        """Writes what rt says to the log, and says how far it is."""
-        self.log.write(line)
-        found = re.match(r"rt: ([a-z0-9_]+) (proved$|is kept:)", line)
-        if found:
-            self.proved += 1
-            how = "proved" if found[2] == "proved" else "proved, as before"
-            self.say(f"{found[1]} is {how}: {self.proved} of {self.needed} crates, after "
-                     f"{int(time.monotonic() - self.begin) // 60} min")
-
-    def find_last(self, needed, crates):
-        """The crates at the end of those that are needed, each of which is over all before it. The
-        lowest of all is not one of them."""
-        last = []
-        for place in range(len(needed) - 1, 0, -1):
-            if not {*needed[:place]} <= {*below(needed[place], crates)}:
-                break
-            last.insert(0, needed[place])
-        return last
-
     def compile(self, tree, crate, source, to, *words):
         """Has the compiler prove and compile a crate over what rt ci has left of the libraries
         below it: the first file, the file to make, and what else the compiler is to be told."""
@@ -260,11 +210,6 @@ class Release(Commands):
         """
         home = kit()
         return self.link(target_of(""), to, made, f"{home}/c/libos_c.a", f"{home}/c/liblibc_c.a")
-
-    def make_object(self, tree, crate, made, jobs):
-        """Has Rattle's own compiler prove a program and make the object beside it."""
-        return self.compile(tree, crate, "src/main.rt", f"{made}.o", "--backend", "rattle",
-                            "--jobs", jobs)
 
     def is_object_of(self, made):
         """Whether the object beside a program is the one of which it was linked."""
@@ -298,7 +243,8 @@ class Release(Commands):
                                    target_of(name), "--jobs", "2", *self.incremental(made.parent))
             return self.make_static(name, made) if is_well else None
         is_well = made.is_file() and (self.is_object_of(made) or (
-            self.make_object(tree, crate, made, "2") and self.is_object_of(made)))
+            self.compile(tree, crate, "src/main.rt", f"{made}.o", "--backend", "rattle", "--jobs",
+                         "2") and self.is_object_of(made)))
         return self.make_static(name, made) if is_well else None
 
     def incremental(self, out):
@@ -319,25 +265,6 @@ class Release(Commands):
             "--incremental", "out/incremental", "--jobs", "1",
         ) and self.link(WASM, made, archive, options=["--stack", STACK])
 
-    def prove_last(self, tree, crate):
-        """Proves a crate with all processors, over what rt ci has left of those below it, and
-        builds it if it is a program. It makes the same files as rt ci, and says so in its words."""
-        out = tree / "crates" / crate / "out"
-        (out / "rlib").mkdir(parents=True, exist_ok=True)
-        # (of more than four processes there is no gain)
-        jobs = str(min(tasks()[0], 4))
-        self.log.flush()
-        if (out.parent / "src/main.rt").is_file():
-            made = out / f"{crate}.by-rattle"
-            is_well = (self.make_object(tree, crate, made, jobs)
-                       and self.link_as_rt(f"{made}.o", made))
-        else:
-            is_well = self.compile(tree, crate, "src/lib.rt", out / f"rlib/{crate}.rlib",
-                                   "--statements", "--jobs", jobs)
-        if is_well:
-            self.tell(f"rt: {crate} proved\n")
-        return is_well
-
     def make_after_ci(self, tree, name):
         """Makes an artefact in a tree where rt ci has proved its crates, and answers its file, or
         None. rt ci has made the programs, each by two compilers; those of a release are made by
@@ -349,64 +276,40 @@ class Release(Commands):
         made = home / "out" / flat(name)
         made.parent.mkdir(exist_ok=True)
         made.unlink(missing_ok=True)
-        # (a check has left the libraries below with stamps, as rt itself takes them)
         if any((tree / f"crates/{it}/out/rlib/stamp").is_file() for it in below(crate, listed())):
-            return self.make_over_checks(home, name)
+            self.fail("checks have left other libraries here than rt ci does: run that first")
         is_well = (self.make_module(tree, crate, made) if kind == "module" else
                    self.make_archive(tree, name, made))
         return made if is_well and made.is_file() else None
 
-    def make_over_checks(self, home, name):
-        """Makes a library or a module over what checks have kept, and answers its file, or None."""
-        kind, crate = self.artefacts[name][:2]
-        tree, by_rt = home.parent.parent, kind == "library" and not name.startswith(ARM64)
-        made = home / "out" / (f"lib{crate}.a" if by_rt else flat(name))
-        made.unlink(missing_ok=True)
-        is_well = self.does(["rt", "lib"] if by_rt else ["rt", "check", "--jobs", "1"], home)
-        if kind == "module":
-            is_well = is_well and self.make_module(tree, crate, made)
-        elif not by_rt:
-            is_well = is_well and self.make_archive(tree, name, made)
-        return made if is_well and made.is_file() else None
-
-    def keep(self, name, made):
-        """Keeps a file that was built as a fresh one of an artefact, whole or not at all, and at no
-        time as one that somebody else may write to."""
-        fresh = KEPT / f"new-{flat(name)}"
-        with contextlib.suppress(FileNotFoundError):
-            fresh.unlink()
-        to = os.open(fresh, os.O_WRONLY | os.O_CREAT | os.O_EXCL, 0o700)
-        with open(made, "rb") as data, open(to, "wb") as to:
-            shutil.copyfileobj(data, to)
-            os.fchmod(to.fileno(), 0o755)
-        self.fresh[name] = fresh
-
     def build_in_copy(self, is_anew):
         """Proves and builds the artefacts, as the gate does, in a copy of the sources: each crate
-        once, side by side where they do not depend on each other. Where that is from nothing, rt ci
-        does not get the last crates, for which it would not use all processors."""
-        crates, needed = listed(), []
+        once, side by side where they do not depend on each other."""
+        crates, needed, proved, begin = listed(), [], 0, time.monotonic()
         for it in self.artefacts.values():
             below(it.crate, crates, needed)
-        self.needed, self.proved, self.begin = len(needed), 0, time.monotonic()
-        self.last = self.find_last(needed, crates) if is_anew else []
         self.room = Path(tempfile.mkdtemp())
-        tree = self.room / "tree"
-        self.copy_sources(tree, needed, crates)
-        with open(LOG, "a", encoding="utf-8") as self.log:
-            words = anew() if is_anew else []
-            process = self.start(["rt", "ci", *words], tree, stdout=subprocess.PIPE)
+        shutil.copy(TOP / "HANDLES", self.room)
+        (self.room / "crates.txt").write_text("".join(f"{crates[it].line}\n" for it in needed))
+        for crate in needed:
+            shutil.copytree(TOP / "crates" / crate, self.room / "crates" / crate, symlinks=True,
+                            ignore=shutil.ignore_patterns("out", "must-fail"))
+        with open(LOG, "a", encoding="utf-8") as log:
+            process = self.start(["rt", "ci", *["--anew"] * is_anew], self.room,
+                                 stdout=subprocess.PIPE)
             for line in process.stdout:
-                self.tell(line)
+                log.write(line)
+                found = re.match(r"rt: ([a-z0-9_]+) (proved$|is kept:)", line)
+                if found:
+                    proved += 1
+                    self.say(f"{found[1]} is proved: {proved} of {len(needed)} crates, after "
+                             f"{int(time.monotonic() - begin) // 60} min")
             is_well = self.end(process) == 0
-            for crate in self.last if is_well else ():
-                shutil.move(self.room / crate, tree / "crates" / crate)
-                is_well = is_well and self.prove_last(tree, crate)
         for name in self.artefacts if is_well else ():
-            made = self.make_after_ci(tree, name)
+            made = self.make_after_ci(self.room, name)
             if not made:
                 return False
-            self.keep(name, made)
+            self.fresh[name] = made.read_bytes()
         self.remove_room()
         return is_well
 
@@ -420,34 +323,18 @@ class Release(Commands):
                 time.sleep(0.1)
         self.room = None
 
-    def build_over_kept(self, name):
-        """Proves and builds what has changed of an artefact since the last time, crate after crate.
-        """
-        kind, crate = self.artefacts[name][:2]
-        home = TOP / "crates" / crate
-        LOG.write_text("")
-        if kind == "program" and name.startswith(ARM64):
-            made = self.does(["rt", "check"], home) and self.make_program(TOP, name)
-        elif kind == "program":
-            words = read(home / "args").splitlines()
-            given = home / "stdin" if (home / "stdin").is_file() else os.devnull
-            with open(given, "rb") as given:
-                self.does(["rt", "run", "--backend", "rattle", *["--"] * bool(words), *words], home,
-                          stdin=given)
-            # (the status is that of the program, which rt runs once it is built)
-            own = home / "out" / crate
-            made = (re.search("^rt: running ", read(LOG), re.M) and self.is_object_of(own)
-                    and self.make_static(name, own))
-        else:
-            made = self.make_over_checks(home, name)
-        if not made:
-            self.fail(f"{name} was not built, and what rt said is in {LOG}")
-        self.keep(name, made)
-
-    def name_fresh(self):
-        """Gives fresh artefacts their names in out/, and removes what was built of them before."""
-        for name, fresh in self.fresh.items():
-            built = self.artefacts[name].kept_as + digest_of(fresh.read_bytes())
+    def keep_fresh(self):
+        """Keeps what was built in out/, under names with digests, and removes what was built there
+        before. A file comes there whole or not at all, and at no time as one that somebody else may
+        write to."""
+        for name, data in self.fresh.items():
+            built = self.artefacts[name].kept_as + digest_of(data)
+            fresh = KEPT / f"new-{flat(name)}"
+            with contextlib.suppress(FileNotFoundError):
+                fresh.unlink()
+            with open(os.open(fresh, os.O_WRONLY | os.O_CREAT | os.O_EXCL, 0o700), "wb") as to:
+                to.write(data)
+                os.fchmod(to.fileno(), 0o755)
             try:
                 os.rename(fresh, built)
             except OSError:
@@ -469,7 +356,7 @@ class Release(Commands):
 
     def build(self, why, is_anew):
         """Proves and builds the artefacts. With `is_anew` this begins from nothing; else it takes
-        what was built before, and what checks or the gate have kept."""
+        what was built before, and what rt ci has passed."""
         if not shutil.which("rt"):
             self.fail(f"{why}: the command rt of the Rattle kit is needed to prove and build the "
                       "program")
@@ -481,27 +368,18 @@ class Release(Commands):
         except OSError:
             self.fail(f"the file {LOG} cannot be written")
         self.take_lock()
-        is_over, how = False, "which takes up to half an hour"
-        if is_anew:
-            how = "from nothing, which takes up to half an hour"
-        elif any((TOP / f"crates/{it.crate}/out/incremental").is_dir()
-                 for it in self.artefacts.values()):
-            is_over, how = True, "over what was kept, which takes minutes"
         for count in range(MAX_BUILDS):
             if not is_anew and all(it.built for it in self.artefacts.values()):
                 return
             self.say("the sources have changed during the build: building again" if count else
-                     f"{why}: proving and building {' '.join(self.artefacts)} {how}")
+                     f"{why}: proving and building {' '.join(self.artefacts)}"
+                     f"{' from nothing' * is_anew}, which takes up to half an hour")
             self.fresh, before = {}, self.sources()
-            if is_over:
-                for name in self.artefacts:
-                    if not self.artefacts[name].built:
-                        self.build_over_kept(name)
-            elif not self.build_in_copy(is_anew):
+            if not self.build_in_copy(is_anew):
                 self.fail(f"the program was not built, and what rt said is in {LOG}")
             self.look()
             if self.sources() == before:
-                self.name_fresh()
+                self.keep_fresh()
                 return
         self.fail("the program was not built: the sources keep changing")
 
@@ -610,9 +488,9 @@ class Release(Commands):
             made = self.make_after_ci(TOP, name)
             cases.holds(f"{name} is built", bool(made), f"see {LOG}")
             if made:
-                self.keep(name, made)
+                self.fresh[name] = made.read_bytes()
         if not cases.failed:
-            self.name_fresh()
+            self.keep_fresh()
             self.make(False)
         return cases.sum_up()
 

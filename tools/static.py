@@ -1,9 +1,5 @@
-#!/usr/bin/env -S python3 -B
-"""Links a program that needs no C library where it runs: the C library musl is inside.
-
-    tools/static.py ARCHITECTURE OBJECT PROGRAM
-        links a program for Linux on x86_64 or aarch64, of the object that the compiler of the kit
-        has made
+"""Links a program that needs no C library where it runs, since the C library musl is inside: for
+Linux on x86_64 or aarch64, of the object that the compiler of the kit has made.
 
 The compiler and the linker are those of the kit. What a program calls and musl has not is in
 tools/shims. musl is that of Debian's package musl-dev: the one that is installed, or else one
@@ -13,7 +9,6 @@ by the name of an architecture, a folder with lib/ and include/.
 import hashlib
 import os
 import subprocess
-import sys
 import tempfile
 from collections import namedtuple
 from pathlib import Path
@@ -76,32 +71,24 @@ def linked(library, program, *files, options=()):
             archive, last]
 
 
-def link(library, architecture, made, program, does=lambda words: subprocess.call(words) == 0):
-    """Links a program of an object, and answers whether it does. The digest of the object is in the
-    program, as its build identifier. Commands are run by `does`."""
+def builds(library, architecture, program, sources, *words, first=(), last=(), options=(),
+           does=lambda words: subprocess.call(words) == 0):
+    """Links a program of these sources, which are compiled with these words, and of objects before
+    and after them, and answers whether it does. Commands are run by `does`."""
     with tempfile.TemporaryDirectory() as room:
-        shims = {source: f"{room}/{source.stem}.o" for source in SHIMS}
-        own = digest_of(Path(made).read_bytes())
-        return all(does([*map(str, words)]) for words in (
-            *(compiled(library, architecture, *it) for it in shims.items()),
-            linked(library, program, made, *shims.values(),
-                   options=["--wrap=main", f"--build-id=0x{own}"])))
+        objects = {source: f"{room}/{source.stem}.o" for source in sources}
+        return all(does([*map(str, one)]) for one in (
+            *(compiled(library, architecture, *it, *words) for it in objects.items()),
+            linked(library, program, *first, *objects.values(), *last, options=options)))
+
+
+def link(library, architecture, made, program, does):
+    """The same of an object, whose digest is in the program, as its build identifier."""
+    own = digest_of(Path(made).read_bytes())
+    return builds(library, architecture, program, SHIMS, first=[made], does=does,
+                  options=["--wrap=main", f"--build-id=0x{own}"])
 
 
 def has_object(program, made):
     """Whether a program was linked of the object with this digest, as it says itself."""
     return bytes.fromhex(made) in program
-
-
-def main(words):
-    if len(words) != 3 or words[0] not in DEBIAN:
-        sys.exit(__doc__)
-    library = musl(words[0])
-    if not library:
-        sys.exit(f"static: Debian's package musl-dev for {DEBIAN[words[0]]} is needed")
-    if not link(library, *words):
-        sys.exit("static: the program was not linked")
-
-
-if __name__ == "__main__":
-    main(sys.argv[1:])

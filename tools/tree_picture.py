@@ -1,8 +1,6 @@
 """Draws what each node of a scenario has received in the end, as `rignolda scenario` prints it: a
 tree of boxes as SVG, light or dark as its reader has it. For tests/check_drawn.py."""
 
-import re
-
 # The colours of what was received, of strays, of missing items and of lines, as of the pictures of
 # `rignolda draw --svg`: light and dark.
 COLOURS = [("good", "#0d7a4f", "#5fd3a2"), ("odd", "#c04a00", "#ff9d5c"),

@@ -1,11 +1,15 @@
 """A plain judge of logs, from its definition in man/rignolda.1, by the tree law of
 agents/check_report.py. And all lists that a link of capacity 1 can deliver, by a search through all
-its states. It shares nothing with the program."""
+states of the link of reference.py. It shares nothing with the program."""
+import copy
+import functools
 import sys
 from pathlib import Path
 
+from reference import ACTS, Link
+
 sys.path.insert(0, str(Path(__file__).resolve().parent.parent.parent / "agents"))
-from check_report import is_subsequence, obeys_tree_law  # noqa: E402
+from check_report import is_subsequence, most_missing, obeys_tree_law  # noqa: E402
 
 
 def path_of(parents, node):
@@ -27,9 +31,7 @@ def sums(parents, capacities, hold, node):
     `capacities` are by child."""
     path = path_of(parents, node)
     strays = sum(capacities[w] + kept(parents, hold, w) for w in path)
-    once = [capacities[w] + 1 for w in path]
-    most = max((sum(once[at:]) + capacities[w] for at, w in enumerate(path)), default=0)
-    return strays, sum(once), most
+    return (strays, *most_missing([capacities[w] for w in path]))
 
 
 def fault_at(received, counted, strays, without, most):
@@ -61,7 +63,8 @@ def text_of(names, parents, capacities, hold, items, received, places):
                     f"out of order or twice\n{lists}")
         if fault == "missing":
             return (f"{name}: published items before its last one are missing, not only among the "
-                    f"first {without} and one more for each stray, at most the first {most}\n{lists}")
+                    f"first {without} and one more for each stray, at most the first {most}\n"
+                    f"{lists}")
         parent = parents[node]
         if parent is None or parents[parent] is None:
             continue
@@ -73,35 +76,19 @@ def text_of(names, parents, capacities, hold, items, received, places):
     return "obeys\n"
 
 
+@functools.lru_cache(None)
 def delivered(count):
     """All lists that a link of capacity 1 with 4 labels can deliver, whatever it begins with, if
-    its node has so many items: places of these, and None for a stray. Each event may come at any
-    time, and a queue may lose its entry or show it again."""
-    seen = set()
-    after = [(False, 0, 0, told, frame, ack, ()) for told in range(4)
-             for frame in [None, *((label, None) for label in range(4))]
-             for ack in [None, *range(4)]]
+    its node has so many items: places of these, and None for a stray. Each act may come at any
+    time."""
+    found = {}
+    after = [Link(1, 4, frames, acks, 0, told) for told in range(4)
+             for frames in [[], *([(label, None)] for label in range(4))]
+             for acks in [[], *([label] for label in range(4))]]
     while after:
-        state = after.pop()
-        if state in seen:
-            continue
-        seen.add(state)
-        holds, acked, label, told, frame, ack, has = state
-        if not holds and acked < count:
-            after.append((True, acked, label, told, frame, ack, has))
-        if holds and frame is None:
-            after.append((holds, acked, label, told, (label, acked), ack, has))
-        if frame is not None:
-            fresh = frame[0] != told
-            for left in (None, frame):
-                after.append((holds, acked, label, frame[0], left, ack,
-                              has + (frame[1],) if fresh else has))
-            after.append((holds, acked, label, told, None, ack, has))
-        if ack is None:
-            after.append((holds, acked, label, told, frame, told, has))
-        else:
-            for left in (None, ack):
-                if holds and ack == label:
-                    after.append((False, acked + 1, (label + 1) % 4, told, frame, left, has))
-                after.append((holds, acked, label, told, frame, left, has))
-    return {state[-1] for state in seen}
+        link = after.pop()
+        if found.setdefault(repr(vars(link)), link) is link:
+            for act in {*ACTS}:
+                after.append(copy.deepcopy(link))
+                after[-1].act(act, range(count))
+    return {tuple(link.delivered) for link in found.values()}

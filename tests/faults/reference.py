@@ -1,6 +1,6 @@
 """A tree of links with faults in plain Python, from the rules in docs/PROTOCOL.md: the expected
-values of tests of `stab_treecore`, and of rows of tests/tables, are its values, and nothing of it is
-made from the crates."""
+values of tests of `stab_treecore`, and of rows of tests/tables, are its values, and nothing of it
+is made from the crates."""
 
 class Link:
     def __init__(s, capacity, labels, frames=(), acks=(), send=0, recv=65535):
@@ -17,38 +17,44 @@ class Link:
         return len(s.offered) == s.acked + 1
 
     def act(s, act, above, place=0):
-        """One act: offers come from the list above. After a close only faults change anything."""
-        if s.closed or act == 'close':
+        """One act, and its effect: offers come from the list above. After a close only faults
+        change anything."""
+        queue = s.frames if 'frame' in act else s.acks
+        if s.closed:
+            return 'Nothing'
+        if act == 'close':
             s.closed = True
-        elif act == 'offer':
-            if not s.holds() and len(s.offered) < len(above):
-                s.offered.append(above[len(s.offered)])
-        elif act == 'send_frame':
-            if s.holds() and len(s.frames) < s.capacity:
-                s.frames.append((s.send, s.offered[s.acked]))
-        elif act in ('recv_frame', 'recv_frame_keep'):
-            if s.frames:
-                label, item = s.frames[0]
-                if act == 'recv_frame':
-                    s.frames.pop(0)
-                if label != s.recv:
-                    s.recv = label
-                    s.delivered.append(item)
-        elif act == 'send_ack':
-            if len(s.acks) < s.capacity:
-                s.acks.append(s.recv)
-        elif act in ('recv_ack', 'recv_ack_keep'):
-            if s.acks:
-                label = s.acks[0]
-                if act == 'recv_ack':
-                    s.acks.pop(0)
-                if s.holds() and label == s.send:
-                    s.acked += 1
-                    s.send = s.send + 1 if s.send + 1 < s.labels else 0
-        elif act == 'lose_frame':
-            del s.frames[place:place + 1]
-        elif act == 'lose_ack':
-            del s.acks[place:place + 1]
+            return 'Closed'
+        if act == 'offer':
+            if s.holds() or len(s.offered) == len(above):
+                return 'Nothing'
+            s.offered.append(above[len(s.offered)])
+            return 'Held'
+        if act.startswith('send'):
+            if act == 'send_frame' and not s.holds():
+                return 'Nothing'
+            if len(queue) == s.capacity:
+                return 'Lost'
+            queue.append(s.recv if act == 'send_ack' else (s.send, s.offered[s.acked]))
+            return 'Sent'
+        if act.startswith('lose'):
+            found = len(queue)
+            del queue[place:place + 1]
+            return 'Lost' if place < found else 'Nothing'
+        if not queue:
+            return 'Nothing'
+        front = queue[0] if act.endswith('keep') else queue.pop(0)
+        if act.startswith('recv_ack'):
+            if not s.holds() or front != s.send:
+                return 'Ignored'
+            s.acked += 1
+            s.send = s.send + 1 if s.send + 1 < s.labels else 0
+            return 'Acked'
+        if front[0] == s.recv:
+            return 'Old'
+        s.recv = front[0]
+        s.delivered.append(front[1])
+        return 'Fresh'
 
 class Tree:
     def __init__(s, parents, links, published):
@@ -60,7 +66,7 @@ class Tree:
         return s.openings[node] + s.links[node].delivered if s.links[node] else s.published
 
     def act(s, child, act, place=0):
-        s.links[child].act(act, s.list_of(s.parents[child]), place)
+        return s.links[child].act(act, s.list_of(s.parents[child]), place)
 
     def restart(s, node, items):
         """The node's list becomes these, and its senders begin anew."""

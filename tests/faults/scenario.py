@@ -27,29 +27,44 @@ class Scenario:
         """What is counted from now on."""
         return Count(s.tree)
 
-    def all_links(s, acts_of):
-        for child, link in enumerate(s.tree.links):
-            for act in acts_of(link) if link else []:
-                s.tree.act(child, act)
+    def take(s, child, act, place=0):
+        """The link into a node takes an act."""
+        s.tree.act(child, act, place)
+
+    def mark(s, node, event, items=None):
+        """A run that is drawn has a line for what happens to a node, or to all links."""
+
+    def draw(s, child, event, effect="-", delivers="-"):
+        """And one for what happens to a link."""
 
     def step(s, number, step):
         """A step is told by its last value, since a node may be called like a step."""
-        last = step[-1]
+        s.number, last, tree = number, step[-1], s.tree
         if len(step) == 2 and isinstance(last, list):
-            s.tree.published += last
+            tree.published += last
+            s.mark(tree.parents.index(None), "publish", last)
         elif len(step) == 2 and isinstance(last, int):
-            for _ in range(last):
-                s.all_links(lambda link: ROUND if step[0] == "rounds"
-                            else reading_round(link.capacity))
-        elif isinstance(last, (dict, list)):
+            reads = step[0] == "reading_rounds"
+            for place in range(1, last + 1):
+                s.mark(None, f"{'reading ' * reads}round {place} of {last}")
+                for child, link in enumerate(tree.links):
+                    for act in (reading_round(link.capacity) if reads else ROUND) if link else ():
+                        s.take(child, act)
+        elif isinstance(last, dict):
             node = s.names.index(step[1])
-            if step[0] == "strike":
-                s.tree.links[node].strike(*start_of(Pairs(last.items())))
-            else:
-                s.tree.restart(node, last)
+            tree.links[node].strike(*start_of(Pairs(last.items())))
             s.hit(number, node)
+            s.draw(node, "strike")
+        elif isinstance(last, list):
+            node = s.names.index(step[1])
+            tree.restart(node, last)
+            s.hit(number, node)
+            s.mark(node, "restart", last)
+            for child, parent in enumerate(tree.parents):
+                if parent == node:
+                    s.draw(child, "anew")
         else:
-            s.tree.act(s.names.index(step[0]), *step[1:])
+            s.take(s.names.index(step[0]), *step[1:])
 
     def hit(s, number, place):
         """A fault at this node, or at the link into it, hits it and all nodes beneath."""

@@ -21,6 +21,7 @@ programs of ./stab and ./rignolda, or those that PROGRAM_STAB and PROGRAM_RIGNOL
 import argparse
 import collections
 import concurrent.futures
+import functools
 import json
 import random
 import re
@@ -34,7 +35,7 @@ TOP = HERE.parent.parent
 sys.dont_write_bytecode = True
 sys.path[:0] = [str(TOP / "tools"), str(TOP / "tests")]
 from examples import DATA, words_of  # noqa: E402
-from programs import built  # noqa: E402
+from programs import answered, built  # noqa: E402
 from tables.reader import EVENTS, LETTERS, row  # noqa: E402
 
 SECONDS = 20
@@ -178,6 +179,7 @@ def with_openings(draw, text):
     return text.replace("{", json.dumps(more)[:-1] + ",", 1)
 
 
+@functools.lru_cache
 def corpus():
     """The examples: each job's text and its command. Those that end well are there several times,
     since most ways to spoil a job need one that is right elsewhere."""
@@ -191,10 +193,10 @@ def corpus():
     return found
 
 
-def case(jobs, seed, number):
+def case(seed, number):
     """The spoilt job of a case, and its command."""
     draw = random.Random(f"{seed}/{number}")
-    text, command = draw.choice(jobs)
+    text, command = draw.choice(corpus())
     if draw.random() < 0.25:
         command = draw.choice(COMMANDS)
     elif command[0] != "link":
@@ -218,17 +220,11 @@ def case(jobs, seed, number):
 # How a case is run and judged.
 
 
-def run(program, command, data):
-    """A run of a program: its status, and what it wrote."""
-    done = subprocess.run([program, *command], input=data, capture_output=True, timeout=SECONDS)
-    return done.returncode, done.stdout.decode(errors="replace"), done.stderr.decode()
-
-
 def wrong_with(programs, command, data):
     """What is wrong with what the programs say of a job, or None, and what `stab` said."""
     wanted = row("a spoilt job", command, data)
     try:
-        status, out, err = run(programs["stab"], command, data)
+        status, out, err = answered(programs["stab"], *command, given=data, timeout=SECONDS)
         if (status, err) != (wanted.status, wanted.err):
             return f"status {status}, {err!r}, and not {wanted.status}, {wanted.err!r}", err
         if isinstance(wanted.out, str):
@@ -237,7 +233,7 @@ def wrong_with(programs, command, data):
             fault = wanted.out.fault(out, None)
         if fault or command[0] == "run":
             return fault, err
-        found, said, more = run(programs["rignolda"], ["explain"], data)
+        found, said, more = answered(programs["rignolda"], "explain", given=data, timeout=SECONDS)
     except subprocess.TimeoutExpired as late:
         return f"{late.cmd} had not ended after {SECONDS} seconds", ""
     lines, fault = said.splitlines(), err.removeprefix("stab: ").strip()
@@ -254,20 +250,16 @@ def wrong_with(programs, command, data):
     return None, err
 
 
-def work(programs, keep_in, seed, numbers):
-    """What one lane does: some cases, one after the other."""
-    jobs, counts, wrongs = corpus(), collections.Counter(), []
-    for number in numbers:
-        command, data = case(jobs, seed, number)
-        wrong, said = wrong_with(programs, command, data)
-        counts[said.strip() or f"a text of {' '.join(command)}"] += 1
-        if wrong:
-            wrongs.append((number, wrong))
-            keep_in.mkdir(parents=True, exist_ok=True)
-            path = keep_in / f"seed_{seed}_case_{number}.json"
-            path.write_bytes(data)
-            path.with_suffix(".txt").write_text(f"stab {' '.join(command)} < {path}\n{wrong}\n")
-    return counts, wrongs
+def tried(programs, keep_in, seed, number):
+    """Tries a case: what is wrong with it, or None, and what was said of it."""
+    command, data = case(seed, number)
+    wrong, said = wrong_with(programs, command, data)
+    if wrong:
+        keep_in.mkdir(parents=True, exist_ok=True)
+        path = keep_in / f"seed_{seed}_case_{number}.json"
+        path.write_bytes(data)
+        path.with_suffix(".txt").write_text(f"stab {' '.join(command)} < {path}\n{wrong}\n")
+    return wrong, said.strip() or f"a text of {' '.join(command)}"
 
 
 def main():
@@ -278,22 +270,21 @@ def main():
     parser.add_argument("--lanes", type=int, default=4, help="how many programs run at a time")
     parser.add_argument("--keep", type=Path, default=HERE / "build", help="where failing jobs go")
     given = parser.parse_args()
-    counts, wrongs = collections.Counter(), []
+    counts, failed = collections.Counter(), 0
+    numbers = range(given.first, given.first + given.cases)
     with tempfile.TemporaryDirectory(prefix="stab-fuzz-") as folder:
         programs = {name: built(name, folder) for name in ("stab", "rignolda")}
+        tries = functools.partial(tried, programs, given.keep, given.seed)
         with concurrent.futures.ProcessPoolExecutor(given.lanes) as lanes:
-            numbers = range(given.first, given.first + given.cases)
-            ended = [lanes.submit(work, programs, given.keep, given.seed, numbers[at:at + 500])
-                     for at in range(0, len(numbers), 500)]
-            for one in concurrent.futures.as_completed(ended):
-                more, wrong = one.result()
-                counts, wrongs = counts + more, wrongs + wrong
+            for number, (wrong, said) in zip(numbers, lanes.map(tries, numbers, chunksize=500)):
+                counts[said] += 1
+                failed += bool(wrong)
+                if wrong:
+                    print(f"OTHER  case {number}: {wrong[:1000]}", flush=True)
     for line, count in counts.most_common():
         print(f"{count:7}  {line}")
-    for number, wrong in sorted(wrongs)[:50]:
-        print(f"OTHER  case {number}: {wrong[:1000]}")
-    print(f"{given.cases - len(wrongs)} passed, {len(wrongs)} failed")
-    return 1 if wrongs else 0
+    print(f"{given.cases - failed} passed, {failed} failed")
+    return 1 if failed else 0
 
 
 if __name__ == "__main__":

@@ -18,8 +18,8 @@ bounds`, since `stab` reads some jobs token by token, and `bounds` all by way of
 command of rignolda that reads such a job may not take more than three times the longer one, where
 that is over half a second. With words, only jobs whose names have one of them are measured.
 
-Another program is measured where PROGRAM_STAB or PROGRAM_RIGNOLDA names it. The kit is needed,
-whose clang builds measure.c. The last line is 'N passed, M failed'.
+Another program is measured where PROGRAM_STAB or PROGRAM_RIGNOLDA names it. It needs Debian's
+package time. The last line is 'N passed, M failed'.
 """
 import argparse
 import itertools
@@ -29,11 +29,11 @@ import statistics
 import subprocess
 import sys
 import tempfile
+import time
 from pathlib import Path
 
 HERE = Path(__file__).resolve().parent
 sys.path.insert(0, str(HERE.parent.parent / "tools"))
-from crates import clang  # noqa: E402
 from programs import Cases, built  # noqa: E402
 
 RUNS = 3
@@ -284,23 +284,19 @@ def full_link_jobs():
                          '{"send":0,"recv":0,"frames":%s}' % listed(lambda n: "[1,2]"))
 
 
-def build_measure(room):
-    """Builds in a folder what measures a run of a program."""
-    made = Path(room) / "measure"
-    subprocess.run(clang("-ffreestanding", HERE / "measure.c", "-o", made), check=True)
-    return made
-
-
-def run(measure, program, command, job):
+def run(program, command, job):
     """A run of a program on a job: wall and processor seconds, the peak in bytes, the status and
     standard error."""
-    report, to = os.pipe()
-    with open(report, "rb") as report:
-        ran = subprocess.run([measure, str(to), program, *command, job], pass_fds=[to], env={},
-                             stdout=subprocess.DEVNULL, stderr=subprocess.PIPE)
-        os.close(to)
-        wall, processor, peak, status = map(int, report.read().split())
-    return wall / 1e6, processor / 1e6, peak * 1024, status, ran.stderr.decode().strip()
+    with tempfile.NamedTemporaryFile("w+") as peak, tempfile.TemporaryFile("w+") as err:
+        # (the kernel counts a peak from the process that started one, and this one is large)
+        words = ["/usr/bin/time", "-q", "-f", "%M", "-o", peak.name, program, *command, job]
+        begin = time.perf_counter()
+        ran = subprocess.Popen(words, env={}, stdout=subprocess.DEVNULL, stderr=err)
+        status, used = os.wait4(ran.pid, 0)[1:]
+        wall = time.perf_counter() - begin
+        err.seek(0)
+        return (wall, used.ru_utime + used.ru_stime, int(peak.read()) * 1024,
+                os.waitstatus_to_exitcode(status), err.read().strip())
 
 
 class Largest(Cases):
@@ -309,11 +305,11 @@ class Largest(Cases):
     def __init__(self, room):
         super().__init__()
         self.programs = {name: built(name, room) for name in ("stab", "rignolda")}
-        self.measure, self.job = build_measure(room), room / "job.json"
+        self.job = room / "job.json"
 
     def run(self, name, command):
         """A run on the job."""
-        return run(self.measure, self.programs[name], command, self.job)
+        return run(self.programs[name], command, self.job)
 
     def at_limits(self, all_jobs):
         """Measures stab on jobs at limits, and on one more."""

@@ -11,14 +11,13 @@ import glob
 import json
 import os
 import random
-import subprocess
 import sys
 import tempfile
 
 TOP = os.path.dirname(os.path.dirname(os.path.dirname(os.path.realpath(__file__))))
 sys.path[:0] = [f"{TOP}/tests", f"{TOP}/tools"]
 from jobs import drawn_link  # noqa: E402
-from programs import built, counted  # noqa: E402
+from programs import answered, built, counted  # noqa: E402
 
 EXAMPLES = os.path.join(TOP, "crates", "gate_checks", "data")
 LETTERS = {"send_frame": "f", "recv_frame": "r", "recv_frame_keep": "R", "send_ack": "s",
@@ -39,12 +38,6 @@ def words_of(job):
     return " ".join(map(str, words)) + "\n"
 
 
-def said(program, words, text):
-    """What a program writes for these words and this input."""
-    return subprocess.run([program, *words], input=text, check=True, capture_output=True,
-                          text=True).stdout
-
-
 def runs(program):
     """Replays each drawn run, and compares the link after each event."""
     for path in sorted(glob.glob(os.path.join(EXAMPLES, "**", "*.run"), recursive=True)):
@@ -52,7 +45,8 @@ def runs(program):
             job = json.load(file)
         with open(path, encoding="utf-8") as file:
             wanted = [line.split()[1:] for line in file][1:]
-        found = [line.split() for line in said(program, ["steps"], words_of(job)).splitlines()]
+        said = answered(program, "steps", given=words_of(job))[1]
+        found = [line.split() for line in said.splitlines()]
         yield os.path.relpath(path, EXAMPLES), None if found == wanted else "another run"
 
 
@@ -60,11 +54,11 @@ def drawn(program, count, seed):
     """Draws jobs, and compares the text of each link at its end."""
     draw = random.Random(seed)
     jobs = [drawn_link(draw) for _ in range(count)]
-    found = said(program, [], "".join(map(words_of, jobs))).split("\n")
+    found = answered(program, given="".join(map(words_of, jobs)))[1].split("\n")
     with tempfile.TemporaryDirectory() as folder:
         stab = built("stab", folder)
         with concurrent.futures.ThreadPoolExecutor(4) as pool:
-            wanted = list(pool.map(lambda job: said(stab, ["link"], json.dumps(job)), jobs))
+            wanted = list(pool.map(lambda job: answered(stab, "link", given=job)[1], jobs))
     for at, (job, text) in enumerate(zip(jobs, wanted)):
         own = "\n".join(found[8 * at:8 * at + 8]) + "\n"
         fault = None if own == text else f"{json.dumps(job)}\n{own}wanted:\n{text}"

@@ -1,13 +1,10 @@
 #!/usr/bin/env -S python3 -B
 """Tests how agents/run_tree counts from the last fault on the path of each agent, by logs that were
-written by hand, and the tree law of agents/check_report.py, by the reports of `stab run` for the
-examples of trees and by lists at its bounds. (Its link law is that of tests/check_reports.py and
-tests/check_logs.py.) The last line is 'N passed, M failed'.
+written by hand, and the tree law of agents/check_report.py, by lists at its bounds. (More of its
+laws are in tests/check_reports.py and tests/check_logs.py.) The last line is 'N passed, M failed'.
 """
-import glob
 import importlib.machinery
 import importlib.util
-import json
 import os
 import sys
 import tempfile
@@ -15,7 +12,7 @@ import tempfile
 TOP = os.path.dirname(os.path.dirname(os.path.dirname(os.path.realpath(__file__))))
 sys.path[:0] = [f"{TOP}/agents", f"{TOP}/tools"]
 import check_report  # noqa: E402
-from programs import answered, built, counted  # noqa: E402
+from programs import counted  # noqa: E402
 
 
 class Queue:
@@ -95,16 +92,6 @@ def counts_from_faults():
         and paths["c"][1].endswith("c depth 2 received 3 acked 3 ended upstream\nitems: 7 8 9\n")
 
 
-def reports(stab):
-    """Whether both laws accept the report of each example of trees."""
-    for path in sorted(glob.glob(f"{TOP}/examples/trees/*.json")):
-        with open(path, encoding="utf-8") as file:
-            job = json.load(file)
-        report = answered(stab, "run", path, given="")[1]
-        yield (os.path.basename(path),
-               check_report.fault(job, report) is check_report.tree_fault(job, report) is None)
-
-
 def lists():
     """Whether the tree law allows b the first lists alone, in a chain r, a, b of capacity 1 whose
     root publishes 1 to 9: two strays, and of the first items four may be missing, and one more for
@@ -123,9 +110,8 @@ def lists():
 
 def main():
     with tempfile.TemporaryDirectory() as folder:
-        cases = [*reports(built("stab", folder)), *lists()]
         os.chdir(folder)
-        cases += [("each path from the last fault on it, by hand", counts_from_faults())]
+        cases = [*lists(), ("each path from the last fault on it, by hand", counts_from_faults())]
     return counted((name, None if holds else "it does not hold") for name, holds in cases)
 
 

@@ -9,8 +9,8 @@ It builds refuse.c, an object for LD_PRELOAD, by the kit's own clang, and runs u
   (b) stab on some examples and two runs, once for every N with the Nth allocation refused, and once
       with every allocation from the Nth on: it must give the whole text with status 0, or the line
       `stab: out of memory` with status 3 and nothing else;
-  (c) stab on runs, with the start of the Nth thread refused, and under limits of the system: it
-      must say in one line that a worker could not be started;
+  (c) stab on runs, with the start of the Nth thread refused: it must say in one line that a worker
+      could not be started;
   (d) rignolda on some command lines, as stab in (b): what it does undisturbed, or the line
       `rignolda: out of memory` with status 3 and nothing else.
 
@@ -23,8 +23,8 @@ import concurrent.futures
 import itertools
 import json
 import os
-import resource
 import shutil
+import struct
 import subprocess
 import sys
 import tempfile
@@ -39,14 +39,14 @@ from programs import Cases  # noqa: E402
 
 # A program that has not ended after this many seconds hangs.
 SECONDS = 60.0
+# So many programs run at a time.
+LANES = 4
 # This many runs one after the other must be whole before a program counts as never refused again.
 ROW = 32
 MOST_ALLOCATIONS = 20_000
 # After calls that start threads, N is one call's allocation in one run and another's in the next.
 # So a program that was not refused every call is walked through again, at most so often.
 WALKS = 4
-# A user that owns no process, for the limit on threads where this script is run as root.
-NOBODY_ELSE = 54321
 
 OUT_OF_MEMORY = (3, b"", b"stab: out of memory\n")
 NOT_STARTED = (3, b"", b"stab: run: a worker could not be started\n")
@@ -137,10 +137,8 @@ class Ended:
     def __init__(self, status, out, err, report):
         self.seen = (status, out, err)
         self.status, self.out, self.err = self.seen
-        words = report.split()
-        whole = len(words) == 6 and words[::2] == [b"allocations", b"threads", b"refused"]
-        counts = map(int, words[1::2]) if whole else [None] * 3
-        self.allocations, self.threads, self.refused = counts
+        self.allocations, self.threads, self.refused = (
+            struct.unpack("3L", report) if report else [None] * 3)
 
     def __str__(self):
         out, err = (text.decode(errors="replace")[-300:] for text in (self.out, self.err))
@@ -152,7 +150,6 @@ class Room:
 
     def __init__(self, folder, seconds):
         self.folder, self.seconds = folder, seconds
-        os.chmod(folder, 0o711)
         self.object = f"{folder}/refuse.so"
 
     def build_object(self):
@@ -161,22 +158,20 @@ class Room:
         subprocess.run(clang(*words, is_program=False), check=True)
 
     def copy(self, program):
-        """A copy of a program that any user may run, and that no later build changes."""
+        """A copy of a program, which no later build changes."""
         to = f"{self.folder}/{os.path.basename(program)}"
         shutil.copyfile(program, to)
         os.chmod(to, 0o755)
         return to
 
     def write(self, name, job):
-        return self.write_text(name, json.dumps(job))
-
-    def write_text(self, name, text):
+        """Writes a job, or its text, and answers its file."""
         path = f"{self.folder}/{name}.json"
         with open(path, "w") as it:
-            it.write(text)
+            it.write(job if isinstance(job, str) else json.dumps(job))
         return path
 
-    def run(self, command, input=os.devnull, refuse=None, limit=None):
+    def run(self, command, input=os.devnull, refuse=None):
         """Runs a program to its end: words, the file of its standard input, what is refused."""
         report, to = os.pipe()
         with open(report, "rb") as report:
@@ -185,7 +180,7 @@ class Room:
                     started = subprocess.Popen(
                         command, stdin=given, stdout=subprocess.PIPE, stderr=subprocess.PIPE,
                         env={"LD_PRELOAD": self.object, "REFUSE_REPORT": str(to), **(refuse or {})},
-                        cwd=examples.DATA, pass_fds=[to], preexec_fn=limit)
+                        cwd=examples.DATA, pass_fds=[to])
             finally:
                 os.close(to)
             try:
@@ -299,20 +294,6 @@ class Check(Cases):
                 faults.append(f"thread {number} of {nodes}: {ended}")
         self.tell(f"{name}, each thread refused", faults)
 
-    def limits(self, name, command, input, is_right, what, limits, must_refuse):
-        """Part (c): the system itself refuses threads, by a limit."""
-        if self.only not in name:
-            return
-        faults, refused = [], 0
-        for limit in limits:
-            ended = self.run(command, input, limit=lambda: what(limit))
-            refused += ended.seen == NOT_STARTED
-            if ended.seen not in (NOT_STARTED, OUT_OF_MEMORY) and not is_right(ended):
-                faults.append(f"limit {limit}: {ended}")
-        if must_refuse and refused == 0:
-            faults.append("under no limit a worker could not be started")
-        self.tell(name, faults, f": {refused} of {len(limits)} limits refuse a worker")
-
 
 def first_difference(right, ended):
     """Where the standard output of a run is another than it should be."""
@@ -339,25 +320,10 @@ def is_report_of(job):
     return is_report
 
 
-def limit_memory(megabytes):
-    resource.setrlimit(resource.RLIMIT_AS, (megabytes << 20, megabytes << 20))
-
-
-def limit_threads(count):
-    """Limits the threads of a user. Nothing limits root, so it becomes another user."""
-    resource.setrlimit(resource.RLIMIT_NPROC, (count, count))
-    if os.geteuid() == 0:
-        os.setgroups([])
-        os.setgid(NOBODY_ELSE)
-        os.setuid(NOBODY_ELSE)
-
-
-def check_stab(check, room, program, all_examples):
+def check_stab(check, room, program):
     """Parts (b) and (c)."""
-    program, names = room.copy(program), JOBS
-    if all_examples:
-        names = examples.names()
-    for name in names:
+    program = room.copy(program)
+    for name in JOBS:
         words, input, right = of_example(name)
         is_right = lambda ended: ended.seen == right
         # (the C library allocates for a thread, so that refused memory may be a refused thread)
@@ -367,7 +333,7 @@ def check_stab(check, room, program, all_examples):
     with open(input) as it:
         text = it.read().replace("{", NOTE, 1) + SPACES * " "
     name, is_right = "a long file in another form", lambda ended: ended.seen == right
-    input = room.write_text(name, text)
+    input = room.write(name, text)
     check.each(name, [program, *words], input, is_right, [OUT_OF_MEMORY])
     for name, words in RUNS:
         job = {**chain(3, items=5, turns=50, words=words, held=2), "scripts": SCRIPTS}
@@ -380,20 +346,6 @@ def check_stab(check, room, program, all_examples):
             of = f"{name} of a chain of {nodes}"
             input = room.write(f"{of}, threads", job)
             check.threads(of, [program, *words], input, is_report_of(job), nodes)
-    for name, words in RUNS:
-        job = chain(64, items=5, turns=50, words=words)
-        of, command = f"{name} of a chain of 64, limited", [program, *words]
-        input = room.write(of, job)
-        # (megabytes, up to more than the stacks of 64 threads take)
-        memory = [int(12 * 1.4**i) for i in range(21)]
-        threads = [1, 2, 3, 10, 40, 1000]
-        for which, what, limits, must_refuse in (
-            ("memory", limit_memory, memory, True),
-            # (not every system keeps this limit)
-            ("threads", limit_threads, threads, False),
-        ):
-            check.limits(
-                f"{of} in {which}", command, input, is_report_of(job), what, limits, must_refuse)
 
 
 def check_rignolda(check, room, program):
@@ -424,8 +376,6 @@ def main():
     parser.add_argument("--stab", default=built("stab_cli"))
     parser.add_argument("--rignolda", default=built("rignolda"))
     parser.add_argument("--checks", default=f"{TOP}/crates/gate_checks/out/gate_checks")
-    parser.add_argument("--lanes", type=int, default=4, help="how many programs run at a time")
-    parser.add_argument("--all", action="store_true", help="every example, and not some of them")
     parser.add_argument("--only", default="", help="the cases that have this in their names")
     parser.add_argument("--calls", default=f"{HERE}/calls", help="the calls of gate_checks")
     parser.add_argument("--seconds", type=float, default=SECONDS, help="how long one may run")
@@ -433,11 +383,11 @@ def main():
     with tempfile.TemporaryDirectory(prefix="stab-refused-") as folder:
         room = Room(folder, given.seconds)
         room.build_object()
-        with concurrent.futures.ThreadPoolExecutor(given.lanes) as lanes:
+        with concurrent.futures.ThreadPoolExecutor(LANES) as lanes:
             check = Check(room, lanes, given.only)
             for program, part in (
                 (given.checks, lambda it: check.refused(it, given.calls)),
-                (given.stab, lambda it: check_stab(check, room, it, given.all)),
+                (given.stab, lambda it: check_stab(check, room, it)),
                 (given.rignolda, lambda it: check_rignolda(check, room, it)),
             ):
                 if os.path.isfile(program):

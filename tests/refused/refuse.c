@@ -7,12 +7,8 @@
  *   REFUSE_ALLOCATION=N  the Nth allocation, once
  *   REFUSE_FROM=N        the Nth allocation and every later one
  *   REFUSE_THREAD=N      the start of the Nth thread, once, with EAGAIN
- *   REFUSE_REPORT=FD     where the program ends, one line is written to this file descriptor:
- *                        'allocations N threads N refused N'
- *
- * Before main it has the stack of the first thread grow by a megabyte. The system ends a program by a
- * signal where this stack cannot grow under a limit of its memory, which is nothing that a program
- * could answer; so under such a limit what the program asks for is refused, and not its stack.
+ *   REFUSE_REPORT=FD     where the program ends, three numbers are written to this file descriptor,
+ *                        as the machine has them: of allocations, of threads, and of refusals
  *
  * An allocation is a call of malloc, calloc, realloc, reallocarray, aligned_alloc, posix_memalign
  * or memalign. A realloc counts also where it makes a block smaller; one that frees
@@ -32,6 +28,7 @@ extern void *__libc_realloc(void *, size_t);
 extern void *__libc_memalign(size_t, size_t);
 extern int *__errno_location(void);
 extern char *getenv(const char *);
+extern unsigned long strtoul(const char *, char **, int);
 extern void *dlsym(void *, const char *);
 extern long write(int, const void *, size_t);
 
@@ -45,15 +42,10 @@ static int (*next_pthread_create)(void *, const void *, void *(*)(void *), void 
 static void (*next_exit)(int);
 static void (*next_exit_now)(int);
 
-static int counting;              /* whether main has begun and has not ended */
-static unsigned long allocations; /* how many calls since main */
-static unsigned long threads;
-static unsigned long refused;
-static unsigned long refuse_allocation;
-static unsigned long refuse_from;
-static unsigned long refuse_thread;
-static unsigned long report_to;
-static int reported;
+static int counting; /* whether main has begun and has not ended */
+/* How many calls since main, threads, and refusals. */
+static struct { unsigned long allocations, threads, refused; } counts;
+static unsigned long refuse_allocation, refuse_from, refuse_thread, report_to;
 
 static unsigned long add_one(unsigned long *count) {
     return __atomic_add_fetch(count, 1, __ATOMIC_SEQ_CST);
@@ -62,20 +54,17 @@ static unsigned long add_one(unsigned long *count) {
 /* The number that a variable of the environment has, or 0. */
 static unsigned long number_of(const char *name) {
     const char *text = getenv(name);
-    unsigned long number = 0;
-    while (text && *text >= '0' && *text <= '9')
-        number = number * 10 + (unsigned long)(*text++ - '0');
-    return number;
+    return text ? strtoul(text, 0, 10) : 0;
 }
 
 /* Whether the next allocation is refused. */
 static int is_refused(void) {
     if (!__atomic_load_n(&counting, __ATOMIC_SEQ_CST))
         return 0;
-    unsigned long number = add_one(&allocations);
+    unsigned long number = add_one(&counts.allocations);
     if (number != refuse_allocation && (refuse_from == 0 || number < refuse_from))
         return 0;
-    add_one(&refused);
+    add_one(&counts.refused);
     return 1;
 }
 
@@ -124,60 +113,28 @@ int posix_memalign(void **block, size_t alignment, size_t size) {
 }
 
 int pthread_create(void *thread, const void *attributes, void *(*body)(void *), void *given) {
-    if (__atomic_load_n(&counting, __ATOMIC_SEQ_CST) && add_one(&threads) == refuse_thread) {
-        add_one(&refused);
+    if (__atomic_load_n(&counting, __ATOMIC_SEQ_CST) && add_one(&counts.threads) == refuse_thread) {
+        add_one(&counts.refused);
         return EAGAIN;
     }
-    if (!next_pthread_create)
-        next_pthread_create = dlsym(NEXT_OBJECT, "pthread_create");
     return next_pthread_create(thread, attributes, body, given);
 }
 
-static char *add_text(char *to, const char *text) {
-    while (*text)
-        *to++ = *text++;
-    return to;
-}
-
-static char *add_number(char *to, unsigned long number) {
-    char digits[20];
-    int count = 0;
-    do {
-        digits[count++] = (char)('0' + number % 10);
-        number /= 10;
-    } while (number > 0);
-    while (count > 0)
-        *to++ = digits[--count];
-    return to;
-}
-
-/* Ends the count and reports it, once. */
+/* Ends the count and reports it, once. (Whoever does not read a report misses it.) */
 static void report(void) {
-    char line[128], *end = line;
-    if (!__atomic_exchange_n(&counting, 0, __ATOMIC_SEQ_CST) || report_to == 0)
+    if (__atomic_exchange_n(&counting, 0, __ATOMIC_SEQ_CST) && report_to != 0 &&
+        write((int)report_to, &counts, sizeof counts) < 0)
         return;
-    if (__atomic_exchange_n(&reported, 1, __ATOMIC_SEQ_CST))
-        return;
-    end = add_number(add_text(end, "allocations "), allocations);
-    end = add_number(add_text(end, " threads "), threads);
-    end = add_number(add_text(end, " refused "), refused);
-    *end++ = '\n';
-    if (write((int)report_to, line, (size_t)(end - line)) < 0)
-        return; /* (whoever reads the report misses it) */
 }
 
 __attribute__((noreturn)) void exit(int status) {
     report();
-    if (!next_exit)
-        next_exit = dlsym(NEXT_OBJECT, "exit");
     next_exit(status);
     __builtin_unreachable();
 }
 
 __attribute__((noreturn)) void _exit(int status) {
     report();
-    if (!next_exit_now)
-        next_exit_now = dlsym(NEXT_OBJECT, "_exit");
     next_exit_now(status);
     __builtin_unreachable();
 }
@@ -193,18 +150,10 @@ static int counted_main(int count, char **words, char **environment) {
     return status;
 }
 
-/* Has the stack grow, from its highest page down. */
-static __attribute__((noinline)) void grow_stack(void) {
-    volatile char deep[1 << 20];
-    for (size_t at = sizeof deep; at >= 4096; at -= 4096)
-        deep[at - 1] = 0;
-}
-
 int __libc_start_main(main_function *given_main, int count, char **words, void (*init)(void),
                       void (*fini)(void), void (*end_loader)(void), void *stack_end) {
     int (*next)(main_function *, int, char **, void (*)(void), void (*)(void), void (*)(void),
                 void *) = dlsym(NEXT_OBJECT, "__libc_start_main");
-    grow_stack();
     next_pthread_create = dlsym(NEXT_OBJECT, "pthread_create");
     next_exit = dlsym(NEXT_OBJECT, "exit");
     next_exit_now = dlsym(NEXT_OBJECT, "_exit");

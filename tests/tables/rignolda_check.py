@@ -6,6 +6,7 @@ hand."""
 
 import json
 
+from tables.rignolda_bounds import node_text, root_text
 from tables.rows import Row, WORST_TEXT, replaced
 
 PROGRAM = "rignolda"
@@ -17,27 +18,8 @@ JOB = """\
 "items":[10,11,12,13,14,15,16],"openings":[[],[50],[]],
 "starts":[{"frames":[[2,99]],"send":0,"recv":1},{"frames":[[2,98]],"send":0,"recv":1}]}"""
 
-BOUNDS = """\
-r depth 0: no strays (C 0 + E 0), all published items in order
-r after its restart: beneath it at most 1 stray, and only some of the next 3 items can be missing
-a depth 1: at most 2 strays (C 1 + E 1), then published items in order; of those before its last \
-one only some of the first 3 (M) can be missing
-a misses only some of the first 2, of one more for each stray that it received, and at most of the \
-first 3
-a has all but these after 8 reading rounds of its path: 7 for the published items, and 1 more
-a after a strike at the link into it: at most 1 stray, and only some of the next 3 items can be \
-missing; beneath it no more
-a after its restart: as much; beneath it, beside its new list, at most 2 strays, and only some of \
-the next 6 items can be missing
-b depth 2: at most 3 strays (C 2 + E 1), then published items in order; of those before its last \
-one only some of the first 6 (M) can be missing
-b misses only some of the first 4, of one more for each stray that it received, and at most of the \
-first 5
-b has all but these after 11 reading rounds of its path: 7 for the published items, and 4 more
-b after a strike at the link into it: at most 1 stray, and only some of the next 3 items can be \
-missing
-b after its restart: as much
-"""
+BOUNDS = (root_text("r", (1, 3)) + node_text("a", 1, 1, 1, 3, 3, (7, 1), (1, 3), (2, 6))
+          + node_text("b", 2, 2, 1, 6, 5, (7, 4), (1, 3)))
 
 # A report of it: the strays, and of the published items those that cannot be missing.
 REPORT = """\
