@@ -118,26 +118,34 @@ class Unread:
 
 @test
 def a_standard_error_that_nobody_reads_stops_nobody():
-    """2,000 connections, of each of which two lines are said."""
+    """2,000 connections, of each of which two lines are said. Each line has a priority."""
     name = "evil" + 56 * "x"
     with Tree({"left": "root"}) as tree:
         root, left = tree
         root.top["children"] = ["left", name]
-        unread = Unread(root)
-        left.start()
-        sure(until(lambda: answers(root) and left.up()), "the tree is not ready")
+        (root.truth / "no key").touch()
+        unread = Unread(root, journal=True)
+        for is_away in True, False:
+            left.start()
+            sure(until(lambda: answers(root) and left.up()), "the tree is not ready")
+            if is_away:
+                left.kill()
+                sure(until(lambda: not root.status()["children"][0]["connected"]), "it is there")
         for life in range(2_000):
             with root.connect() as sock:
                 sock.sendall(hello(name, "root", life))
                 sure(len(sock.recv(4)) == 4, "no answer to connection", life)
         sure(answers(root), "it does not answer")
+        (root.truth / "no key").unlink()
         tree.write("after", "that")
         tree.settles(left)
         # what did not fit is counted, once somebody reads it, and each line is a whole one
         unread.begin()
-        sure(until(lambda: b"lines are left out" in unread.text), unread.text[-300:])
-        whole = ("(start|applied|connected|closed|journal|settings|refused|end|published|report"
-                 "|parent) .*")
+        for words in (b"<5>start root life", b"<5>connected left", b"<4>closed left",
+                      b"<3>settings `no key` is no key", b"lines are left out"):
+            sure(until(lambda: words in unread.text), words, unread.text[-300:])
+        whole = ("<[3-6]>(start|applied|connected|closed|journal|settings|refused|end|published"
+                 "|report|parent) .*")
         odd = [line for line in unread.text.decode().splitlines()[:-1]
                if not re.fullmatch(whole, line)]
         sure(not odd, odd[:3])
@@ -145,19 +153,7 @@ def a_standard_error_that_nobody_reads_stops_nobody():
 
 
 @test
-def an_end_waits_for_no_reader_and_lines_have_priorities():
-    with Tree({"left": "root"}) as tree:
-        root, left = tree
-        (root.truth / "no key").touch()
-        unread = Unread(root, journal=True)
-        left.start()
-        sure(until(lambda: answers(root) and left.up()), "the tree is not ready")
-        left.kill()
-        sure(until(lambda: not root.status()["children"][0]["connected"]), "it is there")
-        unread.begin()
-        for words in (b"<5>start root life", b"<5>connected left", b"<4>closed left",
-                      b"<3>settings `no key` is no key"):
-            sure(until(lambda: words in unread.text), words, unread.text)
+def an_end_waits_for_no_reader():
     with Tree({}) as tree:
         root = tree.root
         Unread(root)

@@ -14,6 +14,7 @@ import re
 import shlex
 import shutil
 import signal
+import socket
 import struct
 import subprocess
 import sys
@@ -253,47 +254,6 @@ def what_a_false_parent_sends_is_bounded_and_checked():
 # ---- The root's folder
 
 @test
-def a_root_without_its_settings_unsets_nothing():
-    with running({"left": "root"}) as tree:
-        root, left = tree.root, tree["left"]
-        before, away = left.files(), tree.home / "away"
-
-        def is_kept():
-            sure(until(lambda: left.status()["parent"]), "it is not connected")
-            time.sleep(1)
-            sure(left.files() == before, left.files())
-
-        def is_back():
-            away.rename(root.truth)
-            tree.is_ready()
-            tree.settles()
-
-        root.kill()
-        root.truth.rename(away)
-        root.start()
-        is_kept()
-        sure("error" in root.ask("publish", "a", "1", check=False))
-        is_back()
-        # a folder on which nothing is mounted, at the start and while it runs
-        for times, act in enumerate((root.restart, lambda: root.ask("round")), 1):
-            root.truth.rename(away)
-            root.truth.mkdir()
-            act()
-            sure(until(lambda: root.said("is a mount missing") >= times), "it is taken")
-            is_kept()
-            root.truth.rmdir()
-            is_back()
-        # (what is meant, is confirmed)
-        for path in root.truth.iterdir():
-            if path.name != ".empty":
-                path.unlink()
-        sure(until(lambda: root.status()["held"]), root.status())
-        root.ask("confirm")
-        tree.settles()
-        sure(left.files() == {}, left.files())
-
-
-@test
 def what_is_wrong_in_the_roots_memory_gets_nowhere():
     values = {f"k{at}": f"right {at:026}" for at in range(10)}
     over = {value.encode(): value.replace("right", "wrong").encode()
@@ -352,7 +312,7 @@ def what_is_answered_is_in_the_folder():
 def the_control_socket_is_bounded():
     """Its mode is what the page says, and that of a socket of `listen`, whatever the mask is."""
     draw = random.Random(11)
-    with Tree({"left": "root"}, patient) as tree:
+    with Tree({"left": "root"}, patient, counted) as tree:
         root, listens = tree.root, tree.root.home / "listens"
         root.top["listen"] = f"unix:{listens}"
         tree["left"].top["parents"] = [f"root@unix:{listens}"]
@@ -375,9 +335,14 @@ def the_control_socket_is_bounded():
                 for _ in range(100):
                     sock.sendall(b"x" * 100_000)
             sure(closed(sock), "a request without an end was kept")
-        for sock in [root.client() for _ in range(40)]:
-            sock.close()
+        # clients that say half of a request keep no other one out
+        half = [root.client() for _ in range(40)] + [socket.create_connection(
+            ("127.0.0.1", root.metrics)) for _ in range(40)]
+        for sock in half:
+            with contextlib.suppress(OSError):
+                sock.sendall(b"GET /met" if sock.family == socket.AF_INET else b'{"do":')
         root.becomes(name="root")
+        sure("rignolda_settings 8" in root.counts(), root.counts())
         sure(memory(root, "VmRSS") < before + 7.8, before, memory(root, "VmRSS"))
         # clients that ask, and never read
         with bounded(root, 64):
@@ -423,6 +388,7 @@ def commands_say_what_they_did():
         number = root.ask("publish", "a", "b")["sequence"]
         late = lambda: root.run("wait", "--everywhere", "--timeout", "300ms", number)
         sure(until(lambda: "leaf is not connected" in late().stderr), late())
+        root.becomes(away=1)
         sure(late().returncode == 1, late())
         sure(root.run("wait", number).returncode == 0)
         leaf.start()

@@ -1,6 +1,4 @@
-"""What hooks are told, and when: one key at a time, and all of theirs that changed together."""
-import time
-
+"""Hooks that have one run for all of their keys that changed together."""
 from daemons import Tree, becomes, patient, root_has, until
 from runner import sure, test
 
@@ -88,48 +86,3 @@ def keys_that_changed_together_have_one_run():
         for key in ("app.b", "other"):
             tree.publish(key, "5")
         sure(runs(leaf, "new") == [["app.b=5"]] and len(runs(leaf, "all")) == told)
-
-
-@test(begins=True)
-def hooks_run_beside_the_link():
-    def hooks(tree):
-        for agent in tree:
-            # (that of one agent lasts until it may end, for each key)
-            go = f"{agent.home}/go_$2"
-            waits = f"while [ -d {agent.home} ] && [ ! -e {go} ]; do sleep 0.02; done"
-            slow = waits if agent.name == "left" else ""
-            fails = f"[ ! -e {agent.home}/fail ]"
-            agent.hook(f'{slow}\nv=$(cat)\necho "$1 $2 $v" >>{agent.home}/calls\n{fails}',
-                       hook_timeout="10m")
-
-    with Tree({"left": "root", "leaf": "left"}, hooks) as tree:
-        root, left, leaf = tree
-        left_calls, leaf_calls = (agent.home / "calls" for agent in (left, leaf))
-        tree.write("a", "1")
-        tree.start()
-        tree.is_ready()
-        tree.settles()
-        number = root.ask("publish", "b", "2")["sequence"]
-        # (a slow hook holds neither the files back nor its child)
-        tree.settles()
-        sure(until(lambda: leaf_calls.exists() and "set b 2" in leaf_calls.read_text()))
-        sure(not left_calls.exists(), "its hook did not wait")
-        sure(left.lacks(number), "applied before its hook ran")
-        (left.home / "go_a").touch()
-        sure(until(left_calls.exists), "its hook did not end")
-        time.sleep(0.1)
-        sure(left.lacks(number), "applied before its hook ended")
-        for key in "b", "c":
-            (left.home / f"go_{key}").touch()
-        left.ask("wait", "--timeout", "60s", number)
-        sure("set b 2" in left_calls.read_text(), "applied before its hook ended")
-        (leaf.home / "fail").touch()
-        number = root.ask("publish", "c", "3")["sequence"]
-        leaf.becomes(failing=1)
-        error = lambda: root.lacks("--everywhere", number)
-        sure(until(lambda: "leaf has a file or a hook that failed" in error()), error())
-        (leaf.home / "fail").unlink()
-        # (a round runs it again)
-        leaf.becomes(failing=0)
-        calls = leaf_calls.read_text().splitlines()
-        sure(calls[:2] == ["set a 1", "set b 2"] and set(calls[2:]) == {"set c 3"}, calls)

@@ -10,15 +10,14 @@ import os
 import pathlib
 import random
 import re
-import select
 import socket
 import string
 import struct
 import time
 
 import store
-from daemons import (PATIENCE, Tree, becomes, bounded, by_tls, certify, counted, descriptors,
-                     during, meanwhile, memory, patient, running, took, until)
+from daemons import (PATIENCE, Tree, becomes, bounded, by_tls, certify, descriptors, during,
+                     meanwhile, memory, patient, running, took, until)
 from protocol import (Child, Parent, body, closed, entry, exactly, frame, hello, listener, look,
                       report, take_hello, the_root_comes, way)
 from runner import sure, test
@@ -295,45 +294,6 @@ def a_parent_whose_way_lies_or_never_rests_is_bounded():
             sure(until(lambda: leaf.files() == {"a": b"1"}), leaf.files())
         server.close()
         the_root_comes(tree)
-
-
-# ---- Local clients
-
-@test
-def silent_clients_shut_nobody_out():
-    """Many clients of the control socket and of the metrics, anew as soon as one is closed."""
-    with running({"left": "root"}, patient, counted) as tree:
-        root = tree.root
-        unix, tcp = str(root.socket), ("127.0.0.1", root.metrics)
-        places = {unix: (socket.AF_UNIX, b'{"do":', b'{"do":"status"}\n'),
-                  tcp: (socket.AF_INET, b"GET /met", b"GET /metrics HTTP/1.0\r\n\r\n")}
-        held, answered = {unix: [], tcp: []}, dict.fromkeys(places, 0)
-
-        def connected(place, which):
-            sock = socket.socket(places[place][0])
-            sock.settimeout(1)
-            with contextlib.suppress(OSError):
-                sock.connect(place)
-                sock.sendall(places[place][which])
-            return sock
-
-        def hold(place):
-            while len(held[place]) < 40:
-                held[place].append(connected(place, 1))
-            for sock in select.select(held[place], [], [], 0.01)[0]:
-                held[place].remove(sock)
-                sock.close()
-
-        with bounded(root, 32), meanwhile(lambda: hold(unix), lambda: hold(tcp)):
-            time.sleep(0.5)
-            for _ in range(40):
-                for place in places:
-                    with contextlib.suppress(OSError), connected(place, 2) as sock:
-                        answered[place] += len(sock.recv(1 << 16)) > 20
-                time.sleep(0.02)
-            tree.reaches("left")
-            sure(descriptors(root) < 100, "descriptors are kept")
-        sure(min(answered.values()) >= 20, "of 40 requests were answered:", answered)
 
 
 # ---- Files

@@ -1,7 +1,5 @@
-"""Nothing older is applied after something newer: restarts, parents that were away, wrong numbers.
-"""
+"""Nothing older is applied after something newer: restarts, and wrong numbers."""
 import contextlib
-import signal
 import struct
 import time
 
@@ -19,9 +17,9 @@ def notes(tree):
 
 
 @contextlib.contextmanager
-def begun(shape, harmless):
+def begun(shape):
     """Such agents have colour 1. Rounds come where they are asked for."""
-    with Tree(shape, notes, root_has(harmless=harmless, round="10m")) as tree:
+    with Tree(shape, notes, root_has(harmless=7, round="10m")) as tree:
         tree.write("colour", 1)
         # (a small table would come again after a few items)
         tree.write("bulk", b"x" * 500_000)
@@ -54,27 +52,6 @@ def colour(agent, value):
          agent.name, "has not", value, "but", agent.files().get("colour"))
 
 
-@test
-def an_agent_that_restarts_applies_nothing_older():
-    """Colour 2 comes in a round, which goes on."""
-    with begun({"other": "root", "leaf": "root"}, 3_000) as tree:
-        root, other, leaf = tree
-        # (for the root publishes no faster than the quickest child that there is takes it)
-        other.signal(signal.SIGSTOP)
-        first = number(root)
-        root.ask("round")
-        sure(until(lambda: number(root) > first + 500, pause=0.001))
-        root.ask("publish", "colour", 2)
-        colour(leaf, 2)
-        for _ in range(3):
-            last = number(leaf)
-            leaf.restart()
-            sure(until(leaf.up) and until(lambda: number(leaf) >= last))
-            colour(leaf, 2)
-        other.signal(signal.SIGCONT)
-        rests(tree)
-
-
 def two_rounds(tree):
     """They come, and all agents have the root's settings and numbers."""
     tree.rounds(2)
@@ -84,7 +61,7 @@ def two_rounds(tree):
 
 @test
 def a_wrong_number_in_a_marker_or_in_memory_is_healed_by_two_rounds():
-    with begun({"middle": "root", "leaf": "middle"}, 7) as tree:
+    with begun({"middle": "root", "leaf": "middle"}) as tree:
         root, middle, leaf = tree
         marker = leaf.settings / ".rignolda"
         for wrong in 2**63 - 1, 2**64 - 1, 10**6 * int(time.time()) + 10**6:
@@ -109,7 +86,7 @@ def a_wrong_number_in_a_marker_or_in_memory_is_healed_by_two_rounds():
 @test(needs="cc")
 def the_disk_has_the_number_before_the_files():
     """Whoever is ended in between has the older ones, and waits for the newer ones."""
-    with begun({"leaf": "root"}, 7) as tree:
+    with begun({"leaf": "root"}) as tree:
         root, leaf = tree
         leaf.kill()
         slow = preload(leaf, SLOW_RENAME)

@@ -1,13 +1,8 @@
-"""The choice of parents in trees of processes: restarts in every order, who is cut off, and parents
-that connect to their children.
-"""
+"""The choice of parents in trees of processes: who loses the root, stands still, or is alone."""
 import signal
-import ssl
 import time
 
-from daemons import Tree, becomes, by_tls, root_has, running, tls, until
-from protocol import hello
-from relay import turn
+from daemons import becomes, running, until
 from runner import sure, test
 
 
@@ -42,6 +37,8 @@ def who_has_another_parent_leaves_one_that_lost_the_root():
         tree.write("two", "2")
         tree.settles(rack0, leaf)
         leaf.becomes(parent="rack0", way=["root", "rack0", "leaf"])
+        # (of the two that have it for a child, it is where it is connected)
+        becomes(lambda: {it["name"]: it["parent"] for it in root.ask("tree")}["leaf"], "rack0")
         rack1.becomes(cost=128, way=["rack1"])
         # (who has moved says so, and holds nothing back at its old parent)
         sure(rack1.said("closed leaf: it takes another parent"), rack1.text())
@@ -116,57 +113,3 @@ def agents_without_a_root_rest_and_come_back_to_it():
         head.reload()
         tree.write("mended", "1")
         tree.settles()
-
-
-# ---- Parents that connect to their children
-
-def refused(agent, by, sender):
-    """Asserts that an agent closes a connection whose certificate and hello have these names."""
-    try:
-        with agent.connect() as plain, tls(agent.tree.home, by).wrap_socket(plain) as sock:
-            sock.sendall(hello(sender, agent.name, life=7))
-            sure(sock.recv(4096) == b"", by, "may connect as", sender)
-    except (ConnectionError, ssl.SSLError):
-        pass
-
-
-@test(begins=True)
-def parents_may_connect_to_their_children():
-    """Both directions in one tree, by TLS: kills, wrong names, a reload, an order."""
-    shape = {"left": "root", "right": "root", "leaf": "left", "other": "right"}
-    # (there is no round that would mend what was lost)
-    with Tree(shape, by_tls, root_has(round="1h")) as tree:
-        root, left, right, leaf, _ = tree
-        turn(left)
-        turn(leaf)
-        tree.begin()
-        # either end, and both, may be killed
-        for agents in ([left], [root], [leaf, left], [left, root]):
-            for agent in agents:
-                agent.kill()
-            tree.write("while", str([agent.name for agent in agents]))
-            tree.start(agents)
-            tree.settles()
-        # only the parent may connect, and no child comes that is connected to
-        tree.is_ready()
-        refused(leaf, "other", "left")
-        refused(leaf, "other", "other")
-        refused(left, "leaf", "leaf")
-        # a reload turns a link while the agents run
-        turn(right)
-        right.reload()
-        root.reload()
-        right.says("the parents changed")
-        sure(until(right.up), right.text())
-        tree.write("turned", "1")
-        tree.settles()
-        refused(root, "right", "right")
-        # the next parent is tried where the first one does not connect
-        leaf.top["parents"] = ["left", right.at()]
-        right.top["children"] = ["other", "leaf"]
-        right.reload()
-        leaf.reload()
-        left.kill()
-        has_parent(leaf, "right")
-        tree.write("next", "parent")
-        tree.settles(leaf, right)

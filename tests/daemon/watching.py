@@ -11,36 +11,6 @@ from protocol import Child
 from runner import sure, test
 
 
-def known(tree):
-    """What the root knows of each agent besides itself: its parent, and whether it is connected."""
-    return sorted((it["name"], it["parent"], it["connected"]) for it in tree.root.ask("tree")[1:])
-
-
-@test
-def an_agent_with_two_parents_is_where_it_is_connected():
-    with Tree({"left": "root", "right": "root", "leaf": "right", "far": "leaf"}) as tree:
-        root, left, right, leaf, far = tree
-        leaf.below(left)
-        tree.begin(without=["leaf", "far"])
-        tree.start([leaf, far])
-        tree.is_ready()
-        tree.settles()
-        here = lambda: known(tree)
-        becomes(here, [("far", "leaf", True), ("leaf", "right", True), ("left", "root", True),
-                       ("right", "root", True)])
-        tree.publish("two", "2")
-        root.becomes(away=0)
-        # it moves when its parent goes, with those below it; and one that is nowhere is away once
-        right.kill()
-        becomes(here, [("far", "leaf", True), ("leaf", "left", True), ("left", "root", True),
-                       ("right", "root", False)])
-        right.start()
-        far.kill()
-        leaf.kill()
-        becomes(lambda: [it[0] for it in here() if not it[2]], ["far", "leaf"])
-        sure(root.status()["away"] == 2 and len(here()) == 4, here())
-
-
 def calls(agent):
     """What its hook notes."""
     path = agent.home / "calls"
@@ -50,33 +20,33 @@ def calls(agent):
 @test
 def nothing_is_everywhere_before_it_is_applied():
     """A new agent, and one that was away: each has older changes to apply when it already has a
-    number that is as high."""
-    with Tree({"left": "root", "leaf": "left"}) as tree:
-        root, left, leaf = tree
-        go = leaf.home / "go"
-        leaf.hook(f"while [ -d {leaf.home} ] && [ ! -e {go} ]; do sleep 0.02; done\n"
-                  f'echo "$2" >>{leaf.home}/calls', hook_timeout="10m")
+    number that is as high. Its hooks hold neither its files nor its child back."""
+    with Tree({"left": "root", "inner": "left", "leaf": "inner"}) as tree:
+        root, left, inner, leaf = tree
+        go = inner.home / "go"
+        inner.hook(f"while [ -d {inner.home} ] && [ ! -e {go} ]; do sleep 0.02; done\n"
+                   f'echo "$2" >>{inner.home}/calls', hook_timeout="10m")
         for at in range(4):
             tree.write(f"k{at}", at)
-        tree.start([root, left])
+        tree.start([root, left, leaf])
         tree.is_ready(root, left)
         for turn, what in enumerate(("is new", "was away, and its folder is gone")):
             number = root.ask("publish", "k3", f"new {turn}")["sequence"]
             # (the table that it begins with is later than that change)
             sure(until(lambda: left.status()["round"] > number))
-            leaf.start()
+            inner.start()
             tree.settles()
-            leaf.becomes(whole=True)
-            sure("leaf" in root.lacks("--everywhere", number), f"an agent that {what}: done, and "
-                 "its hooks ran for", calls(leaf))
-            sure(calls(leaf) == [], calls(leaf))
+            inner.becomes(whole=True)
+            sure("inner" in root.lacks("--everywhere", number) and inner.lacks(number),
+                 f"an agent that {what}: done, and its hooks ran for", calls(inner))
+            sure(calls(inner) == [], calls(inner))
             go.touch()
             tree.wait(number)
-            sure(set(calls(leaf)) == {"k0", "k1", "k2", "k3"}, calls(leaf))
-            leaf.kill()
-            shutil.rmtree(leaf.settings)
+            sure(set(calls(inner)) == {"k0", "k1", "k2", "k3"}, calls(inner))
+            inner.kill()
+            shutil.rmtree(inner.settings)
             go.unlink()
-            (leaf.home / "calls").unlink()
+            (inner.home / "calls").unlink()
 
 
 def compared(tree):
