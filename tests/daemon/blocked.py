@@ -9,7 +9,7 @@ import subprocess
 import threading
 import time
 
-from daemons import PATIENCE, USUAL, Tree, becomes, during, took, until
+from daemons import PATIENCE, USUAL, Tree, becomes, during, of_tree, took, until
 from protocol import Parent, body, hello
 from runner import sure, test
 
@@ -116,137 +116,125 @@ class Unread:
             self.text += piece
 
 
-@test
-def a_standard_error_that_nobody_reads_stops_nobody():
+@of_tree({"left": "root"}, runs=False)
+def a_standard_error_that_nobody_reads_stops_nobody(tree, root, left):
     """2,000 connections, of each of which two lines are said. Each line has a priority."""
     name = "evil" + 56 * "x"
-    with Tree({"left": "root"}) as tree:
-        root, left = tree
-        root.top["children"] = ["left", name]
-        (root.truth / "no key").touch()
-        unread = Unread(root, journal=True)
-        for is_away in True, False:
-            left.start()
-            sure(until(lambda: answers(root) and left.up()), "the tree is not ready")
-            if is_away:
-                left.kill()
-                sure(until(lambda: not root.status()["children"][0]["connected"]), "it is there")
-        for life in range(2_000):
-            with root.connect() as sock:
-                sock.sendall(hello(name, "root", life))
-                sure(len(sock.recv(4)) == 4, "no answer to connection", life)
-        sure(answers(root), "it does not answer")
-        (root.truth / "no key").unlink()
-        tree.write("after", "that")
-        tree.settles(left)
-        # what did not fit is counted, once somebody reads it, and each line is a whole one
-        unread.begin()
-        for words in (b"<5>start root life", b"<5>connected left", b"<4>closed left",
-                      b"<3>settings `no key` is no key", b"lines are left out"):
-            sure(until(lambda: words in unread.text), words, unread.text[-300:])
-        whole = ("<[3-6]>(start|applied|connected|closed|journal|settings|refused|end|published"
-                 "|report|parent) .*")
-        odd = [line for line in unread.text.decode().splitlines()[:-1]
-               if not re.fullmatch(whole, line)]
-        sure(not odd, odd[:3])
-        ends(root)
+    root.top["children"] = ["left", name]
+    (root.truth / "no key").touch()
+    unread = Unread(root, journal=True)
+    for is_away in True, False:
+        left.start()
+        sure(until(lambda: answers(root) and left.up()), "the tree is not ready")
+        if is_away:
+            left.kill()
+            sure(until(lambda: not root.status()["children"][0]["connected"]), "it is there")
+    for life in range(2_000):
+        with root.connect() as sock:
+            sock.sendall(hello(name, "root", life))
+            sure(len(sock.recv(4)) == 4, "no answer to connection", life)
+    sure(answers(root), "it does not answer")
+    (root.truth / "no key").unlink()
+    tree.write("after", "that")
+    tree.settles(left)
+    # what did not fit is counted, once somebody reads it, and each line is a whole one
+    unread.begin()
+    for words in (b"<5>start root life", b"<5>connected left", b"<4>closed left",
+                  b"<3>settings `no key` is no key", b"lines are left out"):
+        sure(until(lambda: words in unread.text), words, unread.text[-300:])
+    whole = ("<[3-6]>(start|applied|connected|closed|journal|settings|refused|end|published"
+             "|report|parent) .*")
+    odd = [line for line in unread.text.decode().splitlines()[:-1] if not re.fullmatch(whole, line)]
+    sure(not odd, odd[:3])
+    ends(root)
 
 
-@test
-def an_end_waits_for_no_reader():
-    with Tree({}) as tree:
-        root = tree.root
-        Unread(root)
-        sure(until(lambda: answers(root)), "it does not answer")
-        # (more than a pipe takes: each reload that is refused is a line)
-        root.file.write_text(f'name = "root"\nx{"y" * 600} = 1\n')
-        for at in range(400):
-            root.signal(signal.SIGHUP)
-            if at % 10 == 0:
-                sure(answers(root), "it does not answer after", at)
-        ends(root)
+@of_tree({}, runs=False)
+def an_end_waits_for_no_reader(tree, root):
+    Unread(root)
+    sure(until(lambda: answers(root)), "it does not answer")
+    # (more than a pipe takes: each reload that is refused is a line)
+    root.file.write_text(f'name = "root"\nx{"y" * 600} = 1\n')
+    for at in range(400):
+        root.signal(signal.SIGHUP)
+        if at % 10 == 0:
+            sure(answers(root), "it does not answer after", at)
+    ends(root)
 
 
-@test(needs="cc")
-def what_others_write_while_a_setting_is_published_is_carried():
-    with Tree({"left": "root"}) as tree:
-        root, slow = tree.root, preload(tree.root, SLOW_RENAME)
-        root.tables["root"]["round"] = "1h"
-        tree.begin()
-        began = slow.with_name("slow.began")
-        for value in "1", "2":
-            slow.touch()
-            with subprocess.Popen(root.command("publish", "key0", value),
-                                  stdout=subprocess.DEVNULL) as publish:
-                sure(until(began.exists), "it is not written")
-                (root.truth / "key0").write_text(f"later than {value}")
-                slow.unlink()
-                sure(publish.wait() == 0, "it is not published")
-            began.unlink()
-            tree.settles()
-
-
-@test(begins=True, needs="cc")
-def a_disk_that_hangs_stops_nobody():
-    """While a file waits for the disk, the agent answers and its rounds go on; then it is there."""
-    with Tree({"left": "root"}) as tree:
-        root, left = tree
-        hangs = preload(root, SLOW_DISK)
-        root.tables["root"]["round"] = "500ms"
-        tree.begin()
-        hangs.touch()
-        with subprocess.Popen(root.command("publish", "slow", "1"), stdout=subprocess.DEVNULL):
-            time.sleep(0.5)
-            rounds = root.status()["round"]
-            for _ in during(9):
-                sure(took(root.status) < PATIENCE, "it answers late")
-                time.sleep(0.1)
-            sure("slow" not in left.files(), "it is published before the disk has it")
-            # (a round waits for the disk, but not for ever)
-            sure(root.status()["round"] > rounds, "there is no round")
-            sure(root.said("the disk does not answer") == 1, root.text()[-500:])
-            hangs.unlink()
-        becomes(lambda: left.files().get("slow"), b"1")
+@of_tree({"left": "root"}, runs=False, needs="cc")
+def what_others_write_while_a_setting_is_published_is_carried(tree):
+    root, slow = tree.root, preload(tree.root, SLOW_RENAME)
+    root.tables["root"]["round"] = "1h"
+    tree.begin()
+    began = slow.with_name("slow.began")
+    for value in "1", "2":
+        slow.touch()
+        with subprocess.Popen(root.command("publish", "key0", value),
+                              stdout=subprocess.DEVNULL) as publish:
+            sure(until(began.exists), "it is not written")
+            (root.truth / "key0").write_text(f"later than {value}")
+            slow.unlink()
+            sure(publish.wait() == 0, "it is not published")
+        began.unlink()
         tree.settles()
-        root.becomes(unpublished=0)
 
 
-@test
-def a_file_where_a_socket_is_to_be_is_kept():
-    with Tree({}) as tree:
-        root = tree.root
-        for kind, make in (("file", lambda path: path.write_text("mine")),
-                           ("link", lambda path: path.symlink_to("elsewhere")),
-                           ("pipe", os.mkfifo)):
-            root.socket = tree.home / kind
-            make(root.socket)
-            root.start()
-            sure(until(lambda: not root.alive()), kind, "it runs")
-            sure(root.process.returncode == 1, kind, root.process.returncode)
-            sure(root.said(str(root.socket)) == 1, kind, root.text())
-            sure(os.path.lexists(root.socket), kind, "is gone")
-        sure((tree.home / "file").read_text() == "mine")
+@of_tree({"left": "root"}, runs=False, begins=True, needs="cc")
+def a_disk_that_hangs_stops_nobody(tree, root, left):
+    """While a file waits for the disk, the agent answers and its rounds go on; then it is there."""
+    hangs = preload(root, SLOW_DISK)
+    root.tables["root"]["round"] = "500ms"
+    tree.begin()
+    hangs.touch()
+    with subprocess.Popen(root.command("publish", "slow", "1"), stdout=subprocess.DEVNULL):
+        time.sleep(0.5)
+        rounds = root.status()["round"]
+        for _ in during(9):
+            sure(took(root.status) < PATIENCE, "it answers late")
+            time.sleep(0.1)
+        sure("slow" not in left.files(), "it is published before the disk has it")
+        # (a round waits for the disk, but not for ever)
+        sure(root.status()["round"] > rounds, "there is no round")
+        sure(root.said("the disk does not answer") == 1, root.text()[-500:])
+        hangs.unlink()
+    becomes(lambda: left.files().get("slow"), b"1")
+    tree.settles()
+    root.becomes(unpublished=0)
 
 
-@test(needs="cc")
-def a_hooks_mark_that_cannot_go_yet_stops_nobody():
+@of_tree({}, runs=False)
+def a_file_where_a_socket_is_to_be_is_kept(tree, root):
+    for kind, make in (("file", lambda path: path.write_text("mine")),
+                       ("link", lambda path: path.symlink_to("elsewhere")),
+                       ("pipe", os.mkfifo)):
+        root.socket = tree.home / kind
+        make(root.socket)
+        root.start()
+        sure(until(lambda: not root.alive()), kind, "it runs")
+        sure(root.process.returncode == 1, kind, root.process.returncode)
+        sure(root.said(str(root.socket)) == 1, kind, root.text())
+        sure(os.path.lexists(root.socket), kind, "is gone")
+    sure((tree.home / "file").read_text() == "mine")
+
+
+@of_tree({"left": "root"}, runs=False, needs="cc")
+def a_hooks_mark_that_cannot_go_yet_stops_nobody(tree, root, left):
     """The disk of the applied settings hangs where a hook has ended: the agent answers. And no
     descriptor of the agent is the hook's."""
-    with Tree({"left": "root"}) as tree:
-        left = tree["left"]
-        slow = preload(left, SLOW_UNLINK)
-        left.hook(f"ls -l /proc/self/fd >{left.home}/said")
-        tree.begin()
-        slow.touch()
-        tree.write("late", "1")
-        sure(until((tree.home / "slow.began").exists), "no mark is removed")
-        is_answered = answers(left)
-        slow.unlink()
-        sure(is_answered, "it waits for the disk")
-        tree.settles()
-        tree.wait()
-        said = (left.home / "said").read_text()
-        sure(said.count(" -> ") == 4 and "socket:" not in said, said)
+    slow = preload(left, SLOW_UNLINK)
+    left.hook(f"ls -l /proc/self/fd >{left.home}/said")
+    tree.begin()
+    slow.touch()
+    tree.write("late", "1")
+    sure(until((tree.home / "slow.began").exists), "no mark is removed")
+    is_answered = answers(left)
+    slow.unlink()
+    sure(is_answered, "it waits for the disk")
+    tree.settles()
+    tree.wait()
+    said = (left.home / "said").read_text()
+    sure(said.count(" -> ") == 4 and "socket:" not in said, said)
 
 
 @test
@@ -265,19 +253,17 @@ def an_agent_that_ends_while_it_is_waited_for_does_not_answer():
         sure(wait.returncode == 3 and b"time is up" not in said, wait.returncode, said)
 
 
-@test
-def what_a_peer_does_at_any_rate_is_said_once_in_a_second():
-    with Tree({"left": "root"}) as tree:
-        left = tree["left"]
-        left.env = {}
-        parent = Parent(left)
-        begun = time.monotonic()
-        for number in range(1, 301):
-            # (a body without a meaning, and then one that is older than the one before)
-            parent.send(body(b"?", number))
-            parent.send(body(b"H", 1_000 - number))
-        seconds = time.monotonic() - begun
-        left.becomes(garbage=300, strays=299)
-        lines = left.said("garbage ") + left.said("stray ")
-        sure(1 <= lines <= seconds + 2, lines, "lines in", seconds, "s")
-        parent.close()
+@of_tree({"left": "root"}, runs=False)
+def what_a_peer_does_at_any_rate_is_said_once_in_a_second(tree, root, left):
+    left.env = {}
+    parent = Parent(left)
+    begun = time.monotonic()
+    for number in range(1, 301):
+        # (a body without a meaning, and then one that is older than the one before)
+        parent.send(body(b"?", number))
+        parent.send(body(b"H", 1_000 - number))
+    seconds = time.monotonic() - begun
+    left.becomes(garbage=300, strays=299)
+    lines = left.said("garbage ") + left.said("stray ")
+    sure(1 <= lines <= seconds + 2, lines, "lines in", seconds, "s")
+    parent.close()

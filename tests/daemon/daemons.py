@@ -23,7 +23,7 @@ import tempfile
 import threading
 import time
 
-from runner import sure
+from runner import sure, test
 
 HOME = pathlib.Path(__file__).resolve().parents[2]
 PACKAGING = HOME / "rust/rignoldad/packaging"
@@ -458,6 +458,20 @@ def running(shape=None, *before, without=()):
     with Tree(shape, *before) as tree:
         tree.begin(without)
         yield tree
+
+
+def of_tree(shape=None, *before, without=(), runs=True, **how):
+    """Makes a function a test of a tree, which runs but for some agents, or is only made. It takes
+    the tree, and as many of its agents as it names."""
+    def made(function):
+        @functools.wraps(function)
+        def tried():
+            with Tree(shape, *before) as tree:
+                if runs:
+                    tree.begin(without)
+                function(tree, *itertools.islice(tree, function.__code__.co_argcount - 1))
+        return test(tried, **how)
+    return made
 
 
 def root_has(**keys):

@@ -13,10 +13,9 @@ import struct
 import subprocess
 import time
 
-from daemons import (PATIENCE, USUAL, Tree, bounded, by_tls, certify, during, patient, running, tls,
-                     until)
+from daemons import PATIENCE, USUAL, bounded, by_tls, certify, during, of_tree, patient, tls, until
 from protocol import hello
-from runner import sure, test
+from runner import sure
 
 # More than anything but a handshake with a large group, or hundreds of certificates, costs the
 # agent in seconds of its processor, on a slow machine too.
@@ -164,19 +163,18 @@ def used(agent):
     return (int(fields[11]) + int(fields[12])) / os.sysconf("SC_CLK_TCK")
 
 
-@test(begins=True)
-def floods_hold_nobody_up():
+@of_tree({"left": "root", "right": "root"}, secure, begins=True)
+def floods_hold_nobody_up(tree):
     """Changes reach an honest child, and another one gets in that begins anew."""
-    with running({"left": "root", "right": "root"}, secure) as tree:
-        for kind in ("keys", "keys of a child", "records of a byte", "sessions", "slow"):
-            with flooding(kind, tree), flooding(kind, tree):
-                time.sleep(0.5)
-                for _ in range(5):
-                    tree.reaches("left", "right")
-                tree["right"].restart()
-                sure(until(tree["right"].up, pause=0.1), kind, "who begins anew does not get in")
+    for kind in ("keys", "keys of a child", "records of a byte", "sessions", "slow"):
+        with flooding(kind, tree), flooding(kind, tree):
+            time.sleep(0.5)
+            for _ in range(5):
                 tree.reaches("left", "right")
-            tree.settles()
+            tree["right"].restart()
+            sure(until(tree["right"].up, pause=0.1), kind, "who begins anew does not get in")
+            tree.reaches("left", "right")
+        tree.settles()
 
 
 def answer(agent, text):
@@ -186,40 +184,38 @@ def answer(agent, text):
         return (sock.recv(1) or b"\0")[0]
 
 
-@test
-def a_hello_without_a_certificate_costs_little():
-    with running({"left": "root"}, secure) as tree:
-        for group, kind in [("X25519", 22), ("prime256v1", 22), ("ffdhe8192", 21),
-                            ("secp521r1", 21)]:
-            text, spent = first_hello(group), used(tree.root)
-            kinds = {answer(tree.root, text) for _ in range(30)}
-            tree.root.status()
-            seconds = (used(tree.root) - spent) / 30
-            sure(kinds == {kind} and seconds < CHEAP, group, kinds, seconds)
+@of_tree({"left": "root"}, secure)
+def a_hello_without_a_certificate_costs_little(tree):
+    for group, kind in [("X25519", 22), ("prime256v1", 22), ("ffdhe8192", 21),
+                        ("secp521r1", 21)]:
+        text, spent = first_hello(group), used(tree.root)
+        kinds = {answer(tree.root, text) for _ in range(30)}
+        tree.root.status()
+        seconds = (used(tree.root) - spent) / 30
+        sure(kinds == {kind} and seconds < CHEAP, group, kinds, seconds)
+    tree.reaches("left")
+
+
+@of_tree({"left": "root"}, secure)
+def hundreds_of_certificates_are_refused_before_they_are_looked_at(tree):
+    refused = lambda: tree.root.status()["refused"]
+    many_certificates(tree.home)
+    before, spent = refused(), used(tree.root)
+    with flooding("chains", tree):
+        sure(until(lambda: refused() >= before + 20), "they are not refused")
+        seconds = (used(tree.root) - spent) / (refused() - before)
+        sure(seconds < CHEAP, seconds)
         tree.reaches("left")
+    tree.root.says("it sends too much")
 
 
-@test
-def hundreds_of_certificates_are_refused_before_they_are_looked_at():
-    with running({"left": "root"}, secure) as tree:
-        refused = lambda: tree.root.status()["refused"]
-        many_certificates(tree.home)
-        before, spent = refused(), used(tree.root)
-        with flooding("chains", tree):
-            sure(until(lambda: refused() >= before + 20), "they are not refused")
-            seconds = (used(tree.root) - spent) / (refused() - before)
-            sure(seconds < CHEAP, seconds)
-            tree.reaches("left")
-        tree.root.says("it sends too much")
-
-
-@test
-def connections_that_wait_have_little_memory():
+@of_tree({"left": "root"}, secure)
+def connections_that_wait_have_little_memory(tree, root):
     """Each stops where it sends its certificate, which is a long one."""
-    with running({"left": "root"}, secure) as tree, bounded(tree.root, WAITING):
-        kept = []
+    kept = []
+    with bounded(root, WAITING):
         for _ in range(150):
-            sock = tree.root.connect()
+            sock = root.connect()
             kept.append(sock)
             sock.sendall(first_hello("X25519"))
             sure(sock.recv(1 << 14), "no answer")
@@ -228,13 +224,12 @@ def connections_that_wait_have_little_memory():
         tree.reaches("left")
 
 
-@test
-def few_descriptors_and_many_silent_clients_stop_nobody():
-    with Tree({"left": "root", "right": "root"}, secure) as tree:
-        tree.root.prefix = ["prlimit", "--nofile=40"]
-        tree.begin(without=["right"])
-        silent = [tree.root.connect() for _ in range(100)]
-        tree["right"].start()
-        sure(until(tree["right"].up, pause=0.1), "a child does not get in, of", len(silent))
-        tree.reaches("left", "right")
-        sure(tree.root.alive() and tree.root.status()["name"] == "root")
+@of_tree({"left": "root", "right": "root"}, secure, runs=False)
+def few_descriptors_and_many_silent_clients_stop_nobody(tree):
+    tree.root.prefix = ["prlimit", "--nofile=40"]
+    tree.begin(without=["right"])
+    silent = [tree.root.connect() for _ in range(100)]
+    tree["right"].start()
+    sure(until(tree["right"].up, pause=0.1), "a child does not get in, of", len(silent))
+    tree.reaches("left", "right")
+    sure(tree.root.alive() and tree.root.status()["name"] == "root")

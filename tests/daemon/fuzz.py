@@ -56,8 +56,7 @@ def cargo(rust, *words, **more):
     CRATE.mkdir(parents=True, exist_ok=True)
     shutil.copy(HOME / "rust/Cargo.lock", CRATE)
     (CRATE / "Cargo.toml").write_text(MANIFEST.format(here=HERE, rust=rust))
-    return ran("cargo", *words, "--offline", "--quiet", cwd=CRATE,
-               env={**os.environ, **more})
+    return ran("cargo", *words, "--offline", "--quiet", cwd=CRATE, env={**os.environ, **more})
 
 
 def build(rust, work):

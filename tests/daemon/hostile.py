@@ -16,8 +16,8 @@ import struct
 import time
 
 import store
-from daemons import (PATIENCE, Tree, becomes, bounded, by_tls, certify, descriptors, during,
-                     meanwhile, memory, patient, running, took, until)
+from daemons import (PATIENCE, becomes, bounded, by_tls, certify, descriptors, during, meanwhile,
+                     memory, of_tree, patient, running, took, until)
 from protocol import (Child, Parent, body, closed, entry, exactly, frame, hello, listener, look,
                       report, take_hello, the_root_comes, way)
 from runner import sure, test
@@ -33,10 +33,10 @@ def soon(agent):
 
 # ---- Children
 
-@test
-def what_a_child_reports_of_others_harms_nobody():
+@of_tree({"left": "root", "right": "root", "evil": "left", "leaf": "left"}, patient,
+         without=["evil"])
+def what_a_child_reports_of_others_harms_nobody(tree, root, left, right, evil):
     """Reports of all kinds, some of which its parent hands on."""
-    shape = {"left": "root", "right": "root", "evil": "left", "leaf": "left"}
     entries = [{"name": f"n{at}", "parent": "evil"} for at in range(9_999)]
     chained = [{"name": f"n{at}", "parent": f"n{at - 1}" if at else "evil"} for at in range(9_999)]
     first = [{"name": "evil", "connected": True}]
@@ -53,44 +53,42 @@ def what_a_child_reports_of_others_harms_nobody():
         first + [{"name": name, "parent": "evil"} for name in names],
         first + [{"name": "a", "parent": "b"}, {"name": "b", "parent": "a"}], first * 9_999,
         [{**first[0], "inner": True, **numbers}], first + entries, first + chained]
-    with running(shape, patient, without=["evil"]) as tree:
-        root, left = tree.root, tree["left"]
-        with bounded(root, 32), bounded(left, 32):
-            for said in kinds:
-                child, what = Child(left, "evil"), str(said)[:60]
-                child.send(report(said))
-                tree.reaches("leaf")
-                for agent in left, root:
-                    begun = time.monotonic()
-                    shown = agent.run("tree")
-                    seconds, text = time.monotonic() - begun, shown.stdout + shown.stderr
-                    sure(seconds < 3 * PATIENCE, what, "tree takes", seconds)
-                    sure(len(text.encode()) < 8 << 20, what, "tree prints", len(text))
-                    sure(not re.search("[\x00-\x08\x0b-\x1f\x7f-\x9f]", text), what,
-                         "controls a terminal")
-                    listed = {it["name"] for it in agent.ask("tree")}
-                    sure({"left", "leaf"} <= listed, what, "hides agents")
-                sure(listed >= {"root", "right"}, what, "hides agents")
-                child.close()
-        # (what comes without end is too long at its first bytes)
-        for length in ((1 << 20) + 1, 0xffff_ffff):
-            child = Child(left, "evil")
-            child.send(b"R" + struct.pack(">I", length))
-            sure(child.closed.wait(60), "a report of", length, "bytes is waited for")
-        # what it says of itself comes up to the root, over the agent between, and of no other
+    with bounded(root, 32), bounded(left, 32):
+        for said in kinds:
+            child, what = Child(left, "evil"), str(said)[:60]
+            child.send(report(said))
+            tree.reaches("leaf")
+            for agent in left, root:
+                begun = time.monotonic()
+                shown = agent.run("tree")
+                seconds, text = time.monotonic() - begun, shown.stdout + shown.stderr
+                sure(seconds < 3 * PATIENCE, what, "tree takes", seconds)
+                sure(len(text.encode()) < 8 << 20, what, "tree prints", len(text))
+                sure(not re.search("[\x00-\x08\x0b-\x1f\x7f-\x9f]", text), what,
+                     "controls a terminal")
+                listed = {it["name"] for it in agent.ask("tree")}
+                sure({"left", "leaf"} <= listed, what, "hides agents")
+            sure(listed >= {"root", "right"}, what, "hides agents")
+            child.close()
+    # (what comes without end is too long at its first bytes)
+    for length in ((1 << 20) + 1, 0xffff_ffff):
         child = Child(left, "evil")
-        child.send(report([{"name": "evil", "strays": 77}]
-                          + [{"name": name, "parent": "evil", "connected": True, "strays": 78}
-                             for name in ("leaf", "left", "root", "right")]))
-        seen = lambda: sorted((it["name"], it["parent"], it["strays"]) for it in root.ask("tree"))
-        sure(until(lambda: ("evil", "left", 77) in seen()), seen())
-        child.close()
-        sure(not root.said("closed left:"), "the root closed an honest agent's connection")
-        expected = [(name, above, 77 * (name == "evil")) for name, above in shape.items()]
-        becomes(seen, sorted(expected + [("root", "", 0)]))
-        tree["evil"].start()
-        tree.settles()
-        tree.is_ready()
+        child.send(b"R" + struct.pack(">I", length))
+        sure(child.closed.wait(60), "a report of", length, "bytes is waited for")
+    # what it says of itself comes up to the root, over the agent between, and of no other
+    child = Child(left, "evil")
+    child.send(report([{"name": "evil", "strays": 77}]
+                      + [{"name": name, "parent": "evil", "connected": True, "strays": 78}
+                         for name in ("leaf", "left", "root", "right")]))
+    seen = lambda: sorted((it["name"], it["parent"], it["strays"]) for it in root.ask("tree"))
+    sure(until(lambda: ("evil", "left", 77) in seen()), seen())
+    child.close()
+    sure(not root.said("closed left:"), "the root closed an honest agent's connection")
+    above = lambda agent: agent.parent.name if agent.parent else ""
+    becomes(seen, sorted((it.name, above(it), 77 * (it is evil)) for it in tree))
+    evil.start()
+    tree.settles()
+    tree.is_ready()
 
 
 def fill(tree):
@@ -100,75 +98,72 @@ def fill(tree):
     tree.reaches("left")
 
 
-@test
-def a_child_that_changes_its_life_or_never_reads_costs_its_own_line_alone():
+@of_tree({"evil": "root", "left": "root"}, patient, without=["evil"])
+def a_child_that_changes_its_life_or_never_reads_costs_its_own_line_alone(tree):
     """Each new life is served the whole table, of 15 MiB here."""
-    with running({"evil": "root", "left": "root"}, patient, without=["evil"]) as tree:
-        fill(tree)
-        with bounded(tree.root, MOST):
-            for at in during(3):
-                with tree.root.connect() as sock:
-                    sock.sendall(hello("evil", "root"))
-                    with contextlib.suppress(OSError, EOFError):
-                        take_hello(sock)
-                        exactly(sock, 100_000)
-                if at % 10 == 0:
-                    tree.reaches("left")
+    fill(tree)
+    with bounded(tree.root, MOST):
+        for at in during(3):
             with tree.root.connect() as sock:
                 sock.sendall(hello("evil", "root"))
-                for _ in range(20):
-                    tree.reaches("left")
+                with contextlib.suppress(OSError, EOFError):
+                    take_hello(sock)
+                    exactly(sock, 100_000)
+            if at % 10 == 0:
+                tree.reaches("left")
+        with tree.root.connect() as sock:
+            sock.sendall(hello("evil", "root"))
+            for _ in range(20):
+                tree.reaches("left")
 
 
-@test
-def a_hello_of_garbage_is_refused():
+@of_tree({"evil": "root", "left": "root"}, patient, without=["evil"])
+def a_hello_of_garbage_is_refused(tree, root):
     """And of hellos and looks by the thousand none harms anybody: of another life each time, spoilt
     ones, and what asks for ways, says ways where none belongs, says goodbye, and stays."""
     draw = random.Random(5)
-    with running({"evil": "root", "left": "root"}, patient, without=["evil"]) as tree:
-        root = tree.root
-        before, connect = memory(root, "VmRSS"), root.connect
+    before, connect = memory(root, "VmRSS"), root.connect
 
-        def is_refused(greeting, text=b""):
-            with connect() as sock:
-                sock.sendall(greeting)
-                with contextlib.suppress(OSError):
-                    sock.sendall(text)
-                sure(closed(sock), "it was kept:", greeting[:40], text[:10])
-
-        for greeting in [
-                b"GET / HTTP/1.1\r\n\r\n", hello("stranger", "root"), hello("left", "other"),
-                hello("left", "root", version=3), b"RGND" + b"\xff" * 300, hello("root", "root"),
-                hello("../x", "root"), b"\x16\x03\x01\x02\x00",
-                *(draw.randbytes(draw.randrange(1, 2_000)) for _ in range(40))]:
-            is_refused(greeting)
-        # nor what no child may say behind its hello, of which nothing that comes is read here
-        for text in (b"A\x00\x00" * 200_000, b"R" + struct.pack(">I", 2) + b"[]",
-                     b"R" + struct.pack(">I", 0xffff_ffff), b"F" * 100):
-            is_refused(hello("evil", "root", life=9), text)
-        # of two connections by one name the older one is closed
-        with connect() as first, connect() as second:
-            first.sendall(hello("evil", "root"))
-            sure(first.recv(4), "it is not greeted")
-            second.sendall(hello("evil", "root", life=8))
-            sure(second.recv(4) and closed(first), "a connection that was left is kept")
-        # (for that, and not since it answered to nothing for a while)
-        root.says("closed evil: it connected anew")
-        # a slow one is dropped, and so are too many
-        slow = [connect() for _ in range(150)]
-        for sock in slow:
+    def is_refused(greeting, text=b""):
+        with connect() as sock:
+            sock.sendall(greeting)
             with contextlib.suppress(OSError):
-                sock.sendall(b"RGN")
-        tree.reaches("left")
-        sure(all(closed(sock) for sock in slow), "a slow hello was kept")
-        sure(root.status()["refused"] >= 150, root.status())
-        grew = memory(root, "VmRSS") - before
-        sure(grew < 7.8, "its memory grew by", grew, "MiB")
-        with bounded(root, 32):
-            by_the_thousand(tree)
-        tree["evil"].start()
-        tree.settles()
-        tree.is_ready()
+                sock.sendall(text)
+            sure(closed(sock), "it was kept:", greeting[:40], text[:10])
+
+    for greeting in [
+            b"GET / HTTP/1.1\r\n\r\n", hello("stranger", "root"), hello("left", "other"),
+            hello("left", "root", version=3), b"RGND" + b"\xff" * 300, hello("root", "root"),
+            hello("../x", "root"), b"\x16\x03\x01\x02\x00",
+            *(draw.randbytes(draw.randrange(1, 2_000)) for _ in range(40))]:
+        is_refused(greeting)
+    # nor what no child may say behind its hello, of which nothing that comes is read here
+    for text in (b"A\x00\x00" * 200_000, b"R" + struct.pack(">I", 2) + b"[]",
+                 b"R" + struct.pack(">I", 0xffff_ffff), b"F" * 100):
+        is_refused(hello("evil", "root", life=9), text)
+    # of two connections by one name the older one is closed
+    with connect() as first, connect() as second:
+        first.sendall(hello("evil", "root"))
+        sure(first.recv(4), "it is not greeted")
+        second.sendall(hello("evil", "root", life=8))
+        sure(second.recv(4) and closed(first), "a connection that was left is kept")
+    # (for that, and not since it answered to nothing for a while)
+    root.says("closed evil: it connected anew")
+    # a slow one is dropped, and so are too many
+    slow = [connect() for _ in range(150)]
+    for sock in slow:
+        with contextlib.suppress(OSError):
+            sock.sendall(b"RGN")
+    tree.reaches("left")
+    sure(all(closed(sock) for sock in slow), "a slow hello was kept")
+    sure(root.status()["refused"] >= 150, root.status())
+    grew = memory(root, "VmRSS") - before
+    sure(grew < 7.8, "its memory grew by", grew, "MiB")
+    with bounded(root, 32):
+        by_the_thousand(tree)
+    tree["evil"].start()
+    tree.settles()
+    tree.is_ready()
 
 
 def by_the_thousand(tree):
@@ -210,90 +205,84 @@ def many_keys(number, count):
         [head + bytes(key) + b"\0\0\0\0" for key in keys])
 
 
-@test
-def a_parent_that_sends_millions_of_settings_is_bounded():
+@of_tree({"left": "root"}, runs=False)
+def a_parent_that_sends_millions_of_settings_is_bounded(tree, root, left):
     """Bodies of nearly 14 MiB; and then its real parent has to come through."""
-    with Tree({"left": "root"}) as tree:
-        left = tree["left"]
-        del left.tables["apply"]
-        parent = Parent(left)
-        parent.send(body(b"T", 999, [entry(b"a", b"1")]))
-        with bounded(left, MOST):
-            for at in range(3):
-                parent.send(many_keys(at, 1_270_000))
-        parent.send(body(b"T", 2_000, [entry(b"a", b"2")]))
-        left.ask("wait", 2_000)
-        left.becomes(settings=1, whole=True)
-        parent.close()
-        tree.write("one", "1")
-        tree.root.start()
-        sure(until(left.up), left.status())
-        left.becomes(settings=1)
+    del left.tables["apply"]
+    parent = Parent(left)
+    parent.send(body(b"T", 999, [entry(b"a", b"1")]))
+    with bounded(left, MOST):
+        for at in range(3):
+            parent.send(many_keys(at, 1_270_000))
+    parent.send(body(b"T", 2_000, [entry(b"a", b"2")]))
+    left.ask("wait", 2_000)
+    left.becomes(settings=1, whole=True)
+    parent.close()
+    tree.write("one", "1")
+    tree.root.start()
+    sure(until(left.up), left.status())
+    left.becomes(settings=1)
 
 
-@test(begins=True)
-def a_parent_that_sends_tables_without_end_holds_nobody_up():
+@of_tree({"left": "root", "leaf": "left"}, runs=False, begins=True)
+def a_parent_that_sends_tables_without_end_holds_nobody_up(tree, root, left, leaf):
     """Each of 15 MiB, and other ones; the agent answers, and its own child is served. Then files by
     the thousand, which its real parent has it remove."""
-    with Tree({"left": "root", "leaf": "left"}) as tree:
-        left, leaf = tree["left"], tree["leaf"]
-        leaf.tables["link"] = {"ack_timeout": "10s", "evict": "1m"}
-        leaf.start()
-        parent = Parent(left)
-        parent.send(body(b"T", 1, [entry(b"a", b"1")]))
-        sure(until(lambda: leaf.files() == {"a": b"1"}), leaf.files())
-        with bounded(left, MOST):
-            for at in range(12):
-                values = [entry(b"k%02d" % key, bytes([at + key]) * (1 << 20)) for key in range(15)]
-                parent.send(body(b"T", 10 + at, values))
-                soon(left)
-        parent.send(body(b"T", 100, [entry(b"a", b"2")]))
-        sure(until(lambda: leaf.files() == {"a": b"2"}, 30), leaf.files().keys())
-        with bounded(left, MOST):
-            for at in range(2):
-                parent.send(many_keys(at, 10_000))
-            sure(until(lambda: len(os.listdir(left.settings)) > 1_000), "it makes no files")
+    leaf.tables["link"] = {"ack_timeout": "10s", "evict": "1m"}
+    leaf.start()
+    parent = Parent(left)
+    parent.send(body(b"T", 1, [entry(b"a", b"1")]))
+    sure(until(lambda: leaf.files() == {"a": b"1"}), leaf.files())
+    with bounded(left, MOST):
+        for at in range(12):
+            values = [entry(b"k%02d" % key, bytes([at + key]) * (1 << 20)) for key in range(15)]
+            parent.send(body(b"T", 10 + at, values))
             soon(left)
-        parent.gives_way()
+    parent.send(body(b"T", 100, [entry(b"a", b"2")]))
+    sure(until(lambda: leaf.files() == {"a": b"2"}, 30), leaf.files().keys())
+    with bounded(left, MOST):
+        for at in range(2):
+            parent.send(many_keys(at, 10_000))
+        sure(until(lambda: len(os.listdir(left.settings)) > 1_000), "it makes no files")
+        soon(left)
+    parent.gives_way()
 
 
-@test
-def a_parent_whose_way_lies_or_never_rests_is_bounded():
-    with Tree({"left": "root", "leaf": "left"}, patient) as tree:
-        left, leaf = tree["left"], tree["leaf"]
-        server, life = listener(tree.root), random.getrandbits(64)
-        tree.start([left, leaf])
+@of_tree({"left": "root", "leaf": "left"}, patient, runs=False)
+def a_parent_whose_way_lies_or_never_rests_is_bounded(tree, root, left, leaf):
+    server, life = listener(tree.root), random.getrandbits(64)
+    tree.start([left, leaf])
 
-        def serve(text=b""):
-            """Answers a look with a way, and the hello behind it with one and with a text."""
-            while True:
-                sock, _ = server.accept()
-                sock.settimeout(60)
-                try:
-                    while take_hello(sock, begins=b"RGN")[:4] != b"RGND":
-                        sock.sendall(look("root", "left") + way(0, ["root"]))
-                    sock.sendall(hello("root", "left", life, label=0, version=2) + text)
-                    return sock
-                except (OSError, EOFError):
-                    sock.close()
+    def serve(text=b""):
+        """Answers a look with a way, and the hello behind it with one and with a text."""
+        while True:
+            sock, _ = server.accept()
+            sock.settimeout(60)
+            try:
+                while take_hello(sock, begins=b"RGN")[:4] != b"RGND":
+                    sock.sendall(look("root", "left") + way(0, ["root"]))
+                sock.sendall(hello("root", "left", life, label=0, version=2) + text)
+                return sock
+            except (OSError, EOFError):
+                sock.close()
 
-        # what is no way: the line is closed
-        for bad in (way(0, b"\xff\xfe"), way(0, b""), way(0, ["x" * 65]), way(0, ["root"] * 129),
-                    way(0, b"a\n\x1b[2J"), way(0, b"a" * 70_000, length=0xffff),
-                    way(3, ["left", "root"]), way(0xffff, ["root"])):
-            with serve(bad) as sock:
-                sure(closed(sock), "it was kept:", bad[:30])
-        # another way each time, as fast as it goes
-        with bounded(left, 32), serve(way(0, ["root"])) as sock:
-            for at in during(3):
-                sock.sendall(b"".join(way(cost % 100, ["root"] + [f"n{cost}"] * (cost % 120))
-                                      for cost in range(50 * at, 50 * at + 50)))
-                if at % 100 == 99:
-                    soon(left)
-            sock.sendall(way(0, ["root"]) + frame(1, body(b"T", 1, [entry(b"a", b"1")])))
-            sure(until(lambda: leaf.files() == {"a": b"1"}), leaf.files())
-        server.close()
-        the_root_comes(tree)
+    # what is no way: the line is closed
+    for bad in (way(0, b"\xff\xfe"), way(0, b""), way(0, ["x" * 65]), way(0, ["root"] * 129),
+                way(0, b"a\n\x1b[2J"), way(0, b"a" * 70_000, length=0xffff),
+                way(3, ["left", "root"]), way(0xffff, ["root"])):
+        with serve(bad) as sock:
+            sure(closed(sock), "it was kept:", bad[:30])
+    # another way each time, as fast as it goes
+    with bounded(left, 32), serve(way(0, ["root"])) as sock:
+        for at in during(3):
+            sock.sendall(b"".join(way(cost % 100, ["root"] + [f"n{cost}"] * (cost % 120))
+                                  for cost in range(50 * at, 50 * at + 50)))
+            if at % 100 == 99:
+                soon(left)
+        sock.sendall(way(0, ["root"]) + frame(1, body(b"T", 1, [entry(b"a", b"1")])))
+        sure(until(lambda: leaf.files() == {"a": b"1"}), leaf.files())
+    server.close()
+    the_root_comes(tree)
 
 
 # ---- Files
@@ -305,64 +294,61 @@ def flips(folder):
         (folder / f".{kind}").rename(folder / "flips")
 
 
-@test
-def files_by_the_thousand_in_the_roots_folder_hold_nobody_up():
+@of_tree({"left": "root"}, patient)
+def files_by_the_thousand_in_the_roots_folder_hold_nobody_up(tree, root):
     """So many that inotify loses events; and a setting changes meanwhile, and all is right. Then
     400 files of 1 MiB come at once, more than may be published: they are not all read."""
-    with running({"left": "root"}, patient) as tree:
-        root = tree.root
 
-        def make(number):
-            at = next(number)
-            path = root.truth / (f"made{at % 3_000}" if at % 2 else f".made{at % 9_000}")
-            path.unlink() if at % 7 == 0 else path.touch()
+    def make(number):
+        at = next(number)
+        path = root.truth / (f"made{at % 3_000}" if at % 2 else f".made{at % 9_000}")
+        path.unlink() if at % 7 == 0 else path.touch()
 
-        makers = [functools.partial(make, itertools.count()) for _ in range(2)]
-        with bounded(root, 128), meanwhile(*makers):
-            for _ in during(4):
-                soon(root)
-                tree.reaches("left")
-        sure(tree.right(60), tree.wrong())
-        new = tree.home / "new"
-        new.mkdir()
-        for at in range(400):
-            (new / f"many{at}").touch()
-            os.truncate(new / f"many{at}", 1 << 20)
-        with bounded(root, 90):
-            for path in list(new.iterdir()):
-                path.rename(root.truth / path.name)
-            sure(until(lambda: root.status()["unpublished"] > 0), root.status())
-
-
-@test
-def odd_things_in_the_roots_folder_hold_nobody_up():
-    with running({"left": "root"}, patient) as tree:
-        truth = tree.root.truth
-        secret = tree.home / "secret"
-        secret.write_text("of the agent alone")
-
-        def sparse(path):
-            # (it would be a setting as long as it is empty)
-            beside = path.with_name(".sparse")
-            beside.touch()
-            os.truncate(beside, 1 << 40)
-            beside.rename(path)
-
-        made = {"link": lambda path: path.symlink_to(secret),
-                "self": lambda path: path.symlink_to("/proc/self/environ"),
-                "zero": lambda path: path.symlink_to("/dev/zero"),
-                "loop": lambda path: path.symlink_to(path),
-                "pipe": os.mkfifo, "folder": pathlib.Path.mkdir,
-                "listens": lambda path: socket.socket(socket.AF_UNIX).bind(str(path)),
-                "sparse": sparse}
-        for name, make in made.items():
-            make(truth / name)
+    makers = [functools.partial(make, itertools.count()) for _ in range(2)]
+    with bounded(root, 128), meanwhile(*makers):
+        for _ in during(4):
+            soon(root)
             tree.reaches("left")
-        found = set(tree["left"].files()) & set(made)
-        sure(not found, "these were published:", found)
-        with meanwhile(lambda: flips(truth)):
-            for _ in during(4):
-                tree.reaches("left")
+    sure(tree.right(60), tree.wrong())
+    new = tree.home / "new"
+    new.mkdir()
+    for at in range(400):
+        (new / f"many{at}").touch()
+        os.truncate(new / f"many{at}", 1 << 20)
+    with bounded(root, 90):
+        for path in list(new.iterdir()):
+            path.rename(root.truth / path.name)
+        sure(until(lambda: root.status()["unpublished"] > 0), root.status())
+
+
+@of_tree({"left": "root"}, patient)
+def odd_things_in_the_roots_folder_hold_nobody_up(tree):
+    truth = tree.root.truth
+    secret = tree.home / "secret"
+    secret.write_text("of the agent alone")
+
+    def sparse(path):
+        # (it would be a setting as long as it is empty)
+        beside = path.with_name(".sparse")
+        beside.touch()
+        os.truncate(beside, 1 << 40)
+        beside.rename(path)
+
+    made = {"link": lambda path: path.symlink_to(secret),
+            "self": lambda path: path.symlink_to("/proc/self/environ"),
+            "zero": lambda path: path.symlink_to("/dev/zero"),
+            "loop": lambda path: path.symlink_to(path),
+            "pipe": os.mkfifo, "folder": pathlib.Path.mkdir,
+            "listens": lambda path: socket.socket(socket.AF_UNIX).bind(str(path)),
+            "sparse": sparse}
+    for name, make in made.items():
+        make(truth / name)
+        tree.reaches("left")
+    found = set(tree["left"].files()) & set(made)
+    sure(not found, "these were published:", found)
+    with meanwhile(lambda: flips(truth)):
+        for _ in during(4):
+            tree.reaches("left")
 
 
 # ---- Certificates

@@ -27,7 +27,7 @@ import struct
 import sys
 import time
 
-from daemons import Tree, root_has, running
+from daemons import Tree, of_tree, root_has
 from groups import counting
 from memory import stopped, writable
 from runner import options, sure, test
@@ -420,29 +420,28 @@ def trees_come_back_from_faults_of_memory():
     sure(not lasting(aimed) and few and trials > len(faults) / 2, "\n" + table(counts))
 
 
-@test
-def who_finds_its_configuration_spoiled_ends_and_says_so():
-    with running() as tree:
-        units = [Unit(agent) for agent in tree]
+@of_tree()
+def who_finds_its_configuration_spoiled_ends_and_says_so(tree):
+    units = [Unit(agent) for agent in tree]
+    for unit in units:
+        unit.agent.kill()
+        unit.start()
+    tree.is_ready()
+    for turn in range(2):
+        # (each agent has several copies of this path, and not all are in use)
+        for at, unit in enumerate(units, turn * len(units)):
+            path, process = str(unit.agent.settings).encode(), unit.agent.process.pid
+            with stopped(process) as memory:
+                copies = Memory(process, memory).found(re.escape(path))
+                os.pwrite(memory, b"?", copies[at % len(copies)] + len(path) - 1)
+        time.sleep(3)
         for unit in units:
-            unit.agent.kill()
-            unit.start()
+            unit.tend()
         tree.is_ready()
-        for turn in range(2):
-            # (each agent has several copies of this path, and not all are in use)
-            for at, unit in enumerate(units, turn * len(units)):
-                path, process = str(unit.agent.settings).encode(), unit.agent.process.pid
-                with stopped(process) as memory:
-                    copies = Memory(process, memory).found(re.escape(path))
-                    os.pwrite(memory, b"?", copies[at % len(copies)] + len(path) - 1)
-            time.sleep(3)
-            for unit in units:
-                unit.tend()
-            tree.is_ready()
-            tree.settles()
-        whys = sum((unit.whys for unit in units), collections.Counter())
-        begins = "rignoldad: its memory is spoiled: "
-        sure(whys and all(why.startswith(begins) for why in whys), whys)
+        tree.settles()
+    whys = sum((unit.whys for unit in units), collections.Counter())
+    begins = "rignoldad: its memory is spoiled: "
+    sure(whys and all(why.startswith(begins) for why in whys), whys)
 
 
 def main():

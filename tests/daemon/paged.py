@@ -1,9 +1,9 @@
 """The page at the address of the metrics: it says what `rignoldactl tree` says."""
 import re
 
-from daemons import becomes, counted, root_has, running, until, very_patient
+from daemons import becomes, counted, of_tree, root_has, until, very_patient
 from protocol import Child, report
-from runner import sure, test
+from runner import sure
 
 MOST = 40_000
 
@@ -56,41 +56,40 @@ def many(root, count):
     return said
 
 
-@test
-def the_page_says_what_the_tree_is():
-    def before(tree):
-        tree["leaf"].below(tree["right"])
-        tree["left"].top["groups"] = ["canary"]
+def also_below(tree):
+    tree["leaf"].below(tree["right"])
+    tree["left"].top["groups"] = ["canary"]
 
-    with running({"left": "root", "right": "root", "leaf": "left", "rack": "root"}, very_patient,
-                 counted, root_has(round="1h"), before, without=["rack", "left"]) as tree:
-        root, leaf = tree.root, tree["leaf"]
-        leaf.becomes(place=1)
-        root.ask("publish", "last", "1")
-        tree.settles(root, tree["right"], leaf)
-        child = Child(root, "rack")
-        child.send(report(many(root, 296)))
-        list = lambda: root.ask("tree")
-        sure(until(lambda: any(it["name"] == "host-0295" for it in list())))
-        counted_there = lambda: {name: int(count) for name, count in re.findall(
-            r"<dd id=(\w+)[^>]*>(\d+)", root.page("/")[2])}
-        sure(until(lambda: counts(list())["moved"] > 1), list())
-        becomes(lambda: counted_there() == counts(list()), True, counted_there(), counts(list()))
-        status, headers, text = root.page("/")
-        agents = agents_of(text)
-        sure(status == 200 and len(text) <= MOST and len(agents) == 301, len(text), len(agents))
-        policy = headers["Content-Security-Policy"]
-        sure(policy.startswith("default-src 'none';"), policy)
-        tags = set(re.findall(r"<(\w+)", text))
-        sure(not tags & {"script", "img", "link", "iframe", "a", "form"}, tags)
-        sure("http" not in text.replace("http-equiv", "") and "url(" not in text)
-        said = {it["name"]: (it["parent"], " ".join(it["groups"])) for it in list()}
-        sure({name: it[:2] for name, it in agents.items()} == said, agents)
-        notes = lambda name: agents[name][2]
-        sure("never heard of" in notes("left") and "parent 2" in notes("leaf"), notes("leaf"))
-        sure("files differ" in notes("host-0004") and "1 failing" in notes("host-0003"))
-        sure(notes("right") == [""] and notes("host-0014") != [""], notes("host-0014"))
-        sure(any(it.startswith("away ") for it in notes("host-0031")), notes("host-0031"))
-        # (what is asked for otherwise is none of it)
-        sure(root.counts().startswith("# HELP") and root.page("/x")[0] == 404)
-        child.close()
+
+@of_tree({"left": "root", "right": "root", "leaf": "left", "rack": "root"}, very_patient, counted,
+         root_has(round="1h"), also_below, without=["rack", "left"])
+def the_page_says_what_the_tree_is(tree, root, left, right, leaf):
+    leaf.becomes(place=1)
+    root.ask("publish", "last", "1")
+    tree.settles(root, tree["right"], leaf)
+    child = Child(root, "rack")
+    child.send(report(many(root, 296)))
+    list = lambda: root.ask("tree")
+    sure(until(lambda: any(it["name"] == "host-0295" for it in list())))
+    counted_there = lambda: {name: int(count) for name, count in re.findall(
+        r"<dd id=(\w+)[^>]*>(\d+)", root.page("/")[2])}
+    sure(until(lambda: counts(list())["moved"] > 1), list())
+    becomes(lambda: counted_there() == counts(list()), True, counted_there(), counts(list()))
+    status, headers, text = root.page("/")
+    agents = agents_of(text)
+    sure(status == 200 and len(text) <= MOST and len(agents) == 301, len(text), len(agents))
+    policy = headers["Content-Security-Policy"]
+    sure(policy.startswith("default-src 'none';"), policy)
+    tags = set(re.findall(r"<(\w+)", text))
+    sure(not tags & {"script", "img", "link", "iframe", "a", "form"}, tags)
+    sure("http" not in text.replace("http-equiv", "") and "url(" not in text)
+    said = {it["name"]: (it["parent"], " ".join(it["groups"])) for it in list()}
+    sure({name: it[:2] for name, it in agents.items()} == said, agents)
+    notes = lambda name: agents[name][2]
+    sure("never heard of" in notes("left") and "parent 2" in notes("leaf"), notes("leaf"))
+    sure("files differ" in notes("host-0004") and "1 failing" in notes("host-0003"))
+    sure(notes("right") == [""] and notes("host-0014") != [""], notes("host-0014"))
+    sure(any(it.startswith("away ") for it in notes("host-0031")), notes("host-0031"))
+    # (what is asked for otherwise is none of it)
+    sure(root.counts().startswith("# HELP") and root.page("/x")[0] == 404)
+    child.close()

@@ -2,8 +2,8 @@
 import signal
 import time
 
-from daemons import becomes, running, until
-from runner import sure, test
+from daemons import becomes, of_tree, until
+from runner import sure
 
 
 def racks(count, further=1, leaf=()):
@@ -14,8 +14,7 @@ def racks(count, further=1, leaf=()):
         for agent in tree:
             agent.tables["link"] = {"ack_timeout": "500ms", "evict": "2s"}
         for at, name in enumerate(names):
-            tree[name].below(*(tree[names[(at + step) % count]]
-                               for step in range(1, further + 1)))
+            tree[name].below(*(tree[names[(at + step) % count]] for step in range(1, further + 1)))
         if leaf:
             tree["leaf"].below(*(tree[name] for name in leaf[1:]))
 
@@ -26,37 +25,35 @@ def has_parent(agent, name):
     becomes(lambda: agent.status().get("parent"), name, agent.name, pause=0.1)
 
 
-@test(begins=True)
-def who_has_another_parent_leaves_one_that_lost_the_root():
+@of_tree(*racks(2, further=0, leaf=("rack1", "rack0")), begins=True)
+def who_has_another_parent_leaves_one_that_lost_the_root(tree, root, rack0, rack1, leaf):
     """Or one that stands still."""
-    with running(*racks(2, further=0, leaf=("rack1", "rack0"))) as tree:
-        root, rack0, rack1, leaf = tree
-        # (it may have begun after the other one)
-        has_parent(leaf, "rack1")
-        root.ask("child", "remove", "rack1")
-        tree.write("two", "2")
-        tree.settles(rack0, leaf)
-        leaf.becomes(parent="rack0", way=["root", "rack0", "leaf"])
-        # (of the two that have it for a child, it is where it is connected)
-        becomes(lambda: {it["name"]: it["parent"] for it in root.ask("tree")}["leaf"], "rack0")
-        rack1.becomes(cost=128, way=["rack1"])
-        # (who has moved says so, and holds nothing back at its old parent)
-        sure(rack1.said("closed leaf: it takes another parent"), rack1.text())
-        sure(rack1.status()["children"][0]["left_behind"], rack1.status())
-        # (and it is back where it was once that has the root again)
-        root.ask("child", "add", "rack1")
-        root.ask("child", "remove", "rack0")
-        tree.write("three", "3")
-        tree.settles(rack1, leaf)
-        root.ask("child", "add", "rack0")
-        has_parent(leaf, "rack1")
-        sure(until(rack0.up), rack0.text())
-        rack1.signal(signal.SIGSTOP)
-        tree.write("four", "4")
-        tree.settles(rack0, leaf)
-        leaf.becomes(parent="rack0")
-        rack1.signal(signal.SIGCONT)
-        tree.settles()
+    # (it may have begun after the other one)
+    has_parent(leaf, "rack1")
+    root.ask("child", "remove", "rack1")
+    tree.write("two", "2")
+    tree.settles(rack0, leaf)
+    leaf.becomes(parent="rack0", way=["root", "rack0", "leaf"])
+    # (of the two that have it for a child, it is where it is connected)
+    becomes(lambda: {it["name"]: it["parent"] for it in root.ask("tree")}["leaf"], "rack0")
+    rack1.becomes(cost=128, way=["rack1"])
+    # (who has moved says so, and holds nothing back at its old parent)
+    sure(rack1.said("closed leaf: it takes another parent"), rack1.text())
+    sure(rack1.status()["children"][0]["left_behind"], rack1.status())
+    # (and it is back where it was once that has the root again)
+    root.ask("child", "add", "rack1")
+    root.ask("child", "remove", "rack0")
+    tree.write("three", "3")
+    tree.settles(rack1, leaf)
+    root.ask("child", "add", "rack0")
+    has_parent(leaf, "rack1")
+    sure(until(rack0.up), rack0.text())
+    rack1.signal(signal.SIGSTOP)
+    tree.write("four", "4")
+    tree.settles(rack0, leaf)
+    leaf.becomes(parent="rack0")
+    rack1.signal(signal.SIGCONT)
+    tree.settles()
 
 
 def rests(agents):
@@ -70,46 +67,45 @@ def rests(agents):
     sure(moves() == before and lines() - length < 4, [agent.text()[-500:] for agent in agents])
 
 
-@test(begins=True)
-def agents_without_a_root_rest_and_come_back_to_it():
+@of_tree(*racks(3, leaf=("rack0", "rack1")), begins=True)
+def agents_without_a_root_rest_and_come_back_to_it(tree):
     """What goes round in a ring while the root is away would be strays."""
-    with running(*racks(3, leaf=("rack0", "rack1"))) as tree:
-        root, *ring, leaf = tree
-        below = [*ring, leaf]
+    root, *ring, leaf = tree
+    below = [*ring, leaf]
 
-        def come_back():
-            root.start()
-            tree.write("back", time.monotonic())
-            for agent in ring:
-                has_parent(agent, "root")
-            tree.settles()
-
-        root.kill(signal.SIGTERM)
-        time.sleep(0.2)
-        come_back()
-        root.kill()
-        lost = lambda: all(agent.status()["cost"] >= 128 for agent in below)
-        sure(until(lost, pause=0.1), [agent.status()["way"] for agent in below])
-        rests(below)
-        come_back()
-        # (it takes the first one that has the root, and then comes back to its own first one)
-        leaf.becomes(way=["root", "rack0", "leaf"])
-        strays = [agent.status()["strays"] for agent in tree]
-        sure(sum(strays) < 50, "items went round:", strays)
-        # of a ring of single parents one says why it has none
-        root.kill()
-        for agent in ring:
-            agent.kill()
-            del agent.top["parents"][0]
-        tree.start(ring)
-        heads = lambda: [agent for agent in ring if agent.status().get("parent") is None]
-        broken = lambda: len(heads()) == 1 and heads()[0].said("its way leads over this agent")
-        sure(until(broken, pause=0.1), [agent.text()[-500:] for agent in ring])
-        rests(ring)
-        sure(broken(), [agent.text()[-500:] for agent in ring])
-        head = heads()[0]
-        head.top["parents"] = [root.at()]
+    def come_back():
         root.start()
-        head.reload()
-        tree.write("mended", "1")
+        tree.write("back", time.monotonic())
+        for agent in ring:
+            has_parent(agent, "root")
         tree.settles()
+
+    root.kill(signal.SIGTERM)
+    time.sleep(0.2)
+    come_back()
+    root.kill()
+    lost = lambda: all(agent.status()["cost"] >= 128 for agent in below)
+    sure(until(lost, pause=0.1), [agent.status()["way"] for agent in below])
+    rests(below)
+    come_back()
+    # (it takes the first one that has the root, and then comes back to its own first one)
+    leaf.becomes(way=["root", "rack0", "leaf"])
+    strays = [agent.status()["strays"] for agent in tree]
+    sure(sum(strays) < 50, "items went round:", strays)
+    # of a ring of single parents one says why it has none
+    root.kill()
+    for agent in ring:
+        agent.kill()
+        del agent.top["parents"][0]
+    tree.start(ring)
+    heads = lambda: [agent for agent in ring if agent.status().get("parent") is None]
+    broken = lambda: len(heads()) == 1 and heads()[0].said("its way leads over this agent")
+    sure(until(broken, pause=0.1), [agent.text()[-500:] for agent in ring])
+    rests(ring)
+    sure(broken(), [agent.text()[-500:] for agent in ring])
+    head = heads()[0]
+    head.top["parents"] = [root.at()]
+    root.start()
+    head.reload()
+    tree.write("mended", "1")
+    tree.settles()

@@ -2,9 +2,9 @@
 import concurrent.futures
 import time
 
-from daemons import Tree, becomes, by_tls, counted, free_port, read, until
+from daemons import becomes, by_tls, counted, free_port, of_tree, read, until
 from programs import ran
-from runner import sure, test
+from runner import sure
 
 
 def two(tree):
@@ -57,108 +57,106 @@ def strays(tree):
     return {agent.name: agent.status().get("strays") for agent in tree if agent.alive()}
 
 
-@test(begins=True)
-def an_agent_that_is_promoted_goes_on_and_the_old_root_stands_by():
-    shape = {"second": "root", "left": "root", "right": "root", "leaf": "left", "deep": "leaf"}
-    with Tree(shape, two, by_tls, counted) as tree:
-        root, second, left, _, _, deep = tree
-        begin(tree)
-        # what lies in the folder of one that is not promoted is nobody's
-        second.write("key0", "of long ago")
-        second.write("stale", "1")
-        second.restart()
-        is_now(second, "below")
-        goes_on(tree, tree.truth())
-        second.refuses("not the root", "publish", "key0", "x")
-        left.refuses("no `standby`", "promote")
-        seen = {it["name"]: it["standby"] for it in root.ask("tree")}
-        sure(seen["second"] and not seen["left"], seen)
-        # (its numbers are ahead of the others' clocks)
-        root.kill()
-        far = int((time.time() + 86_400) * 1e6)
-        (root.truth / ".root").write_text(f"{far:020}\n")
-        root.start()
-        is_now(root, "root")
-        sure(until(lambda: second.status()["applied"] > far), second.status())
-        # others have more than it has seen, and then there is no root
-        known = second.files()
-        second.kill()
-        number = 0
-        for turn in range(20):
-            number = root.ask("publish", "later", str(turn))["sequence"]
-        becomes(lambda: deep.files().get("later"), b"19")
-        root.kill()
-        before = strays(tree)
-        second.start()
-        is_now(second, "below")
-        sure(second.files() == known, second.files())
-        second.ask("promote")
-        is_now(second, "root")
-        sure(read(second.truth) == known, read(second.truth))
-        follow(second)
-        # (nothing that it published was older than what they had)
-        sure(strays(tree) == {**before, "second": 0}, before, strays(tree))
-        sure(second.status()["sequence"] > number, second.status(), number)
-        second.write("key1", "of the second")
-        second.ask("publish", "key2", "of the second too")
-        follow(second)
-        # it stays the root, and nothing is held of what it has applied
-        second.tables["root"]["hold"] = True
-        second.restart()
-        is_now(second, "root")
-        follow(second)
-        second.becomes(held=0)
-        second.write("key3", "looked at")
-        becomes(lambda: second.ask("diff")["changes"], [{"key": "key3", "bytes": 9}])
-        second.ask("confirm")
-        follow(second)
-        # the old root is back, with a folder of its own
-        truth = read(second.truth)
-        root.write("key1", "of the old root")
-        root.write("mine", "1")
-        begun = root.said("this is the root now")
-        root.start()
-        is_now(root, "stands-by", "second")
-        goes_on(tree, truth, [agent for agent in tree if agent is not root])
-        follow(second)
-        root.says("second is another root: this one stands by")
-        sure(root.said("this is the root now") == begun, root.text())
-        sure("\nrignolda_stands_by 1\n" in root.counts(), root.counts())
-        sure("stands by for second" in root.run("status").stdout, root.run("status").stdout)
-        becomes(lambda: {it["name"]: it["stands_by"] for it in second.ask("tree")}.get("root"),
-                True)
-        sure("stands by" in second.run("tree").stdout, second.run("tree").stdout)
-        # also where the other one is gone again: nobody chooses a root but an operator
-        second.kill()
-        root.restart()
-        is_now(root, "stands-by")
-        goes_on(tree, truth)
-        root.becomes(parent=None)
-        second.start()
-        is_now(second, "root")
-        follow(second)
-        root.ask("demote")
-        is_now(root, "below")
-        follow(second)
-        root.refuses("is not the root", "demote")
-        # and back again, as it is planned: the second one sees it, and gives way
-        sure(second.request(do="drain") == "done", second.text())
-        root.ask("promote")
-        is_now(root, "root")
-        is_now(second, "stands-by", "root")
-        root.write("key1", "of the first one again")
-        follow(root)
-        sure(deep.files()["key1"] == b"of the first one again", deep.files())
-        second.ask("demote")
-        is_now(second, "below")
-        # a folder that is not as it was applied is not published
-        root.ask("demote")
-        sure(until(lambda: second.status()["cost"] >= 128), second.status())
-        second.ask("wait")
-        (second.settings / "key0").write_text("drifted")
-        second.refuses("not a whole table", "promote")
-        is_now(second, "below")
-        sure(not (second.truth / ".root").exists(), second.text())
+@of_tree({"second": "root", "left": "root", "right": "root", "leaf": "left", "deep": "leaf"}, two,
+         by_tls, counted, runs=False, begins=True)
+def an_agent_that_is_promoted_goes_on_and_the_old_root_stands_by(tree, root, second, left, _, leaf,
+                                                                 deep):
+    begin(tree)
+    # what lies in the folder of one that is not promoted is nobody's
+    second.write("key0", "of long ago")
+    second.write("stale", "1")
+    second.restart()
+    is_now(second, "below")
+    goes_on(tree, tree.truth())
+    second.refuses("not the root", "publish", "key0", "x")
+    left.refuses("no `standby`", "promote")
+    seen = {it["name"]: it["standby"] for it in root.ask("tree")}
+    sure(seen["second"] and not seen["left"], seen)
+    # (its numbers are ahead of the others' clocks)
+    root.kill()
+    far = int((time.time() + 86_400) * 1e6)
+    (root.truth / ".root").write_text(f"{far:020}\n")
+    root.start()
+    is_now(root, "root")
+    sure(until(lambda: second.status()["applied"] > far), second.status())
+    # others have more than it has seen, and then there is no root
+    known = second.files()
+    second.kill()
+    number = 0
+    for turn in range(20):
+        number = root.ask("publish", "later", str(turn))["sequence"]
+    becomes(lambda: deep.files().get("later"), b"19")
+    root.kill()
+    before = strays(tree)
+    second.start()
+    is_now(second, "below")
+    sure(second.files() == known, second.files())
+    second.ask("promote")
+    is_now(second, "root")
+    sure(read(second.truth) == known, read(second.truth))
+    follow(second)
+    # (nothing that it published was older than what they had)
+    sure(strays(tree) == {**before, "second": 0}, before, strays(tree))
+    sure(second.status()["sequence"] > number, second.status(), number)
+    second.write("key1", "of the second")
+    second.ask("publish", "key2", "of the second too")
+    follow(second)
+    # it stays the root, and nothing is held of what it has applied
+    second.tables["root"]["hold"] = True
+    second.restart()
+    is_now(second, "root")
+    follow(second)
+    second.becomes(held=0)
+    second.write("key3", "looked at")
+    becomes(lambda: second.ask("diff")["changes"], [{"key": "key3", "bytes": 9}])
+    second.ask("confirm")
+    follow(second)
+    # the old root is back, with a folder of its own
+    truth = read(second.truth)
+    root.write("key1", "of the old root")
+    root.write("mine", "1")
+    begun = root.said("this is the root now")
+    root.start()
+    is_now(root, "stands-by", "second")
+    goes_on(tree, truth, [agent for agent in tree if agent is not root])
+    follow(second)
+    root.says("second is another root: this one stands by")
+    sure(root.said("this is the root now") == begun, root.text())
+    sure("\nrignolda_stands_by 1\n" in root.counts(), root.counts())
+    sure("stands by for second" in root.run("status").stdout, root.run("status").stdout)
+    becomes(lambda: {it["name"]: it["stands_by"] for it in second.ask("tree")}.get("root"), True)
+    sure("stands by" in second.run("tree").stdout, second.run("tree").stdout)
+    # also where the other one is gone again: nobody chooses a root but an operator
+    second.kill()
+    root.restart()
+    is_now(root, "stands-by")
+    goes_on(tree, truth)
+    root.becomes(parent=None)
+    second.start()
+    is_now(second, "root")
+    follow(second)
+    root.ask("demote")
+    is_now(root, "below")
+    follow(second)
+    root.refuses("is not the root", "demote")
+    # and back again, as it is planned: the second one sees it, and gives way
+    sure(second.request(do="drain") == "done", second.text())
+    root.ask("promote")
+    is_now(root, "root")
+    is_now(second, "stands-by", "root")
+    root.write("key1", "of the first one again")
+    follow(root)
+    sure(deep.files()["key1"] == b"of the first one again", deep.files())
+    second.ask("demote")
+    is_now(second, "below")
+    # a folder that is not as it was applied is not published
+    root.ask("demote")
+    sure(until(lambda: second.status()["cost"] >= 128), second.status())
+    second.ask("wait")
+    (second.settings / "key0").write_text("drifted")
+    second.refuses("not a whole table", "promote")
+    is_now(second, "below")
+    sure(not (second.truth / ".root").exists(), second.text())
 
 
 def cut(tree, is_cut):
@@ -168,125 +166,118 @@ def cut(tree, is_cut):
         one.reload()
 
 
-@test
-def of_two_roots_that_find_each_other_one_goes_on():
-    with Tree({"second": "root", "left": "root", "leaf": "left"}, two) as tree:
-        root, second, left, leaf = tree
-        begin(tree)
-        for is_demoted in (True, False):
-            cut(tree, True)
-            second.becomes(parent=None)
-            second.ask("promote")
-            second.write("who", "second")
-            root.write("who", "root")
-            follow(root, root, left, leaf)
-            follow(second, second)
-            time.sleep(1)
-            if is_demoted:
-                # (by hand, while it does not see the other one)
-                root.ask("demote")
-                follow(second, left, second, leaf)
-                is_now(root, "below")
-            cut(tree, False)
-            if not is_demoted:
-                is_now(root, "stands-by", "second")
-            follow(second)
-            sure(leaf.files()["who"] == b"second", leaf.files())
-            is_now(second, "root")
-            if is_demoted:
-                root.ask("promote")
-                is_now(second, "stands-by", "root")
-                follow(root)
-                second.ask("demote")
+@of_tree({"second": "root", "left": "root", "leaf": "left"}, two, runs=False)
+def of_two_roots_that_find_each_other_one_goes_on(tree, root, second, left, leaf):
+    begin(tree)
+    for is_demoted in (True, False):
+        cut(tree, True)
+        second.becomes(parent=None)
+        second.ask("promote")
+        second.write("who", "second")
+        root.write("who", "root")
+        follow(root, root, left, leaf)
+        follow(second, second)
+        time.sleep(1)
+        if is_demoted:
+            # (by hand, while it does not see the other one)
+            root.ask("demote")
+            follow(second, left, second, leaf)
+            is_now(root, "below")
+        cut(tree, False)
+        if not is_demoted:
+            is_now(root, "stands-by", "second")
+        follow(second)
+        sure(leaf.files()["who"] == b"second", leaf.files())
+        is_now(second, "root")
+        if is_demoted:
+            root.ask("promote")
+            is_now(second, "stands-by", "root")
+            follow(root)
+            second.ask("demote")
 
 
-@test
-def a_spoiled_mark_of_a_root_is_harmless_or_refused():
-    with Tree({"second": "root", "left": "root"}, two) as tree:
-        root, mark = tree.root, tree.root.truth / ".root"
-        begin(tree)
-        for spoiled in (b"", b"\xff" * 9, b"12", mark.read_bytes()[:7] + b"x\n", b"0" * 5_000):
-            root.kill()
-            mark.write_bytes(spoiled)
-            root.write("key0", spoiled[:9])
-            root.start()
-            is_now(root, "root")
-            tree.settles()
-        root.says(".root has no number: any other root goes on")
+@of_tree({"second": "root", "left": "root"}, two, runs=False)
+def a_spoiled_mark_of_a_root_is_harmless_or_refused(tree):
+    root, mark = tree.root, tree.root.truth / ".root"
+    begin(tree)
+    for spoiled in (b"", b"\xff" * 9, b"12", mark.read_bytes()[:7] + b"x\n", b"0" * 5_000):
         root.kill()
-        mark.unlink()
-        mark.mkdir()
-        before = tree.truth()
-        root.write("key0", "never")
+        mark.write_bytes(spoiled)
+        root.write("key0", spoiled[:9])
         root.start()
-        is_now(root, "stands-by")
-        root.says(".root is no plain file")
-        goes_on(tree, before)
-        mark.rmdir()
-        root.ask("promote", "--as-is")
         is_now(root, "root")
         tree.settles()
+    root.says(".root has no number: any other root goes on")
+    root.kill()
+    mark.unlink()
+    mark.mkdir()
+    before = tree.truth()
+    root.write("key0", "never")
+    root.start()
+    is_now(root, "stands-by")
+    root.says(".root is no plain file")
+    goes_on(tree, before)
+    mark.rmdir()
+    root.ask("promote", "--as-is")
+    is_now(root, "root")
+    tree.settles()
 
 
-@test
-def the_files_of_two_roots_are_checked():
-    with Tree({"second": "root", "left": "root"}, two) as tree:
-        root, second, left = tree
+@of_tree({"second": "root", "left": "root"}, two, runs=False)
+def the_files_of_two_roots_are_checked(tree, root, second, left):
 
-        def check(*agents):
-            for agent in tree:
-                agent.configure()
-            return ran(tree.bin / "rignoldad", "--check", "--user", "root",
-                       *(agent.file for agent in agents))
+    def check(*agents):
+        for agent in tree:
+            agent.configure()
+        return ran(tree.bin / "rignoldad", "--check", "--user", "root",
+                   *(agent.file for agent in agents))
 
-        sure(check(*tree) == (0, ""), check(*tree))
-        sure(check(root) == (0, "checked for root\n"), check(root))
-        # (of all agents, or of the last one alone)
-        for table, key, value, why, *agents in [
-                (second.tables["root"], "standby", False, "unless it has `standby`"),
-                (second.top, "parents", [], "has parents until it is promoted"),
-                (second.top, "parents", ["root@redis://127.0.0.1:1/x"], "in no store"),
-                (second.top, "parents", [left.at()], "two roots look at each other"),
-                (second.tables["root"], "harmless", 1, "it is at least 7"),
-                (second.tables["root"], "settings", str(second.file), "`promote` is refused",
-                 second),
-                (second.tables, "apply", None, "[apply] is missing", second)]:
-            right = dict(table)
-            table[key] = value
-            if value is None:
-                del table[key]
-            status, said = check(*(agents or tree))
-            sure(status == 1 and why in said, why, said)
-            table.clear()
-            table.update(right)
+    sure(check(*tree) == (0, ""), check(*tree))
+    sure(check(root) == (0, "checked for root\n"), check(root))
+    # (of all agents, or of the last one alone)
+    for table, key, value, why, *agents in [
+            (second.tables["root"], "standby", False, "unless it has `standby`"),
+            (second.top, "parents", [], "has parents until it is promoted"),
+            (second.top, "parents", ["root@redis://127.0.0.1:1/x"], "in no store"),
+            (second.top, "parents", [left.at()], "two roots look at each other"),
+            (second.tables["root"], "harmless", 1, "it is at least 7"),
+            (second.tables["root"], "settings", str(second.file), "`promote` is refused",
+             second),
+            (second.tables, "apply", None, "[apply] is missing", second)]:
+        right = dict(table)
+        table[key] = value
+        if value is None:
+            del table[key]
+        status, said = check(*(agents or tree))
+        sure(status == 1 and why in said, why, said)
+        table.clear()
+        table.update(right)
 
 
-@test
-def who_is_killed_while_it_is_promoted_may_be_promoted_again():
-    with Tree({"second": "root", "left": "root"}, two) as tree:
-        root, second, left = tree
-        begin(tree)
-        for turn, pause in enumerate((0, 0.001, 0.01, 0.03)):
-            root.write("turn", turn)
-            follow(root)
-            root.kill()
-            with concurrent.futures.ThreadPoolExecutor(1) as pool:
-                asked = pool.submit(second.request, 20, do="promote")
-                time.sleep(pause)
-                second.restart()
-                asked.result()
-            sure(until(second.status), second.text()[-500:])
-            said = second.request(20, do="promote")
-            if said != "done" and second.status()["standby"] == "below":
-                # (it has its files, but has heard no whole table since it began)
-                sure("not a whole table" in str(said), said, second.text()[-500:])
-                for key, value in second.files().items():
-                    second.write(key, value)
-                sure(second.request(20, do="promote", as_is=True) == "done", second.text()[-500:])
-            is_now(second, "root")
-            follow(second)
-            sure(left.files()["turn"] == str(turn).encode(), left.files())
-            root.start()
-            is_now(root, "stands-by", second.name)
-            root.ask("demote")
-            root, second = second, root
+@of_tree({"second": "root", "left": "root"}, two, runs=False)
+def who_is_killed_while_it_is_promoted_may_be_promoted_again(tree, root, second, left):
+    begin(tree)
+    for turn, pause in enumerate((0, 0.001, 0.01, 0.03)):
+        root.write("turn", turn)
+        follow(root)
+        root.kill()
+        with concurrent.futures.ThreadPoolExecutor(1) as pool:
+            asked = pool.submit(second.request, 20, do="promote")
+            time.sleep(pause)
+            second.restart()
+            asked.result()
+        sure(until(second.status), second.text()[-500:])
+        said = second.request(20, do="promote")
+        if said != "done" and second.status()["standby"] == "below":
+            # (it has its files, but has heard no whole table since it began)
+            sure("not a whole table" in str(said), said, second.text()[-500:])
+            for key, value in second.files().items():
+                second.write(key, value)
+            sure(second.request(20, do="promote", as_is=True) == "done", second.text()[-500:])
+        is_now(second, "root")
+        follow(second)
+        sure(left.files()["turn"] == str(turn).encode(), left.files())
+        root.start()
+        is_now(root, "stands-by", second.name)
+        root.ask("demote")
+        root, second = second, root

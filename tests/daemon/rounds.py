@@ -15,11 +15,11 @@ import struct
 import subprocess
 import tempfile
 
-from daemons import HOME, Tree, becomes, chain, root_has, running, until, very_patient
+from daemons import HOME, becomes, chain, of_tree, root_has, until, very_patient
 from memory import write_over
 from protocol import listener, look, take_hello
-from relay import between
-from runner import sure, test
+from relay import between, turn
+from runner import sure
 
 # The commit of the last release, and the digest of its daemon.
 LAST = ("91ab645429d198624dab46bcf44db430281548a9",
@@ -50,31 +50,31 @@ def lacks_last():
     return None if last_release() else f"this clone has no commit {LAST[0][:8]}"
 
 
-@test(needs=lacks_last)
-def the_last_release_and_this_one_make_a_tree():
-    """From the root down each agent is ended and comes back as this release, and the other way."""
-    def by_parent(tree):
-        tree.root.top["children"] = [tree["a1"].at()]
-        tree["a1"].top.update(parents=["root"], listen=f"127.0.0.1:{tree['a1'].port}")
-        for agent in tree:
-            agent.program = last_release()
+def of_last_release(tree):
+    """All agents are, and one is connected to by its parent."""
+    turn(tree["a1"])
+    for agent in tree:
+        agent.program = last_release()
 
-    with running(chain(3), by_parent) as tree:
-        agents = list(tree)
-        whole = [[it.name for it in agents[:at + 1]] for at in range(len(agents))]
-        for turn, program in enumerate((None, last_release())):
-            for at, agent in enumerate(agents if program is None else agents[::-1]):
-                tree.write("while_up", f"{turn} {at}")
-                agent.kill()
-                tree.write("while_down", f"{turn} {at}")
-                agent.program = program
-                agent.start()
-                tree.settles()
-                # (by the oldest version that both know, no way would be said)
-                becomes(lambda: [it.status().get("way") for it in agents], whole, agent.name)
-            tree.root.ask("round")
-            tree.is_ready()
+
+@of_tree(chain(3), of_last_release, needs=lacks_last)
+def the_last_release_and_this_one_make_a_tree(tree):
+    """From the root down each agent is ended and comes back as this release, and the other way."""
+    agents = list(tree)
+    whole = [[it.name for it in agents[:at + 1]] for at in range(len(agents))]
+    for number, program in enumerate((None, last_release())):
+        for at, agent in enumerate(agents if program is None else agents[::-1]):
+            tree.write("while_up", f"{number} {at}")
+            agent.kill()
+            tree.write("while_down", f"{number} {at}")
+            agent.program = program
+            agent.start()
             tree.settles()
+            # (by the oldest version that both know, no way would be said)
+            becomes(lambda: [it.status().get("way") for it in agents], whole, agent.name)
+        tree.root.ask("round")
+        tree.is_ready()
+        tree.settles()
 
 
 def passed(tree, relays, act=lambda: None):
@@ -88,42 +88,40 @@ def passed(tree, relays, act=lambda: None):
     return [relay.passed - count for relay, count in zip(relays, before)]
 
 
-@test
-def a_round_of_what_is_right_sends_no_table():
-    with Tree({"hub": "root", "leaf": "hub"}, root_has(round="1h", harmless=7)) as tree:
-        _, hub, leaf = tree
-        relays = [between(agent) for agent in (hub, leaf)]
-        tree.begin()
-        bulk = random.Random(4).randbytes(BULK)
-        first = passed(tree, relays, lambda: tree.write("bulk", bulk))
-        sure(all(BULK < count < 2 * BULK for count in first), first)
+@of_tree({"hub": "root", "leaf": "hub"}, root_has(round="1h", harmless=7), runs=False)
+def a_round_of_what_is_right_sends_no_table(tree, _, hub, leaf):
+    relays = [between(agent) for agent in (hub, leaf)]
+    tree.begin()
+    bulk = random.Random(4).randbytes(BULK)
+    first = passed(tree, relays, lambda: tree.write("bulk", bulk))
+    sure(all(BULK < count < 2 * BULK for count in first), first)
 
-        def is_few(what, act=lambda: None):
-            sent = passed(tree, relays, act)
-            sure(max(sent) < FEW, what, sent)
+    def is_few(what, act=lambda: None):
+        sent = passed(tree, relays, act)
+        sure(max(sent) < FEW, what, sent)
 
-        def is_much_at_the_leaf(act=lambda: None):
-            sent = passed(tree, relays, act)
-            sure(sent[1] > BULK and sent[0] < FEW, sent)
-            is_few("nothing since then")
+    def is_much_at_the_leaf(act=lambda: None):
+        sent = passed(tree, relays, act)
+        sure(sent[1] > BULK and sent[0] < FEW, sent)
+        is_few("nothing since then")
 
-        is_few("nothing")
-        is_few("a change", lambda: tree.publish("colour", "red"))
-        # what somebody changed there is mended by what the agent itself has
-        for agent in (leaf, hub):
-            is_few("files", lambda: (agent.settings / "bulk").write_bytes(bulk[::-1]))
-            is_few("files", lambda: (agent.settings / "other").write_text("not named"))
-            sure(agent.status()["mended"] > 0, agent.status())
-        # one that begins anew asks for the whole table, and nobody else does
-        is_much_at_the_leaf(leaf.restart)
-        # so does one whose memory was spoilt; whatever it makes of that is compared
-        spoilt = bytes(byte ^ 255 for byte in bulk[:64])
-        sure(write_over(leaf.process.pid, {bulk[:64]: spoilt}) > 0)
-        is_much_at_the_leaf()
+    is_few("nothing")
+    is_few("a change", lambda: tree.publish("colour", "red"))
+    # what somebody changed there is mended by what the agent itself has
+    for agent in (leaf, hub):
+        is_few("files", lambda: (agent.settings / "bulk").write_bytes(bulk[::-1]))
+        is_few("files", lambda: (agent.settings / "other").write_text("not named"))
+        sure(agent.status()["mended"] > 0, agent.status())
+    # one that begins anew asks for the whole table, and nobody else does
+    is_much_at_the_leaf(leaf.restart)
+    # so does one whose memory was spoilt; whatever it makes of that is compared
+    spoilt = bytes(byte ^ 255 for byte in bulk[:64])
+    sure(write_over(leaf.process.pid, {bulk[:64]: spoilt}) > 0)
+    is_much_at_the_leaf()
 
 
-@test
-def versions_that_do_not_meet_are_named_by_both_ends():
+@of_tree({"leaf": "root"}, very_patient, runs=False)
+def versions_that_do_not_meet_are_named_by_both_ends(tree, root, leaf):
     """The crates show how versions are chosen: here it is seen what an operator is told."""
     theirs = struct.unpack(">H", bytes([7, 9]))[0]
     words = "it speaks versions 7 to 9 of the protocol, and this agent 1 to 3"
@@ -134,22 +132,20 @@ def versions_that_do_not_meet_are_named_by_both_ends():
         sure(words in agent.run("status").stdout, agent.run("status"))
 
     # (what is said of the first look stands as long as another one waits)
-    with Tree({"leaf": "root"}, very_patient) as tree:
-        root, leaf = tree
-        # a parent of a later release
-        with listener(root) as later:
-            leaf.start()
-            with later.accept()[0] as line:
-                line.settimeout(60)
-                take_hello(line, b"RGNL\x02")
-                line.sendall(look("root", "leaf", theirs))
-                is_told(leaf, "no_parent")
-        # and a child of one
-        leaf.kill()
-        root.start()
-        sure(until(root.up), root.text())
-        with root.connect() as line:
-            line.sendall(look("leaf", "root", theirs))
+    # a parent of a later release
+    with listener(root) as later:
+        leaf.start()
+        with later.accept()[0] as line:
+            line.settimeout(60)
             take_hello(line, b"RGNL\x02")
-            is_told(root, "last_refused")
-            sure("calls itself leaf" in root.status()["last_refused"], root.status())
+            line.sendall(look("root", "leaf", theirs))
+            is_told(leaf, "no_parent")
+    # and a child of one
+    leaf.kill()
+    root.start()
+    sure(until(root.up), root.text())
+    with root.connect() as line:
+        line.sendall(look("leaf", "root", theirs))
+        take_hello(line, b"RGNL\x02")
+        is_told(root, "last_refused")
+        sure("calls itself leaf" in root.status()["last_refused"], root.status())

@@ -6,9 +6,9 @@ import subprocess
 import time
 
 from blocked import SPOILS, preload
-from daemons import PATIENCE, Tree, becomes, root_has, running, took, until, very_patient
+from daemons import PATIENCE, becomes, of_tree, root_has, took, until, very_patient
 from protocol import Child
-from runner import sure, test
+from runner import sure
 
 
 def calls(agent):
@@ -17,36 +17,34 @@ def calls(agent):
     return path.read_text().splitlines() if path.exists() else []
 
 
-@test
-def nothing_is_everywhere_before_it_is_applied():
+@of_tree({"left": "root", "inner": "left", "leaf": "inner"}, runs=False)
+def nothing_is_everywhere_before_it_is_applied(tree, root, left, inner, leaf):
     """A new agent, and one that was away: each has older changes to apply when it already has a
     number that is as high. Its hooks hold neither its files nor its child back."""
-    with Tree({"left": "root", "inner": "left", "leaf": "inner"}) as tree:
-        root, left, inner, leaf = tree
-        go = inner.home / "go"
-        inner.hook(f"while [ -d {inner.home} ] && [ ! -e {go} ]; do sleep 0.02; done\n"
-                   f'echo "$2" >>{inner.home}/calls', hook_timeout="10m")
-        for at in range(4):
-            tree.write(f"k{at}", at)
-        tree.start([root, left, leaf])
-        tree.is_ready(root, left)
-        for turn, what in enumerate(("is new", "was away, and its folder is gone")):
-            number = root.ask("publish", "k3", f"new {turn}")["sequence"]
-            # (the table that it begins with is later than that change)
-            sure(until(lambda: left.status()["round"] > number))
-            inner.start()
-            tree.settles()
-            inner.becomes(whole=True)
-            sure("inner" in root.lacks("--everywhere", number) and inner.lacks(number),
-                 f"an agent that {what}: done, and its hooks ran for", calls(inner))
-            sure(calls(inner) == [], calls(inner))
-            go.touch()
-            tree.wait(number)
-            sure(set(calls(inner)) == {"k0", "k1", "k2", "k3"}, calls(inner))
-            inner.kill()
-            shutil.rmtree(inner.settings)
-            go.unlink()
-            (inner.home / "calls").unlink()
+    go = inner.home / "go"
+    inner.hook(f"while [ -d {inner.home} ] && [ ! -e {go} ]; do sleep 0.02; done\n"
+               f'echo "$2" >>{inner.home}/calls', hook_timeout="10m")
+    for at in range(4):
+        tree.write(f"k{at}", at)
+    tree.start([root, left, leaf])
+    tree.is_ready(root, left)
+    for turn, what in enumerate(("is new", "was away, and its folder is gone")):
+        number = root.ask("publish", "k3", f"new {turn}")["sequence"]
+        # (the table that it begins with is later than that change)
+        sure(until(lambda: left.status()["round"] > number))
+        inner.start()
+        tree.settles()
+        inner.becomes(whole=True)
+        sure("inner" in root.lacks("--everywhere", number) and inner.lacks(number),
+             f"an agent that {what}: done, and its hooks ran for", calls(inner))
+        sure(calls(inner) == [], calls(inner))
+        go.touch()
+        tree.wait(number)
+        sure(set(calls(inner)) == {"k0", "k1", "k2", "k3"}, calls(inner))
+        inner.kill()
+        shutil.rmtree(inner.settings)
+        go.unlink()
+        (inner.home / "calls").unlink()
 
 
 def compared(tree):
@@ -54,125 +52,116 @@ def compared(tree):
     return {it["name"]: it["compared"] for it in tree.root.ask("tree")}
 
 
-@test(needs="cc")
-def files_that_differ_are_seen():
+@of_tree({"left": "root", "leaf": "left", "relay": "left"}, runs=False, needs="cc")
+def files_that_differ_are_seen(tree, root, left, leaf, relay):
     """A disk spoils what an agent gives it: the agent's numbers say that all is applied. And of a
     folder that is gone, and in whose place a file lies, nothing is known."""
-    with Tree({"left": "root", "leaf": "left", "relay": "left"}) as tree:
-        root, left, leaf, relay = tree
-        del relay.tables["apply"]
-        spoils = preload(leaf, SPOILS)
-        root.tables["root"]["round"] = "500ms"
-        tree.write("size", 1)
-        tree.start()
-        tree.is_ready()
+    del relay.tables["apply"]
+    spoils = preload(leaf, SPOILS)
+    root.tables["root"]["round"] = "500ms"
+    tree.write("size", 1)
+    tree.start()
+    tree.is_ready()
 
-        def is_seen(as_):
-            becomes(lambda: compared(tree),
-                    {"root": "same", "left": "same", "relay": "nothing", "leaf": as_})
+    def is_seen(as_):
+        becomes(lambda: compared(tree),
+                {"root": "same", "left": "same", "relay": "nothing", "leaf": as_})
 
-        is_seen("same")
-        spoils.touch()
-        number = root.ask("publish", "colour", "blue")["sequence"]
-        becomes(lambda: leaf.files().get("colour"), b"glue")
-        sure(until(lambda: leaf.status()["applied"] >= number), leaf.status())
-        is_seen("differs")
-        why = root.lacks("--everywhere", number, seconds=3)
-        sure("leaf has other settings in its files" in why, why)
-        root.becomes(differing=1)
-        who = {it["agent"]: it["note"] for it in root.ask("get", "colour", "--everywhere")}
-        sure(who["leaf"] == "not known: its files differ" and who["left"] == "", who)
-        sure(leaf.run("get", "colour").stdout == "glue", leaf.run("get", "colour"))
-        sure(" differ " in root.run("tree").stdout, root.run("tree").stdout)
-        # (at another agent nothing is compared)
-        sure({it["compared"] for it in left.ask("tree")} == {"nothing"})
-        # a round looks at the file, and writes it anew
-        spoils.unlink()
-        tree.wait(number)
-        sure(leaf.files()["colour"] == b"blue", leaf.files())
-        is_seen("same")
-        # (what lies there the agent does not take away)
-        shutil.rmtree(leaf.settings)
-        leaf.settings.write_text("somebody's")
-        is_seen("not-known")
-        sure(leaf.status()["failing"] and root.lacks("--everywhere"), leaf.status())
-        leaf.settings.unlink()
-        tree.wait()
-        is_seen("same")
-        tree.settles(root, left, leaf)
+    is_seen("same")
+    spoils.touch()
+    number = root.ask("publish", "colour", "blue")["sequence"]
+    becomes(lambda: leaf.files().get("colour"), b"glue")
+    sure(until(lambda: leaf.status()["applied"] >= number), leaf.status())
+    is_seen("differs")
+    why = root.lacks("--everywhere", number, seconds=3)
+    sure("leaf has other settings in its files" in why, why)
+    root.becomes(differing=1)
+    who = {it["agent"]: it["note"] for it in root.ask("get", "colour", "--everywhere")}
+    sure(who["leaf"] == "not known: its files differ" and who["left"] == "", who)
+    sure(leaf.run("get", "colour").stdout == "glue", leaf.run("get", "colour"))
+    sure(" differ " in root.run("tree").stdout, root.run("tree").stdout)
+    # (at another agent nothing is compared)
+    sure({it["compared"] for it in left.ask("tree")} == {"nothing"})
+    # a round looks at the file, and writes it anew
+    spoils.unlink()
+    tree.wait(number)
+    sure(leaf.files()["colour"] == b"blue", leaf.files())
+    is_seen("same")
+    # (what lies there the agent does not take away)
+    shutil.rmtree(leaf.settings)
+    leaf.settings.write_text("somebody's")
+    is_seen("not-known")
+    sure(leaf.status()["failing"] and root.lacks("--everywhere"), leaf.status())
+    leaf.settings.unlink()
+    tree.wait()
+    is_seen("same")
+    tree.settles(root, left, leaf)
 
 
-@test
-def a_file_that_was_moved_in_is_waited_for():
-    with running({"left": "root", "leaf": "left"}, root_has(round="1h")) as tree:
-        script = ('printf %s "$1" >"$2/.new"; mv "$2/.new" "$2/key"; shift 2; '
-                  'exec "$@" --everywhere')
-        early = []
-        for at in range(40):
-            subprocess.run(["sh", "-c", script, "sh", str(at), tree.root.truth,
-                            *tree.root.command("wait")], check=True, timeout=60)
-            # (what wait says is so at once)
-            if tree["leaf"].files().get("key") != b"%d" % at:
-                early.append(at)
-        sure(not early, "wait ended too early in", early)
+@of_tree({"left": "root", "leaf": "left"}, root_has(round="1h"))
+def a_file_that_was_moved_in_is_waited_for(tree):
+    script = ('printf %s "$1" >"$2/.new"; mv "$2/.new" "$2/key"; shift 2; '
+              'exec "$@" --everywhere')
+    early = []
+    for at in range(40):
+        subprocess.run(["sh", "-c", script, "sh", str(at), tree.root.truth,
+                        *tree.root.command("wait")], check=True, timeout=60)
+        # (what wait says is so at once)
+        if tree["leaf"].files().get("key") != b"%d" % at:
+            early.append(at)
+    sure(not early, "wait ended too early in", early)
 
 
-@test
-def a_wait_ends_in_its_time():
-    with running({"left": "root"}, very_patient) as tree:
-        root, left = tree
-        # (where no child takes anything, the root publishes no more)
-        left.signal(signal.SIGSTOP)
+@of_tree({"left": "root"}, very_patient)
+def a_wait_ends_in_its_time(tree, root, left):
+    # (where no child takes anything, the root publishes no more)
+    left.signal(signal.SIGSTOP)
 
-        def is_full():
-            tree.write("one", time.monotonic())
-            return "not all of its folder is published" in root.lacks()
+    def is_full():
+        tree.write("one", time.monotonic())
+        return "not all of its folder is published" in root.lacks()
 
-        sure(until(is_full), "it publishes all the time")
-        seconds = took(root.lacks)
-        sure(seconds < 3 * PATIENCE, seconds)
-        left.signal(signal.SIGCONT)
-        tree.wait()
-        sure(left.files() == tree.truth())
+    sure(until(is_full), "it publishes all the time")
+    seconds = took(root.lacks)
+    sure(seconds < 3 * PATIENCE, seconds)
+    left.signal(signal.SIGCONT)
+    tree.wait()
+    sure(left.files() == tree.truth())
 
 
-@test
-def a_last_acknowledgement_is_news():
-    with running({"left": "root", "slow": "left"}, very_patient, root_has(round="1h"),
-                 without=["slow"]) as tree:
-        slow = Child(tree["left"], "slow")
-        backlog = lambda: [it["backlog"] for it in tree.root.ask("tree") if it["name"] == "left"]
-        becomes(backlog, [0])
-        slow.may.clear()
-        tree.root.ask("publish", "two", "2")
-        becomes(backlog, [1])
-        slow.may.set()
-        # (what is no news is said again after 30 seconds)
-        sure(until(lambda: backlog() == [0], 20 / PATIENCE), "the root hears late of", backlog())
-        slow.close()
+@of_tree({"left": "root", "slow": "left"}, very_patient, root_has(round="1h"), without=["slow"])
+def a_last_acknowledgement_is_news(tree):
+    slow = Child(tree["left"], "slow")
+    backlog = lambda: [it["backlog"] for it in tree.root.ask("tree") if it["name"] == "left"]
+    becomes(backlog, [0])
+    slow.may.clear()
+    tree.root.ask("publish", "two", "2")
+    becomes(backlog, [1])
+    slow.may.set()
+    # (what is no news is said again after 30 seconds)
+    sure(until(lambda: backlog() == [0], 20 / PATIENCE), "the root hears late of", backlog())
+    slow.close()
 
 
-@test
-def two_agents_of_one_name_are_counted():
-    with running({"left": "root", "right": "root"}) as tree:
-        root, left, _ = tree
-        clashes = lambda: [it["clashes"] for it in root.status()["children"]]
-        # (one that starts again and again is none)
-        for _ in range(4):
-            left.restart()
-            sure(until(left.up))
-        sure(clashes() == [0, 0], clashes())
-        twin = tree.add("twin", "root")
-        twin.name = "left"
-        twin.start()
-        sure(until(lambda: clashes()[0] > 2), clashes())
-        sure(clashes()[1] == 0 and root.said("clash left") == 1, clashes())
-        # (and they do not connect without end)
-        before, begun = root.said("connected left"), time.monotonic()
-        time.sleep(2)
-        times = (root.said("connected left") - before) / (time.monotonic() - begun)
-        sure(times < 20, "they connect", times, "times a second")
-        twin.kill()
-        del tree.agents["twin"]
-        tree.write("after", "that")
-        tree.settles()
+@of_tree({"left": "root", "right": "root"})
+def two_agents_of_one_name_are_counted(tree, root, left):
+    clashes = lambda: [it["clashes"] for it in root.status()["children"]]
+    # (one that starts again and again is none)
+    for _ in range(4):
+        left.restart()
+        sure(until(left.up))
+    sure(clashes() == [0, 0], clashes())
+    twin = tree.add("twin", "root")
+    twin.name = "left"
+    twin.start()
+    sure(until(lambda: clashes()[0] > 2), clashes())
+    sure(clashes()[1] == 0 and root.said("clash left") == 1, clashes())
+    # (and they do not connect without end)
+    before, begun = root.said("connected left"), time.monotonic()
+    time.sleep(2)
+    times = (root.said("connected left") - before) / (time.monotonic() - begun)
+    sure(times < 20, "they connect", times, "times a second")
+    twin.kill()
+    del tree.agents["twin"]
+    tree.write("after", "that")
+    tree.settles()
