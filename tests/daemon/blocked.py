@@ -50,17 +50,13 @@ int unlink(const char *path)
     return syscall(SYS_unlinkat, AT_FDCWD, path, 0);
 }
 """
-# (a file that came to its place in the root's folder is one that the root does not know of yet, and
-# that of `colour` does not come to its place)
+# (the file of `colour` does not come to its place)
 SLOW_RENAME = """
 int rename(const char *from, const char *to)
 {
     if (strstr(to, "/colour") && is_there())
         waits();
-    int moved = syscall(SYS_renameat2, AT_FDCWD, from, AT_FDCWD, to, 0);
-    if (strstr(to, "/truth/") && is_there())
-        waits();
-    return moved;
+    return syscall(SYS_renameat2, AT_FDCWD, from, AT_FDCWD, to, 0);
 }
 """
 # (what is written is spoiled on its way, and the call says that all is well)
@@ -160,24 +156,6 @@ def an_end_waits_for_no_reader(tree, root):
         if at % 10 == 0:
             sure(answers(root), "it does not answer after", at)
     ends(root)
-
-
-@of_tree({"left": "root"}, runs=False, needs="cc")
-def what_others_write_while_a_setting_is_published_is_carried(tree):
-    root, slow = tree.root, preload(tree.root, SLOW_RENAME)
-    root.tables["root"]["round"] = "1h"
-    tree.begin()
-    began = slow.with_name("slow.began")
-    for value in "1", "2":
-        slow.touch()
-        with subprocess.Popen(root.command("publish", "key0", value),
-                              stdout=subprocess.DEVNULL) as publish:
-            sure(until(began.exists), "it is not written")
-            (root.truth / "key0").write_text(f"later than {value}")
-            slow.unlink()
-            sure(publish.wait() == 0, "it is not published")
-        began.unlink()
-        tree.settles()
 
 
 @of_tree({"left": "root"}, runs=False, begins=True, needs="cc")

@@ -161,10 +161,10 @@ def only_the_right_certificate_is_let_in(tree, root, false, leaf, strange, liar,
     # (each says why it has no parent when it was refused first)
     for agent in bad:
         agent.says("parent 127.0.0.1")
-    sure(until(lambda: tree.root.status()["refused"] >= 3), tree.root.status())
-    tree["liar"].says("certificate no DNS name of its SAN is `liar`")
-    tree.root.says("by its certificate inner2, which calls itself liar: its certificate has "
-                   "another name")
+    sure(until(lambda: root.status()["refused"] >= 3), root.status())
+    liar.says("certificate no DNS name of its SAN is `liar`")
+    why = "which calls itself liar: its certificate has another name"
+    root.says(f"by its certificate inner2, {why}")
     tree.write("after", "that")
     tree.settles(*good)
     for agent in bad:
@@ -470,7 +470,7 @@ def counts_are_there_for_prometheus(tree, root):
 def it_is_installed_packed_and_removed(tree):
     def make(*words):
         status, said = ran("make", "-s", "-C", PACKAGING, f"BIN={tree.bin}", *words,
-                                  env={**os.environ, "DPKG_DEB_COMPRESSOR_TYPE": "none"})
+                           env={**os.environ, "DPKG_DEB_COMPRESSOR_TYPE": "none"})
         sure(not status, said)
 
     house = tree.home / "house"

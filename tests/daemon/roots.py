@@ -25,7 +25,7 @@ def begin(tree):
     for number in range(8):
         tree.write(f"key{number}", f"value {number}")
     tree.start()
-    sure(until(tree.root.socket.exists), tree.root.text())
+    sure(until(tree.root.status), tree.root.text())
     tree.root.ask("promote", "--as-is")
     tree.is_ready()
     tree.settles()

@@ -45,8 +45,8 @@ def run(function, name=None):
 
 
 def options(*names, **usual):
-    """What the command line says for a script of this page: words of some names, and options, each
-    with what is usual, which is nothing, a number, or a text."""
+    """What the command line says for a script: words of some names, and options, each with what is
+    usual, which is nothing, a number or a text."""
     words = argparse.ArgumentParser(description=sys.modules["__main__"].__doc__,
                                     formatter_class=argparse.RawDescriptionHelpFormatter)
     for name in names:
