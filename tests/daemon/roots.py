@@ -79,13 +79,12 @@ def an_agent_that_is_promoted_goes_on_and_the_old_root_stands_by(tree, root, sec
     root.start()
     is_now(root, "root")
     sure(until(lambda: second.status()["applied"] > far), second.status())
-    # others have more than it has seen, and then there is no root
+    # others have more than it has seen, and could publish soon, and then there is no root
     known = second.files()
     second.kill()
-    number = 0
-    for turn in range(20):
-        number = root.ask("publish", "later", str(turn))["sequence"]
-    becomes(lambda: deep.files().get("later"), b"19")
+    with root.publisher() as publish:
+        numbers = [publish("later", str(turn)) for turn in range(300)]
+    becomes(lambda: deep.files().get("later"), b"299")
     root.kill()
     before = strays(tree)
     second.start()
@@ -97,7 +96,7 @@ def an_agent_that_is_promoted_goes_on_and_the_old_root_stands_by(tree, root, sec
     follow(second)
     # (nothing that it published was older than what they had)
     sure(strays(tree) == {**before, "second": 0}, before, strays(tree))
-    sure(second.status()["sequence"] > number, second.status(), number)
+    sure(second.status()["sequence"] > numbers[-1], second.status(), numbers[-1])
     second.write("key1", "of the second")
     second.ask("publish", "key2", "of the second too")
     follow(second)
