@@ -92,7 +92,7 @@ def main():
             cost_of_changes(trees, words.changes)
     finally:
         for tree in trees:
-            tree.__exit__(None, None, None)
+            tree.close()
 
 
 if __name__ == "__main__":

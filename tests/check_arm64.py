@@ -98,7 +98,7 @@ def tries_tree(cases, room, before):
             tree[name].program = room / "arm64/rignoldad"
 
     try:
-        with daemons.running(before=before_it_starts) as tree:
+        with daemons.running(None, before_it_starts) as tree:
             for name in "left", "left1":
                 tree[name].kill()
                 tree.write("while", f"{name} is away")

@@ -63,7 +63,7 @@ def main():
                 cases.holds("the kept programs are those of the sources", status == 0)
             os.environ.update(ONCE)
             of_sources(cases)
-            cases.works("the fuzzer's targets and planted bugs fit", "tests/daemon/fuzz", "--fits")
+            cases.works("the fuzzer's targets fit", "tests/daemon/fuzz.py", "--fits")
         if shutil.which("cargo"):
             cases.works("the tests of the library for Rust", "cargo", "test", *OFFLINE, *LIBRARY,
                         *APART)

@@ -6,6 +6,7 @@ control socket and its log. An agent is known by a name such as `root`, `left`, 
 import atexit
 import contextlib
 import functools
+import http.client
 import itertools
 import json
 import os
@@ -22,9 +23,10 @@ import tempfile
 import threading
 import time
 
-from runner import sure
+from runner import sure, test
 
 HOME = pathlib.Path(__file__).resolve().parents[2]
+PACKAGING = HOME / "rust/rignoldad/packaging"
 SEVEN = {"left": "root", "right": "root", "left1": "left", "left2": "left", "right1": "right",
          "right2": "right"}
 
@@ -62,6 +64,16 @@ def until(what, seconds=USUAL, pause=0.01):
         time.sleep(pause)
 
 
+def becomes(value, expected, *words, pause=0.01):
+    """Asserts that what a function gives comes to be what is expected, and says what it gave."""
+    given = []
+
+    def holds():
+        given[:] = [value()]
+        return given == [expected]
+    sure(until(holds, pause=pause), *words, *given, "is not", expected)
+
+
 def during(seconds):
     """0, 1, 2 and so on, until so many seconds have passed."""
     end = time.monotonic() + seconds
@@ -82,20 +94,17 @@ def free_port():
     """A port that nobody has, and that no connection is given by the system."""
     while True:
         port = random.SystemRandom().randrange(12_000, 32_000)
-        with socket.socket() as sock:
+        with socket.socket() as sock, contextlib.suppress(OSError):
             sock.setsockopt(socket.SOL_SOCKET, socket.SO_REUSEADDR, 1)
-            try:
-                sock.bind(("127.0.0.1", port))
-            except OSError:
-                continue
-        if port not in GIVEN:
-            GIVEN.add(port)
-            return port
+            sock.bind(("127.0.0.1", port))
+            if port not in GIVEN:
+                GIVEN.add(port)
+                return port
 
 
-def toml(value):
-    """A value of TOML: what JSON writes for texts, numbers and lists is one."""
-    return json.dumps(value)
+def toml(table):
+    """The lines of a table of TOML: what JSON writes for texts, numbers and lists is a value."""
+    return [f"{key} = {json.dumps(value)}" for key, value in table.items()]
 
 
 class Agent:
@@ -106,9 +115,8 @@ class Agent:
         self.home = tree.home / name
         self.home.mkdir()
         self.port = free_port()
-        self.settings = self.home / "settings"
-        self.socket = self.home / "control"
-        self.log = self.home / "log"
+        self.settings, self.socket = self.home / "settings", self.home / "control"
+        self.log, self.file = self.home / "log", self.home / "agent.toml"
         self.process = None
         self.children = []
         self.tables = {"link": {"ack_timeout": "500ms", "evict": "1s"},
@@ -119,8 +127,7 @@ class Agent:
         self.program = None     # its daemon, where it is another one
         self.env = {"RIGNOLDA_TRACE": "1"}
         if parent:
-            self.top["parents"] = [f"{parent.name}@127.0.0.1:{parent.port}"]
-            parent.children.append(self)
+            self.below(parent)
         else:
             self.truth = self.home / "truth"
             self.truth.mkdir()
@@ -128,21 +135,26 @@ class Agent:
             (self.truth / ".empty").touch()
             self.tables["root"] = {"settings": str(self.truth), "round": "1s"}
 
+    def at(self, port=None):
+        """How a configuration names it, where it is to be connected to."""
+        return f"{self.name}@127.0.0.1:{port or self.port}"
+
+    def below(self, *parents):
+        """From its next start on it has these parents, after those that it has."""
+        self.top["parents"] = self.top.get("parents", []) + [parent.at() for parent in parents]
+        for parent in parents:
+            parent.children.append(self)
+
     def configure(self):
         """Writes the configuration anew."""
         top = {"name": self.name, "control": str(self.socket), **self.top}
-        if self.children and "children" not in self.top:
-            top["children"] = [child.name for child in self.children]
+        if self.children:
+            top.setdefault("children", [child.name for child in self.children])
         if "children" in top:
             top.setdefault("listen", f"127.0.0.1:{self.port}")
-        lines = [f"{key} = {toml(value)}" for key, value in top.items()]
-        for table, keys in self.tables.items():
-            lines.append(f"[{table}]")
-            lines.extend(f"{key} = {toml(value)}" for key, value in keys.items())
-        for keys in self.hooks:
-            lines.append("[[hook]]")
-            lines.extend(f"{key} = {toml(value)}" for key, value in keys.items())
-        self.file = self.home / "agent.toml"
+        tables = [(f"[{name}]", table) for name, table in self.tables.items()]
+        tables += [("[[hook]]", table) for table in self.hooks]
+        lines = toml(top) + [line for head, table in tables for line in (head, *toml(table))]
         self.file.write_text("\n".join(lines) + "\n")
 
     def start(self):
@@ -170,7 +182,9 @@ class Agent:
     def reload(self):
         """Has its configuration written and read anew."""
         self.configure()
+        done = self.said("reload done")
         self.signal(signal.SIGHUP)
+        sure(until(lambda: self.said("reload done") > done), self.text()[-500:])
 
     def alive(self):
         return self.process is not None and self.process.poll() is None
@@ -178,6 +192,15 @@ class Agent:
     def hook(self, text, **more):
         """From its next start on it has this hook, and more about it."""
         self.tables["apply"].update(hook=self.hook_of("hook", text), **more)
+
+    def hook_of(self, name, text):
+        """A program of its own that does this."""
+        hook = self.home / name
+        hook.write_text(f"#!/bin/sh\n{text}\n")
+        hook.chmod(0o755)
+        return str(hook)
+
+    # ---- What it is asked
 
     def connect(self):
         """A connection to where it listens."""
@@ -190,7 +213,7 @@ class Agent:
         sock.connect(str(self.socket))
         return sock
 
-    def request(self, seconds=5.0, **words):
+    def request(self, seconds=USUAL * PATIENCE, **words):
         """What it answers to one request of this process; nothing where it does not answer."""
         try:
             with self.client(seconds) as sock:
@@ -199,22 +222,51 @@ class Agent:
         except (OSError, ValueError):
             return {}
 
-    def run(self, *words):
+    def status(self, seconds=USUAL * PATIENCE):
+        return self.request(seconds, do="status").get("status", {})
+
+    def up(self):
+        """Whether it answers, and has its parent and a whole table."""
+        status = self.status()
+        return bool(status.get("whole")) and (status["is_root"] or status["parent"] is not None)
+
+    def becomes(self, **facts):
+        """Asserts that its status comes to say this."""
+        def said():
+            status = self.status()
+            return {key: status.get(key) for key in facts}
+        becomes(said, facts, self.name, pause=0.05)
+
+    def command(self, *words):
+        """The words of rignoldactl, where it is asked."""
+        return [self.tree.bin / "rignoldactl", "--socket", self.socket, *map(str, words)]
+
+    def run(self, *words, **options):
         """How rignoldactl ends, and what it prints as text."""
-        command = [self.tree.bin / "rignoldactl", "--socket", self.socket, *map(str, words)]
-        return subprocess.run(command, capture_output=True, text=True, timeout=120)
+        options = {"capture_output": True, "text": True, "timeout": 120, **options}
+        return subprocess.run(self.command(*words), **options)
 
     def refuses(self, why, *words, status=1):
         """Has a command refused, and says why."""
         done = self.run(*words)
         sure(done.returncode == status and why in done.stderr and not done.stdout, why, done)
 
-    def hook_of(self, name, text):
-        """A program of its own that does this."""
-        hook = self.home / name
-        hook.write_text(f"#!/bin/sh\n{text}\n")
-        hook.chmod(0o755)
-        return str(hook)
+    def ask(self, *words, value=None, check=True):
+        """What rignoldactl prints, as JSON; where it is refused, `error`."""
+        given = {"stdin": subprocess.DEVNULL} if value is None else {"input": value}
+        end = time.monotonic() + USUAL * PATIENCE
+        while True:
+            done = self.run("--json", *words, text=False, **given)
+            # (on a machine with much else to do it may get no answer in its ten seconds: EAGAIN)
+            if b"(os error 11)" not in done.stderr or time.monotonic() >= end:
+                break
+        if check and done.returncode:
+            raise RuntimeError(f"{self.name}: {' '.join(map(str, words))}: {done.stderr.decode()}")
+        return json.loads(done.stdout or "{}")
+
+    def lacks(self, *words, seconds=1):
+        """Why a wait is not done in this time; nothing where it is."""
+        return self.ask("wait", "--timeout", f"{seconds}s", *words, check=False).get("error", "")
 
     @contextlib.contextmanager
     def publisher(self):
@@ -228,40 +280,17 @@ class Agent:
                 return json.loads(said)["published"]
             yield publish
 
-    def counts(self, path="/metrics", method="GET"):
-        """What is answered there: the first line, and the text."""
-        at = "127.0.0.1", self.metrics
-        with socket.create_connection(at, timeout=USUAL * PATIENCE) as sock:
-            sock.sendall(f"{method} {path} HTTP/1.1\r\nHost: x\r\n\r\n".encode())
-            said = b"".join(iter(lambda: sock.recv(1 << 16), b"")).decode()
-        head, _, text = said.partition("\r\n\r\n")
-        return head.splitlines()[0], text
+    def page(self, path, method="GET"):
+        """What is answered where its metrics are: the status, the headers, and the text."""
+        link = http.client.HTTPConnection("127.0.0.1", self.metrics, timeout=USUAL * PATIENCE)
+        link.request(method, path)
+        with contextlib.closing(link), link.getresponse() as answer:
+            return answer.status, answer.headers, answer.read().decode()
 
-    def ask(self, *words, value=None, check=True):
-        """What rignoldactl prints, as JSON; where it is refused, `error`."""
-        command = [self.tree.bin / "rignoldactl", "--json", "--socket", self.socket,
-                   *map(str, words)]
-        end = time.monotonic() + USUAL * PATIENCE
-        while True:
-            done = subprocess.run(command, input=value, capture_output=True, timeout=120,
-                                  stdin=None if value is not None else subprocess.DEVNULL)
-            # (on a machine with much else to do it may get no answer in its ten seconds: EAGAIN)
-            if b"(os error 11)" not in done.stderr or time.monotonic() >= end:
-                break
-        if check and done.returncode:
-            raise RuntimeError(f"{self.name}: {' '.join(map(str, words))}: {done.stderr.decode()}")
-        return json.loads(done.stdout or "{}")
+    def counts(self):
+        return self.page("/metrics")[2]
 
-    def status(self):
-        return self.ask("status")
-
-    def up(self):
-        """Whether it answers, and has its parent and a whole table."""
-        try:
-            status = self.status()
-        except RuntimeError:
-            return False
-        return status["whole"] and (status["is_root"] or status["parent"] is not None)
+    # ---- What it has
 
     def write(self, key, value):
         """Changes the folder of a root as an editor does."""
@@ -280,6 +309,11 @@ class Agent:
         """How many lines of its log contain these words."""
         return sum(words in line for line in self.text().splitlines())
 
+    def says(self, *words):
+        """Asserts that its log comes to have these words."""
+        for one in words:
+            sure(until(lambda: self.said(one)), self.name, "does not say", one, self.text()[-500:])
+
 
 def read(folder):
     """The regular files of a folder; what else is there has no bytes."""
@@ -293,26 +327,30 @@ def read(folder):
             if not isinstance(error, FileNotFoundError):
                 found[name] = None
             continue
-        try:
-            is_file = stat.S_ISREG(os.fstat(file).st_mode)
-            found[name] = open(file, "rb", closefd=False).read() if is_file else None
-        finally:
-            os.close(file)
+        is_file = stat.S_ISREG(os.fstat(file).st_mode)
+        found[name] = open(file, "rb", closefd=False).read() if is_file else None
+        os.close(file)
     return found
 
 
 class Tree:
-    """Agents on this machine. As a context it ends them, and removes their folders."""
+    """Agents on this machine, to which these acts are done before they start. As a context it ends
+    them and removes their folders; and no agent may have panicked."""
 
-    def __init__(self, shape=None, before=None):
+    def __init__(self, shape=None, *before):
         self.bin = binaries()
         self.home = pathlib.Path(tempfile.mkdtemp(prefix="rignolda-"))
+        self.ends = contextlib.ExitStack()      # what ends with it
         self.agents = {"root": Agent(self, "root", None)}
-        for name, parent in (SEVEN if shape is None else shape).items():
-            self.agents[name] = Agent(self, name, self.agents[parent])
         self.root = self.agents["root"]
-        if before:
-            before(self)
+        for name, parent in (SEVEN if shape is None else shape).items():
+            self.add(name, parent)
+        for act in before:
+            act(self)
+
+    def add(self, name, parent):
+        self.agents[name] = Agent(self, name, self.agents[parent])
+        return self.agents[name]
 
     def __getitem__(self, name):
         return self.agents[name]
@@ -324,9 +362,15 @@ class Tree:
         return self
 
     def __exit__(self, kind, value, trace):
+        panicked = [agent.name for agent in self if agent.said("panicked")]
+        self.close(keep=bool(kind and os.environ.get("KEEP")))
+        sure(kind or not panicked, "these panicked:", panicked)
+
+    def close(self, keep=False):
         for agent in self:
             agent.kill()
-        if kind is None or not os.environ.get("KEEP"):
+        self.ends.close()
+        if not keep:
             shutil.rmtree(self.home, ignore_errors=True)
 
     def start(self, agents=None):
@@ -339,27 +383,16 @@ class Tree:
             self.write(f"key{at}", f"value {at}")
         there = [agent for agent in self if agent.name not in without]
         self.start(there)
-        sure(until(lambda: all(agent.up() for agent in there), pause=0.05), "the tree is not ready",
-             [agent.text()[-300:] for agent in there])
-        sure(self.right(agents=there), "not the root's settings:", self.wrong(there))
+        self.is_ready(*there)
+        self.settles(*there)
         return there
 
-    def add(self, name, parent):
-        self.agents[name] = Agent(self, name, self.agents[parent])
-        return self.agents[name]
-
-    def twin(self, name):
-        """A second agent with a name and its parents."""
-        twin = Agent(self, "twin", None)
-        shutil.rmtree(twin.truth)
-        del twin.tables["root"]
-        twin.name, twin.top["parents"] = name, self[name].top["parents"]
-        self.agents["twin"] = twin
-        return twin
-
-    def ready(self, seconds=USUAL):
+    def ready(self, agents=()):
         """Whether each agent comes to have its parent and a whole table."""
-        return until(lambda: all(agent.up() for agent in self), seconds, 0.05)
+        return until(lambda: all(agent.up() for agent in agents or self), pause=0.05)
+
+    def is_ready(self, *agents):
+        sure(self.ready(agents), "not ready", [agent.text()[-300:] for agent in agents or self])
 
     def truth(self):
         return read(self.root.truth)
@@ -373,13 +406,21 @@ class Tree:
         """Whether all agents come to have the settings of the root's folder."""
         return until(lambda: not self.wrong(agents), seconds)
 
+    def settles(self, *agents):
+        """Asserts that they do, or these agents."""
+        sure(self.right(agents=agents), "other settings than the root's:", self.wrong(agents))
+
     def write(self, key, value):
         self.root.write(key, value)
+
+    def wait(self, *number):
+        """Waits until all agents have what the root's folder has, or a change of this number."""
+        self.root.ask("wait", "--everywhere", "--timeout", "60s", *number)
 
     def publish(self, *words, **given):
         """Has a change published, and come to be everywhere: its number."""
         number = self.root.ask("publish", *words, **given)["sequence"]
-        self.root.ask("wait", "--everywhere", "--timeout", "60s", number)
+        self.wait(number)
         return number
 
     def rounds(self, count=1):
@@ -398,27 +439,39 @@ class Tree:
         act()
         self.root.signal(signal.SIGCONT)
 
-    def reaches(self, *names, pause=0.01):
-        """Has a change reach these agents: after how many seconds."""
+    def reaches(self, *names):
+        """Has a change reach these agents."""
         value = f"probe {next(NUMBERS)}"
-        begun = time.monotonic()
         self.write("probe", value)
         for name in names:
             file = self[name].settings / "probe"
-            sure(until(lambda: file.exists() and file.read_text() == value, pause=pause),
+            sure(until(lambda: file.exists() and file.read_text() == value),
                  "a change does not reach", name)
-        return time.monotonic() - begun
 
 
 NUMBERS = itertools.count()
 
 
 @contextlib.contextmanager
-def running(shape=None, before=None, without=()):
+def running(shape=None, *before, without=()):
     """A tree whose agents, but for some, are there and have their settings."""
-    with Tree(shape, before) as tree:
+    with Tree(shape, *before) as tree:
         tree.begin(without)
         yield tree
+
+
+def of_tree(shape=None, *before, without=(), runs=True, **how):
+    """Makes a function a test of a tree, which runs but for some agents, or is only made. It takes
+    the tree, and as many of its agents as it names."""
+    def made(function):
+        @functools.wraps(function)
+        def tried():
+            with Tree(shape, *before) as tree:
+                if runs:
+                    tree.begin(without)
+                function(tree, *itertools.islice(tree, function.__code__.co_argcount - 1))
+        return test(tried, **how)
+    return made
 
 
 def root_has(**keys):
@@ -463,15 +516,6 @@ def meanwhile(*acts):
             thread.join()
 
 
-def flips(folder):
-    """Makes a file a pipe, and a file again: it may be another one when it is opened."""
-    for kind, make in (("file", pathlib.Path.touch), ("pipe", os.mkfifo)):
-        new = folder / f".{kind}{threading.get_ident()}"
-        with contextlib.suppress(FileExistsError):
-            make(new)
-        new.rename(folder / "flips")
-
-
 # ---- What is measured of a process
 
 def memory(agent, what="VmHWM"):
@@ -484,6 +528,15 @@ def forget(agent):
     """Begins to measure anew."""
     pathlib.Path(f"/proc/{agent.process.pid}/clear_refs").write_text("5")
     return memory(agent)
+
+
+@contextlib.contextmanager
+def bounded(agent, most):
+    """Asserts that meanwhile an agent's memory grows by so many MiB at most."""
+    before = forget(agent)
+    yield
+    grew = memory(agent) - before
+    sure(grew < most, agent.name, "grew by", grew, "MiB, of", most)
 
 
 def descriptors(agent):
@@ -519,30 +572,17 @@ def certify(home, name, seconds=86_400, authority="authority", more=""):
             "authority": str(home / "ca.crt")}
 
 
-def certify_foreign(tree, name, authority="authority"):
-    """The same, of another authority, which may have the name of the one that all know."""
-    table = certify(tree.home / "other", name, authority=authority)
-    return {**table, "authority": str(tree.home / "ca.crt")}
-
-
 def by_tls(tree):
     for agent in tree:
         agent.tables["tls"] = certify(tree.home, agent.name)
 
 
-def secure(tree):
-    """All agents are patient, and speak TLS."""
-    patient(tree)
-    by_tls(tree)
-
-
-def tls(home, name=None):
+def tls(home, name):
     """A client's side of TLS, by the certificate of this name."""
     context = ssl.SSLContext(ssl.PROTOCOL_TLS_CLIENT)
     context.check_hostname = False
     context.load_verify_locations(home / "ca.crt")
-    if name:
-        context.load_cert_chain(home / f"{name}.crt", home / f"{name}.key")
+    context.load_cert_chain(home / f"{name}.crt", home / f"{name}.key")
     return context
 
 

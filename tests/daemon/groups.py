@@ -2,9 +2,9 @@
 """
 import shutil
 
-from daemons import Tree, patient, read, until
+from daemons import becomes, of_tree, patient, read, root_has
 from operating import digest, holders
-from runner import sure, test
+from runner import sure
 
 OF = {"root": [], "left": ["canary", "eu"], "leaf": [], "right": ["eu"]}
 SHAPE = {"left": "root", "leaf": "left", "right": "root"}
@@ -24,13 +24,11 @@ def counting(truth, groups):
 def wrong(tree):
     truth = tree.truth()
     return {agent.name: agent.files() for agent in tree
-            if agent.files() != counting(truth, OF[agent.name])}
+            if agent.files() != counting(truth, agent.top.get("groups", []))}
 
 
 def notes_changes(tree):
-    """Each agent notes what its hook was told; rounds come where they are asked for."""
-    patient(tree)
-    tree.root.tables["root"]["round"] = "1h"
+    """Each agent notes what its hook was told."""
     for agent in tree:
         agent.hook(f'echo $1 $2 $(cat) >>{agent.home}/told')
         if OF[agent.name]:
@@ -41,99 +39,96 @@ def told(tree, key):
     """What each agent's hook was told of a key."""
     all = {}
     for agent in tree:
-        lines = (agent.home / "told").read_text().splitlines()
-        all[agent.name] = [line.split()[-1] for line in lines if line.split()[1] == key]
+        lines = [line.split() for line in (agent.home / "told").read_text().splitlines()]
+        all[agent.name] = [line[-1] for line in lines if line[1] == key]
     return all
 
 
 def here(tree, *words):
     """Has a change made, and come to be everywhere."""
     tree.root.ask(*words)
-    tree.root.ask("wait", "--everywhere", "--timeout", "60s")
+    tree.wait()
     sure(not wrong(tree), *words, wrong(tree))
 
 
-@test
-def a_group_has_its_own_value_until_it_is_that_of_all():
-    with Tree(SHAPE, notes_changes) as tree:
-        root, left, right = tree.root, tree["left"], tree["right"]
-        for name, value in (("colour", "green"), ("size@eu", 1), ("size@us", 2), ("other", 3)):
-            tree.write(name, value)
-        tree.start()
-        sure(tree.ready() and until(lambda: not wrong(tree)), wrong(tree))
-        here(tree, "publish", "colour@canary", "blue")
-        here(tree, "publish", "colour@eu", "white")
-        # that of the group which an agent names first
-        now = {"root": "green", "left": "blue", "leaf": "green", "right": "white"}
-        all = {name: (digest("colour", value.encode()), "") for name, value in now.items()}
-        sure(holders(tree, "colour") == all, holders(tree, "colour"))
-        groups = lambda: {it["name"]: it["groups"] for it in root.ask("tree")}
-        sure(groups() == OF, groups())
-        lines = [line.split() for line in root.run("tree").stdout.splitlines()]
-        sure([line[1] for line in lines[:3]] == ["groups", "0", "canary,eu"], lines)
-        # what is for others changes nothing here, and no hook runs
-        here(tree, "publish", "colour", "grey")
-        here(tree, "publish", "colour@us", "pink")
-        sure(told(tree, "colour")["right"] == ["green", "white"], told(tree, "colour"))
-        sure(told(tree, "size")["right"] == ["1"], told(tree, "size"))
-        # one that begins anew has what counts for it, also where its files are gone
-        right.kill()
-        shutil.rmtree(right.settings)
-        for agent in (right, left, root):
-            agent.restart()
-        sure(tree.ready() and until(lambda: not wrong(tree)), wrong(tree))
-        sure(not root.status()["held"], root.status())
-        root.ask("wait", "--everywhere", "--timeout", "60s")
-        # (it may have begun with the table, and been told what changed since after that)
-        sure(told(tree, "colour")["right"][-1] == "white", told(tree, "colour"))
-        (right.home / "told").write_text("")
-        root.ask("wait", "--group", "canary", "--timeout", "60s")
-        leaf = tree["leaf"]
-        leaf.kill()
-        root.ask("wait", "--group", "eu", root.ask("publish", "other", "4")["sequence"])
-        root.refuses("no agent is known that is of `none`", "wait", "--group", "none", "--timeout",
-                     "1s")
-        left.kill()
-        root.refuses("the time is up: left is not connected\n", "wait", "--group", "canary",
-                     "--timeout", "1s")
-        for agent in (left, leaf):
-            agent.start()
-        sure(tree.ready() and until(lambda: not wrong(tree)), wrong(tree))
-        # the one for all is there at once where the others go
-        here(tree, "unset", "colour@eu")
-        sure(right.files()["colour"] == b"grey", right.files())
-        here(tree, "promote-value", "colour@canary")
-        sure(tree.truth() == {"colour": b"blue", "colour@us": b"pink", "size@eu": b"1",
-                              "size@us": b"2", "other": b"4"}, tree.truth())
-        here(tree, "unset", "size@eu")
-        root.ask("wait", "--everywhere")
-        sure(told(tree, "colour") == {
-            "root": ["green", "grey", "blue"], "left": ["green", "blue"],
-            "leaf": ["green", "grey", "blue"],
-            "right": ["grey", "blue"]}, told(tree, "colour"))
-        sure(told(tree, "size") == {"root": [], "leaf": [], "left": ["1", "size"],
-                                    "right": ["size"]}, told(tree, "size"))
-        # what is no name of one is refused, and named
-        for name in ("a@b@c", "a..b", "a@.b", "@b", "a@", "a@b..c"):
-            root.refuses(f"`{name}` is no key", "publish", name, "1")
-        for name, why in (("colour", "is for no group"), ("colour@none", "is not set")):
-            root.refuses(why, "promote-value", name)
-        left.refuses("not the root", "promote-value", "colour@us")
-        for name in ("a..b", "a@b@c"):
-            tree.write(name, 1)
-        sure(until(lambda: root.status()["unpublished"] == 2), root.status())
-        sure({it.split("`")[1] for it in root.status()["faults"]} == {"a..b", "a@b@c"})
-        for name in ("a..b", "a@b@c"):
-            (root.truth / name).unlink()
-        # (a file by hand, and new groups of an agent, from the next round on)
-        tree.write("colour@canary", "red")
-        root.ask("wait", "--everywhere", "--timeout", "60s")
-        sure(not wrong(tree) and left.files()["colour"] == b"red", wrong(tree))
-        sure(read(left.settings / ".groups").keys() == {"colour", "colour..canary", "colour..us",
-                                                        "size..us"}, left.settings)
-        left.top["groups"] = ["us"]
-        left.reload()
-        sure(until(lambda: left.said("reload done")), left.text())
-        root.ask("round")
-        root.ask("wait", "--everywhere", "--timeout", "60s")
-        sure(left.files() == counting(tree.truth(), ["us"]), left.files())
+@of_tree(SHAPE, notes_changes, patient, root_has(round="1h"), runs=False)
+def a_group_has_its_own_value_until_it_is_that_of_all(tree, root, left, leaf, right):
+
+    def is_right():
+        tree.is_ready()
+        becomes(lambda: wrong(tree), {})
+
+    for name, value in (("colour", "green"), ("size@eu", 1), ("size@us", 2), ("other", 3)):
+        tree.write(name, value)
+    tree.start()
+    is_right()
+    here(tree, "publish", "colour@canary", "blue")
+    here(tree, "publish", "colour@eu", "white")
+    # that of the group which an agent names first
+    now = {"root": "green", "left": "blue", "leaf": "green", "right": "white"}
+    all = {name: (digest("colour", value.encode()), "") for name, value in now.items()}
+    sure(holders(tree, "colour") == all, holders(tree, "colour"))
+    groups = {it["name"]: it["groups"] for it in root.ask("tree")}
+    sure(groups == OF, groups)
+    lines = [line.split() for line in root.run("tree").stdout.splitlines()]
+    sure([line[1] for line in lines[:3]] == ["groups", "0", "canary,eu"], lines)
+    # what is for others changes nothing here, and no hook runs
+    here(tree, "publish", "colour", "grey")
+    here(tree, "publish", "colour@us", "pink")
+    sure(told(tree, "colour")["right"] == ["green", "white"], told(tree, "colour"))
+    sure(told(tree, "size")["right"] == ["1"], told(tree, "size"))
+    # one that begins anew has what counts for it, also where its files are gone
+    right.kill()
+    shutil.rmtree(right.settings)
+    for agent in (right, left, root):
+        agent.restart()
+    is_right()
+    sure(not root.status()["held"], root.status())
+    tree.wait()
+    # (it may have begun with the table, and been told what changed since after that)
+    sure(told(tree, "colour")["right"][-1] == "white", told(tree, "colour"))
+    (right.home / "told").write_text("")
+    root.ask("wait", "--group", "canary", "--timeout", "60s")
+    leaf.kill()
+    root.ask("wait", "--group", "eu", root.ask("publish", "other", "4")["sequence"])
+    left.kill()
+    for group, why in (("none", "no agent is known that is of `none`"),
+                       ("canary", "the time is up: left is not connected\n")):
+        root.refuses(why, "wait", "--group", group, "--timeout", "1s")
+    tree.start([left, leaf])
+    is_right()
+    # the one for all is there at once where the others go
+    here(tree, "unset", "colour@eu")
+    sure(right.files()["colour"] == b"grey", right.files())
+    here(tree, "promote-value", "colour@canary")
+    sure(tree.truth() == {"colour": b"blue", "colour@us": b"pink", "size@eu": b"1",
+                          "size@us": b"2", "other": b"4"}, tree.truth())
+    here(tree, "unset", "size@eu")
+    sure(told(tree, "colour") == {
+        "root": ["green", "grey", "blue"], "left": ["green", "blue"],
+        "leaf": ["green", "grey", "blue"], "right": ["grey", "blue"]}, told(tree, "colour"))
+    sure(told(tree, "size") == {"root": [], "leaf": [], "left": ["1", "size"],
+                                "right": ["size"]}, told(tree, "size"))
+    # what is no name of one is refused, and named
+    for name in ("a@b@c", "a..b", "a@.b", "@b", "a@", "a@b..c"):
+        root.refuses(f"`{name}` is no key", "publish", name, "1")
+    for name, why in (("colour", "is for no group"), ("colour@none", "is not set")):
+        root.refuses(why, "promote-value", name)
+    left.refuses("not the root", "promote-value", "colour@us")
+    for name in ("a..b", "a@b@c"):
+        tree.write(name, 1)
+    root.becomes(unpublished=2)
+    sure({it.split("`")[1] for it in root.status()["faults"]} == {"a..b", "a@b@c"})
+    for name in ("a..b", "a@b@c"):
+        (root.truth / name).unlink()
+    # (a file by hand, and new groups of an agent, from the next round on)
+    tree.write("colour@canary", "red")
+    tree.wait()
+    sure(not wrong(tree) and left.files()["colour"] == b"red", wrong(tree))
+    sure(read(left.settings / ".groups").keys() == {"colour", "colour..canary", "colour..us",
+                                                    "size..us"}, left.settings)
+    left.top["groups"] = ["us"]
+    left.reload()
+    root.ask("round")
+    tree.wait()
+    sure(not wrong(tree), wrong(tree))

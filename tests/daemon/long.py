@@ -1,4 +1,4 @@
-#!/usr/bin/env python3
+#!/usr/bin/env -S python3 -B
 """A long trial by hand: a tree of daemons, kills, stops, broken connections, and each count judged.
 
     tests/daemon/long.py [--runs 1] [--kills 50] [--nodes 15] [--seed 1] [--stops] [--relays]
@@ -14,47 +14,53 @@ some of the first are missing. At the end, two rounds later, every agent has the
 root's folder. With --runs each run has the next seed. What a run that failed has judged is kept in
 a file that it names. The last line is 'N passed, M failed'.
 """
-import argparse
 import contextlib
 import itertools
 import json
 import os
-import pathlib
 import random
 import re
 import signal
 import sys
 import tempfile
-import threading
 import time
 
-sys.path.append(str(pathlib.Path(__file__).resolve().parents[2] / "tools"))
 import store
-from daemons import Tree, during, fan, until
+from daemons import Tree, during, fan, meanwhile, until
 from memory import stands_still
 from programs import answered, run_with
-from relay import Relay, lose
-from runner import sure
+from relay import between, lose
+from runner import options, run_seeds, sure
 
 LIMIT = 60                  # of a backlog
 GARBAGE = 2 ** 32 - 1       # an item that nobody publishes
 
 
 class Trial:
-    def __init__(self, tree, draw, relays=()):
-        self.tree, self.draw, self.relays = tree, draw, relays
-        self.lock = threading.Lock()
-        self.done = threading.Event()
+    """A tree, what is done to it, and how long its logs were when all were stopped at once."""
+
+    def __init__(self, chosen, seed):
+        self.chosen, self.draw = chosen, random.Random(seed)
+        self.ends = contextlib.ExitStack()
+        self.redis = self.ends.enter_context(store.Redis()) if chosen.store else None
+        shape = None if chosen.store else fan(chosen.nodes)
+        acts = [store.in_store(self.redis)] if chosen.store else []
+        self.tree = self.ends.enter_context(Tree(shape, *acts))
+        self.tree.root.tables["root"]["harmless"] = 11
+        for agent in self.tree:
+            agent.tables["link"] = {"ack_timeout": "500ms", "evict": "30s", "backlog": LIMIT}
+        self.relays = [between(agent, cuts=(0.05, 1.5), delay=0.002 * (at % 5), seed=at)
+                       for at, agent in enumerate(self.tree)
+                       if chosen.relays and agent.parent and at % 2]
         self.cuts = []          # how many lines each log had
         self.changes = 0
 
-    def publish(self):
-        """Changes the root's folder, all the time."""
-        while not self.done.is_set():
-            key = self.draw.randrange(30)
-            self.tree.write(f"key{key}", f"{self.changes} {'x' * (self.changes * 7919 % 3000)}")
-            self.changes += 1
-            time.sleep(0.004)
+    def change(self):
+        """Changes the root's folder."""
+        key = self.draw.randrange(30)
+        self.tree.write(f"key{key}", f"{self.changes} {'x' * (self.changes * 7919 % 3000)}")
+        self.changes += 1
+        time.sleep(0.004)
 
     def stop_all(self):
         living = [agent for agent in self.tree if agent.alive()]
@@ -74,38 +80,110 @@ class Trial:
             if agent not in victims:
                 agent.signal(signal.SIGCONT)
 
-    def connected(self):
-        """Whether each agent comes to be connected. Not all need be at once: on a machine where it
-        takes ten seconds to ask them all, some link has always just been left."""
-        away = {agent.name for agent in self.tree if agent.parent}
+    def connects(self):
+        """Asserts that each agent comes to be connected. Not all need be at once: on a machine
+        where it takes ten seconds to ask them all, some link has always just been left."""
+        away = {agent for agent in self.tree if agent.parent}
 
         def all_up():
-            for name in sorted(away):
-                try:
-                    if self.tree[name].status()["parent"]:
-                        away.discard(name)
-                except RuntimeError:
-                    pass
+            away.difference_update([agent for agent in away if agent.status().get("parent")])
             return not away
-        if until(all_up, 0.5, 0.05):
-            return True
-        for relay in self.relays:
-            relay.calm = True
-        found = until(all_up, 30, 0.05)
-        for relay in self.relays:
-            relay.calm = False
-        return found
 
-    def judge(self, file):
+        if not until(all_up, 0.5, 0.05):
+            for relay in self.relays:
+                relay.calm = True
+            sure(until(all_up, 30, 0.05), "not connected:", [agent.name for agent in away])
+            for relay in self.relays:
+                relay.calm = False
+
+    def strike(self):
+        """One fault of the store. It ends first, so that no agent has anything in hand that it got.
+        """
+        redis, how = self.redis, self.draw.randrange(4)
+        if how == 0:
+            redis.backup()
+            redis.age()
+        redis.kill()
+        time.sleep(0.1)
+        living = self.stop_all()
+        redis.file.unlink(missing_ok=True)
+        if how > 1 and redis.kept.exists():
+            redis.restore()
+        redis.start()
+        if how == 3:
+            redis.make_old()
+            redis.spoil(self.draw)
+            redis.make_old()
+        self.cut()
+        for agent in living:
+            agent.signal(signal.SIGCONT)
+
+    def kill(self):
+        """Some agents end at one moment, or all of them, and begin anew."""
+        draw, agents = self.draw, list(self.tree)
+        is_all = draw.random() < 0.06
+        victims = agents if is_all else draw.sample(agents, draw.choice([1, 1, 1, 2, 3]))
+        self.cut(victims)
+        time.sleep(draw.choice([0, 0, 0.05, 0.3]))
+        self.tree.start(victims)
+
+    def goes_on(self):
+        """Waits for a while, in which some may stand still."""
+        stops = self.chosen.stops
+        for _ in during(self.draw.uniform(0.3, 1.0)):
+            frozen = self.draw.sample(list(self.tree), 2 if stops else 0)
+            for agent in frozen:
+                agent.signal(signal.SIGSTOP)
+            time.sleep(self.draw.uniform(0.05, 0.7) if stops else 0)
+            for agent in frozen:
+                agent.signal(signal.SIGCONT)
+            time.sleep(0.1)
+
+    def run(self, file):
+        """The trial itself: whether nothing was wrong."""
+        self.tree.start()
+        self.connects()
+        with meanwhile(self.change):
+            for _ in range(self.chosen.kills):
+                self.cut()
+                self.goes_on()
+                if self.redis and self.draw.randrange(3):
+                    self.strike()
+                else:
+                    self.kill()
+                self.connects()
+        self.cut()
+        good = self.tree.right()
+        time.sleep(0.5)
+        self.cut()
         logs = {agent.name: agent.text() for agent in self.tree}
         above = {agent.name: agent.parent.name for agent in self.tree if agent.parent}
-        verdict = judge(file, self.cuts, logs, above)
-        if verdict[0]:
+        wrong, judged, left_out = judge(file, self.cuts, logs, above)
+        if wrong:
             with tempfile.NamedTemporaryFile("w", prefix="rignolda-judged-", suffix=".json",
                                              delete=False) as kept:
                 json.dump({"cuts": self.cuts, "logs": logs, "above": above}, kept)
             print(f"what was judged is in {kept.name}")
-        return verdict
+        print(f"{self.chosen.kills} faults, {self.changes} changes: {judged} counts of agents "
+              f"judged, {left_out} left out since a link began anew in them; not as the laws say: "
+              f"{wrong[:5]}; settings right: {good} {self.tree.wrong()}", flush=True)
+        return good and not wrong
+
+
+def main(file):
+    chosen = options(runs=1, kills=50, nodes=15, seed=1, loss=0.0, stops=False, relays=False,
+                     store=False)
+    if chosen.loss:
+        if not os.environ.get("LOSES"):
+            os.environ["LOSES"] = "1"
+            os.execvp("unshare", ["unshare", "--net", sys.executable, *sys.argv])
+        lose(chosen.loss)
+
+    def one(seed):
+        trial = Trial(chosen, seed)
+        with trial.ends:
+            sure(trial.run(file), "what is said above was wrong")
+    return run_seeds(chosen, one)
 
 
 # ---- Judging
@@ -313,129 +391,5 @@ CASES = [
 ]
 
 
-# ---- Trials
-
-def run(file, chosen, seed):
-    """One trial: whether nothing was wrong."""
-    draw = random.Random(seed)
-    relays = []
-
-    def before(tree):
-        if chosen.store:
-            store.in_store(redis)(tree)
-        for agent in tree:
-            agent.tables["link"] = {"ack_timeout": "500ms", "evict": "30s", "backlog": LIMIT}
-        tree.root.tables["root"]["harmless"] = 11
-        for at, agent in enumerate(tree):
-            if chosen.relays and agent.parent and at % 2:
-                relay = Relay(agent.parent.port, cuts=(0.05, 1.5), delay=0.002 * (at % 5), seed=at)
-                relays.append(relay)
-                agent.top["parents"] = [f"{agent.parent.name}@127.0.0.1:{relay.port}"]
-
-    with contextlib.ExitStack() as ends:
-        redis = ends.enter_context(store.Redis()) if chosen.store else None
-        tree = ends.enter_context(Tree(None if chosen.store else fan(chosen.nodes), before))
-        for relay in relays:
-            ends.callback(relay.close)
-        return try_tree(file, chosen, Trial(tree, draw, relays), redis)
-
-
-def strike(redis, trial):
-    """One fault of a store. It ends first, so that no agent has anything in hand that it got."""
-    how = trial.draw.randrange(4)
-    if how == 0:
-        redis.backup()
-        redis.age()
-    redis.kill()
-    time.sleep(0.1)
-    living = trial.stop_all()
-    redis.file.unlink(missing_ok=True)
-    if how > 1 and (redis.home / "backup").exists():
-        redis.restore()
-    redis.start()
-    if how == 3:
-        redis.make_old()
-        redis.spoil(trial.draw)
-        redis.make_old()
-    trial.cut()
-    for agent in living:
-        agent.signal(signal.SIGCONT)
-
-
-def kill(trial):
-    """Some agents end at one moment, or all of them, and begin anew."""
-    draw, agents = trial.draw, list(trial.tree)
-    victims = agents if draw.random() < 0.06 else draw.sample(agents, draw.choice([1, 1, 1, 2, 3]))
-    trial.cut(victims)
-    time.sleep(draw.choice([0, 0, 0.05, 0.3]))
-    for victim in victims:
-        victim.start()
-
-
-def wait(trial, stops):
-    """Waits for a while, in which some may stand still."""
-    for _ in during(trial.draw.uniform(0.3, 1.0)):
-        frozen = trial.draw.sample(list(trial.tree), 2 if stops else 0)
-        for agent in frozen:
-            agent.signal(signal.SIGSTOP)
-        time.sleep(trial.draw.uniform(0.05, 0.7) if stops else 0)
-        for agent in frozen:
-            agent.signal(signal.SIGCONT)
-        time.sleep(0.1)
-
-
-def try_tree(file, chosen, trial, redis):
-    """The trial itself, with a tree that is not started yet."""
-    tree = trial.tree
-    tree.start()
-    sure(trial.connected(), "the tree is not ready")
-    publisher = threading.Thread(target=trial.publish)
-    publisher.start()
-    try:
-        for turn in range(chosen.kills):
-            trial.cut()
-            wait(trial, chosen.stops)
-            if redis and trial.draw.randrange(3):
-                strike(redis, trial)
-            else:
-                kill(trial)
-            sure(trial.connected(), "after fault", turn, "not all are connected again")
-    finally:
-        trial.done.set()
-        publisher.join()
-    trial.cut()
-    good = tree.right()
-    time.sleep(0.5)
-    trial.cut()
-    wrong, judged, left_out = trial.judge(file)
-    panics = [agent.name for agent in tree if agent.said("panicked")]
-    print(f"{chosen.kills} faults, {trial.changes} changes: {judged} counts of agents judged, "
-          f"{left_out} left out since a link began anew in them; not as the laws say: {wrong[:5]}; "
-          f"settings right: {good} {tree.wrong()}; panics: {panics}", flush=True)
-    return good and not wrong and not panics
-
-
-def main(file):
-    words = argparse.ArgumentParser(description=__doc__.splitlines()[0])
-    for name, usual in ("runs", 1), ("kills", 50), ("nodes", 15), ("seed", 1):
-        words.add_argument(f"--{name}", type=int, default=usual)
-    for name in "stops", "relays", "store":
-        words.add_argument(f"--{name}", action="store_true")
-    words.add_argument("--loss", type=float, default=0)
-    chosen = words.parse_args()
-    if chosen.loss:
-        if not os.environ.get("LOSES"):
-            os.environ["LOSES"] = "1"
-            os.execvp("unshare", ["unshare", "--net", sys.executable, *sys.argv])
-        lose(chosen.loss)
-    passed = 0
-    for seed in range(chosen.seed, chosen.seed + chosen.runs):
-        print(f"seed {seed}:", flush=True)
-        passed += run(file, chosen, seed)
-    print(f"{passed} passed, {chosen.runs - passed} failed")
-    return 0 if passed == chosen.runs else 1
-
-
 if __name__ == "__main__":
-    os.chdir(pathlib.Path(__file__).resolve().parent)
     sys.exit(run_with(main, "rignolda"))

@@ -1,7 +1,7 @@
-#!/usr/bin/env python3
+#!/usr/bin/env -S python3 -B
 """Faults in the memory of running agents, and whether their trees come back from each of them.
 
-    tests/daemon/memory_faults.py --trials 300 --seed 1 --trees 4 --kinds links times
+    tests/daemon/memory_faults.py [--trials 100] [--seed 1] [--trees 4] [KIND..]
 
 A tree has a root, a hub below it and two leaves below that, with a round each half second. While
 one of them is stopped, something is written into its memory; then the root's folder is changed. An
@@ -14,9 +14,9 @@ A fault is a bit, a byte, a word or 64 bytes anywhere in the heap, something in 
 stack, or it is aimed: at the agent itself, at what lies about an end of a link, about a name, at a
 time or a number.
 """
-import argparse
 import collections
 import concurrent.futures
+import contextlib
 import os
 import pathlib
 import random
@@ -24,14 +24,13 @@ import re
 import signal
 import socket
 import struct
-import subprocess
 import sys
 import time
 
-from daemons import Tree, running
+from daemons import Tree, of_tree, root_has
 from groups import counting
 from memory import stopped, writable
-from runner import sure, test
+from runner import options, sure, test
 from trial import KEY
 
 ROUND = 0.5
@@ -43,9 +42,17 @@ SHAPE = {"hub": "root", "one": "hub", "two": "hub"}
 ABOUT = 256
 NEAR = 64
 # The parameters of a link of an agent: capacity 1 and 255 labels.
-PARAMETERS = struct.pack("<HH", 1, 255)
+PARAMETERS = re.escape(struct.pack("<HH", 1, 255))
 # Where stacks lie is past this.
 HEAPS = 0x7f << 40
+
+
+def stack_of(task):
+    """How far down the stack of a thread is used."""
+    try:
+        return int((task / "syscall").read_text().split()[-2], 16)
+    except (OSError, IndexError, ValueError):
+        return -1
 
 
 class Memory:
@@ -57,7 +64,7 @@ class Memory:
         program = os.readlink(f"/proc/{process}/exe")
         last = None
         for start, end, name in writable(process):
-            kind = {"[heap]": "heap"}.get(name)
+            kind = "heap" if name == "[heap]" else None
             top = [top for top in tops if start <= top < end]
             if top:
                 kind, start = "stack", min(top) & ~7
@@ -67,14 +74,15 @@ class Memory:
             if kind:
                 self.pieces.append((kind, start, os.pread(memory, end - start, start)))
 
-    def of(self, kind):
-        return [(start, piece) for of, start, piece in self.pieces if of == kind]
-
     def found(self, pattern):
         """Where this is found, in the heap and on stacks."""
-        for kind, start, piece in self.pieces:
-            if kind != "data":
-                yield from (start + it.start() for it in re.finditer(pattern, piece, re.S))
+        return sorted(start + it.start() for kind, start, piece in self.pieces if kind != "data"
+                      for it in re.finditer(pattern, piece, re.S))
+
+    def words(self, numbers):
+        """Where one of these numbers is."""
+        pattern = b"|".join(re.escape(struct.pack("<Q", number)) for number in numbers)
+        return [place for place in self.found(pattern) if place % 8 == 0] if pattern else []
 
     def at(self, place, length):
         for _, start, piece in self.pieces:
@@ -82,61 +90,44 @@ class Memory:
                 return piece[place - start:place - start + length]
         return None
 
+    def names(self):
+        """Where there is a pointer to the name of an agent."""
+        return self.words({place for name in ["root", *SHAPE]
+                           for place in self.found(re.escape(name.encode()))})
 
-def is_behind(number, other):
-    """Whether it is older than the other one. Numbers of bodies are on a circle."""
-    return 0 < (other - number) % 2**64 < 2**63
+    def times(self):
+        """Where there is a time of the clock that only goes on: seconds near now, and nanoseconds.
+        """
+        now, places = int(time.monotonic()), []
+        for place in self.words(range(now - 120, now + 120)):
+            after = self.at(place + 8, 4)
+            if after and 1_000 <= struct.unpack("<I", after)[0] < 1_000_000_000:
+                places.append(place)
+        return places
 
+    def numbers(self, status):
+        """Where there is a number that the agent says of itself."""
+        said = {status[key] for key in ("sequence", "applied", "round", "changed", "received",
+                                        "limit")}
+        said |= {child[key] for child in status["children"]
+                 for key in ("reconnects", "acknowledged")}
+        return self.words(number for number in said if number > 1)
 
-def stack_of(task):
-    """How far down the stack of a thread is used."""
-    try:
-        return int((task / "syscall").read_text().split()[-2], 16)
-    except (OSError, IndexError, ValueError):
-        return -1
-
-
-def anywhere(memory, draw, kind):
-    """A place in this kind of memory: mostly one where something is."""
-    pieces = memory.of(kind)
-    for _ in range(16):
-        start, piece = draw.choices(pieces, [len(piece) for _, piece in pieces])[0]
-        at = draw.randrange(len(piece) // 8) * 8
-        if any(piece[at:at + 8]):
-            break
-    return start + at
+    def anywhere(self, draw, kind):
+        """A place in this kind of memory: mostly one where something is."""
+        pieces = [(start, piece) for of, start, piece in self.pieces if of == kind]
+        for _ in range(16):
+            start, piece = draw.choices(pieces, [len(piece) for _, piece in pieces])[0]
+            at = draw.randrange(len(piece) // 8) * 8
+            if any(piece[at:at + 8]):
+                break
+        return start + at
 
 
 def about(places, draw):
     """A word about one of these places, mostly near it."""
-    places, far = sorted(places), draw.choice([NEAR, ABOUT])
+    far = draw.choice([NEAR, ABOUT])
     return places and (draw.choice(places) & ~7) + draw.randrange(-far, far, 8)
-
-
-def names(memory):
-    """Where there is a pointer to the name of an agent."""
-    texts = [name.encode() for name in ["root", *SHAPE]]
-    places = {place for text in texts for place in memory.found(re.escape(text))}
-    wanted = b"|".join(re.escape(struct.pack("<Q", place)) for place in places)
-    return [place for place in memory.found(wanted) if place % 8 == 0] if places else []
-
-
-def times(memory):
-    """Where there is a time of the clock that only goes on: seconds near now, and nanoseconds."""
-    now = int(time.monotonic())
-    wanted = b"|".join(re.escape(struct.pack("<Q", now + late)[:8]) for late in range(-120, 120))
-    for place in memory.found(wanted):
-        after = memory.at(place + 8, 4)
-        if place % 8 == 0 and after and 1_000 <= struct.unpack("<I", after)[0] < 1_000_000_000:
-            yield place
-
-
-def numbers(memory, status):
-    """Where there is a number that the agent says of itself."""
-    said = {status[key] for key in ("sequence", "applied", "round", "changed", "received", "limit")}
-    said |= {child[key] for child in status["children"] for key in ("reconnects", "acknowledged")}
-    wanted = b"|".join(re.escape(struct.pack("<Q", number)) for number in said if number > 1)
-    return [place for place in memory.found(wanted) if place % 8 == 0]
 
 
 def spoiled(old, draw):
@@ -152,7 +143,7 @@ def spoiled(old, draw):
 def each_link(memory, number, _):
     """Of the words about the ends of links, each in its turn, and what it becomes."""
     number, how = divmod(number, 3)
-    ends = [it for it in sorted(memory.found(re.escape(PARAMETERS))) if it < HEAPS]
+    ends = [it for it in memory.found(PARAMETERS) if it < HEAPS]
     where, at = divmod(number, 2 * NEAR // 8)
     place = (ends[where % len(ends)] & ~7) - NEAR + 8 * at
     return (place + 4, bytes(4)) if how == 2 else (place, [bytes(8), b"\xff" * 8][how])
@@ -160,16 +151,14 @@ def each_link(memory, number, _):
 
 def each_time(memory, number, _):
     """Each of the times in its turn, and one that comes in years."""
-    places = sorted(times(memory))
+    places = memory.times()
     return places[number % len(places)], struct.pack("<q", int(time.monotonic()) + 10**9)
 
 
 def each_number(memory, number, status):
     """Each of the numbers of bodies in its turn, and one half of all numbers away: since they are
     on a circle, neither of the two is newer."""
-    said = {struct.pack("<Q", status[key]) for key in ("sequence", "applied", "round", "changed")}
-    wanted = b"|".join(map(re.escape, said))
-    places = sorted(it for it in memory.found(wanted) if it % 8 == 0)
+    places = memory.words({status[key] for key in ("sequence", "applied", "round", "changed")})
     place = places[number % len(places)]
     old, = struct.unpack("<Q", memory.at(place, 8))
     return place, struct.pack("<Q", old ^ 1 << 63)
@@ -178,26 +167,26 @@ def each_number(memory, number, status):
 def fault(memory, draw, kind, status):
     """Where to write, and what."""
     if kind in ("bit", "byte", "word", "run"):
-        place = anywhere(memory, draw, "heap")
+        place = memory.anywhere(draw, "heap")
     elif kind == "agent":
         # (it lies on the stack of the thread that runs it, with the links)
-        ends = sorted(place for place in memory.found(re.escape(PARAMETERS)) if place > HEAPS)
+        ends = [place for place in memory.found(PARAMETERS) if place > HEAPS]
         place = ends and draw.randrange(ends[0] - 2_048, ends[-1] + 2_048, 8)
     elif kind in ("data", "stack"):
-        place = anywhere(memory, draw, kind)
+        place = memory.anywhere(draw, kind)
     elif kind == "links":
-        place = about(memory.found(re.escape(PARAMETERS)), draw)
+        place = about(memory.found(PARAMETERS), draw)
     elif kind == "names":
-        place = about(names(memory), draw)
+        place = about(memory.names(), draw)
     elif kind == "times":
-        place = draw.choice([0, *times(memory)])
+        place = draw.choice([0, *memory.times()])
+        if draw.random() < 0.7:
+            seconds = draw.choice([-3_600, -60, 60, 3_600, 10**6, 10**9])
+            return place, struct.pack("<q", int(time.monotonic()) + seconds)
     else:
-        place = draw.choice([0, *numbers(memory, status)])
-    if kind == "times" and draw.random() < 0.7:
-        seconds = int(time.monotonic()) + draw.choice([-3_600, -60, 60, 3_600, 10**6, 10**9])
-        return place, struct.pack("<q", seconds)
+        place = draw.choice([0, *memory.numbers(status)])
     length = {"byte": 1, "word": 8, "run": 64}.get(kind) or draw.choice([1, 1, 2, 4, 8, 8])
-    place += 0 if length == 64 else draw.randrange(0, 8, length)
+    place = (place or 0) + (0 if length == 64 else draw.randrange(0, 8, length))
     old = memory.at(place, length)
     if old is None:
         return 0, b""
@@ -217,6 +206,7 @@ class Unit:
         self.socket = socket.socket(socket.AF_UNIX, socket.SOCK_DGRAM)
         self.socket.bind(str(agent.home / "notify"))
         self.socket.setblocking(False)
+        agent.tree.ends.callback(self.socket.close)
         agent.env = {"NOTIFY_SOCKET": str(agent.home / "notify"), "WATCHDOG_USEC": "4000000",
                      "MALLOC_ARENA_MAX": "1", "MALLOC_MMAP_THRESHOLD_": "131072"}
 
@@ -231,11 +221,9 @@ class Unit:
     def tend(self):
         """How it ended by itself, where it did. It runs again then."""
         now, how = time.monotonic(), None
-        try:
+        with contextlib.suppress(BlockingIOError):
             while self.socket.recv(4_096):
                 self.seen = now
-        except BlockingIOError:
-            pass
         if not self.agent.alive():
             how = "ended" if self.agent.process.returncode == 1 else "crashed"
             said = re.findall("^rignoldad: .*", self.agent.text(), re.M)
@@ -253,22 +241,19 @@ class Trials:
     """A tree, and faults in it one after the other."""
 
     def __init__(self, seed):
-        self.seed = seed
-        self.tree, self.made = None, 0
+        self.seed, self.tree, self.made, self.ends = seed, None, 0, []
         self.counts = collections.defaultdict(collections.Counter)
         self.whys = collections.Counter()
 
     def make(self):
         """A new tree that is right."""
-        self.end()
-        self.tree, self.what = Tree(SHAPE), []
-        self.units = [Unit(agent) for agent in self.tree]
-        self.tree.root.tables["root"].update(round=f"{int(ROUND * 1_000)}ms", harmless=7)
+        self.tree = Tree(SHAPE, root_has(round=f"{int(ROUND * 1_000)}ms", harmless=7))
+        self.what, self.units = [], [Unit(agent) for agent in self.tree]
         for at in range(6):
             self.tree.write(f"key{at}", f"value {at}")
         # (one agent has another value, and each tells a hook of some)
         self.tree.write("key2@canary", "another")
-        list(self.tree)[-1].top["groups"] = ["canary"]
+        self.tree["two"].top["groups"] = ["canary"]
         for unit in self.units:
             unit.agent.hooks = [{"keys": ["key*"], "run": "/bin/true"}]
             unit.start()
@@ -277,33 +262,30 @@ class Trials:
 
     def end(self):
         if self.tree:
-            self.tree.__exit__(None, None, None)
+            self.tree.close()
             for unit in self.units:
-                unit.socket.close()
                 self.whys.update(unit.whys)
         self.tree = None
 
-    def holds(self, what, seconds):
+    def holds(self, what, seconds=PATIENCE):
         """Whether this comes to hold; meanwhile whoever ends is started again."""
         end = time.monotonic() + seconds
         while True:
-            self.ends += [how for how in (unit.tend() for unit in self.units) if how]
+            self.ends += filter(None, [unit.tend() for unit in self.units])
             if what():
                 return True
             if time.monotonic() >= end:
                 return False
             time.sleep(0.04)
 
-    ends = []
-
     def says_right(self):
         """Whether `tree` shows four agents that are up, each below its parent."""
         seen = self.tree.root.request(2, do="tree").get("tree", [])
         shape = {it["name"]: it["parent"] for it in seen}
+        # (numbers of bodies are on a circle)
         is_up = all(it["connected"] and it["whole"] and not it["failing"] and not it["draining"]
-                    and not is_behind(it["applied"], seen[0]["changed"])
-                    and it["compared"] == "same"
-                    for it in seen)
+                    and not 0 < (seen[0]["changed"] - it["applied"]) % 2**64 < 2**63
+                    and it["compared"] == "same" for it in seen)
         return is_up and shape == {"root": "", **SHAPE}
 
     def wrong(self):
@@ -311,24 +293,15 @@ class Trials:
         path may make one, is no setting: an agent says that it is there, and leaves it alone."""
         truth, wrong = self.tree.truth(), []
         for agent in self.tree:
-            files = agent.files().items()
-            settings = {name: value for name, value in files if KEY.fullmatch(name)}
+            settings = {name: value for name, value in agent.files().items() if KEY.fullmatch(name)}
             right = counting(truth, agent.top.get("groups", []))
             wrong += [agent.name] if settings != right else []
         return wrong
 
-    def show(self):
-        """What the agents say of themselves, where something lasts."""
-        for agent in self.tree:
-            status = agent.request(2, do="status").get("status", {})
-            said = {key: status.get(key) for key in SHOWN}
-            print(f"  {agent.name}: {said}", flush=True)
-
     def waits(self, seconds):
         """Whether `wait` says that all have applied what the root's folder has."""
-        command = [self.tree.bin / "rignoldactl", "--socket", self.tree.root.socket, "wait",
-                   "--everywhere", "--timeout", f"{seconds}s"]
-        return subprocess.run(command, capture_output=True).returncode == 0
+        words = "wait", "--everywhere", "--timeout", f"{seconds}s"
+        return self.tree.root.run(*words).returncode == 0
 
     def change(self):
         """Changes the root's folder."""
@@ -347,7 +320,7 @@ class Trials:
         if kind in EACH:
             number, at = divmod(number, len(AGENTS[kind]))
             agent = self.tree[AGENTS[kind][at]]
-        status = agent.request(2, do="status").get("status") or self.tree.root.status()
+        status = agent.status(2) or self.tree.root.status()
         with stopped(agent.process.pid) as memory:
             pieces = Memory(agent.process.pid, memory)
             if kind in EACH:
@@ -359,31 +332,22 @@ class Trials:
                 return None
             os.pwrite(memory, new, place)
         self.what.append(f"{kind} {number}: {agent.name} at {place:x}: {old.hex()} is {new.hex()}")
-        begun, self.ends = time.monotonic(), []
+        begun, self.ends, count = time.monotonic(), [], self.counts[kind]
         self.change()
-        self.holds(lambda: time.monotonic() >= begun + 2 * ROUND, PATIENCE)
+        self.holds(lambda: time.monotonic() >= begun + 2 * ROUND)
         self.holds(lambda: not self.wrong(), 0.1)
         late = bool(self.wrong())
-        if late and self.waits(0.1) and self.wrong():
-            # (what `wait` says is so at once)
-            self.counts[kind]["lied"] += 1
+        # (what `wait` says is so at once)
+        count["lied"] += late and self.waits(0.1) and bool(self.wrong())
         if self.draw.random() < 0.25:
             # (what is wrong may be needed by those alone who connect anew)
             self.draw.choice(self.units).kill()
         self.change()
-        is_right = self.holds(lambda: not self.wrong(), PATIENCE)
-        says = is_right and self.holds(self.says_right, PATIENCE)
-        says = says and self.holds(lambda: self.waits(1), PATIENCE)
-        if says and self.wrong():
-            self.counts[kind]["lied"] += 1
-        count = self.counts[kind]
-        count["trials"] += 1
-        count["late"] += late
-        for how in set(self.ends):
-            count[how] += 1
-        if not is_right:
-            return "stuck"
-        return "recovered" if says else "wrong"
+        is_right = self.holds(lambda: not self.wrong())
+        says = is_right and self.holds(self.says_right) and self.holds(lambda: self.waits(1))
+        count["lied"] += says and bool(self.wrong())
+        count.update(["trials", *["late"] * late, *set(self.ends)])
+        return None if says else "wrong" if is_right else "stuck"
 
     def run(self, faults):
         """Takes faults from a list, as long as there are some."""
@@ -393,14 +357,16 @@ class Trials:
                 self.make()
             try:
                 end = self.trial(kind, number)
-            except (OSError, RuntimeError) as error:
+            except (OSError, RuntimeError, KeyError) as error:
                 print(f"{kind} {number}: an agent ends before it is written to: {error}")
-                end = "again"
-            if end in ("stuck", "wrong"):
+                self.end()
+                continue
+            if end:
                 self.counts[kind][end] += 1
                 print(f"{end}: {self.wrong()}; {self.ends}; after", *self.what[-4:], flush=True)
-                self.show()
-            if end in ("stuck", "wrong", "again"):
+                for agent in self.tree:
+                    said = {key: agent.status(2).get(key) for key in SHOWN}
+                    print(f"  {agent.name}: {said}", flush=True)
                 self.end()
         self.end()
 
@@ -418,10 +384,10 @@ COLUMNS = ["trials", "late", "ended", "crashed", "hung", "wrong", "lied", "stuck
 
 
 def table(counts):
+    total = sum(counts.values(), collections.Counter())
     lines = [["kind", *COLUMNS]]
-    lines += [[kind, *(str(count[it]) for it in COLUMNS)] for kind, count in counts.items()]
-    total = [str(sum(count[it] for count in counts.values())) for it in COLUMNS]
-    lines.append(["all", *total])
+    lines += [[kind, *(count[it] for it in COLUMNS)] for kind, count in (*counts.items(),
+                                                                         ("all", total))]
     return "\n".join(" ".join(f"{word:>8}" for word in line) for line in lines)
 
 
@@ -454,40 +420,35 @@ def trees_come_back_from_faults_of_memory():
     sure(not lasting(aimed) and few and trials > len(faults) / 2, "\n" + table(counts))
 
 
-@test
-def who_finds_its_configuration_spoiled_ends_and_says_so():
-    with running() as tree:
-        units = [Unit(agent) for agent in tree]
+@of_tree()
+def who_finds_its_configuration_spoiled_ends_and_says_so(tree):
+    units = [Unit(agent) for agent in tree]
+    for unit in units:
+        unit.agent.kill()
+        unit.start()
+    tree.is_ready()
+    for turn in range(2):
+        # (each agent has several copies of this path, and not all are in use)
+        for at, unit in enumerate(units, turn * len(units)):
+            path, process = str(unit.agent.settings).encode(), unit.agent.process.pid
+            with stopped(process) as memory:
+                copies = Memory(process, memory).found(re.escape(path))
+                os.pwrite(memory, b"?", copies[at % len(copies)] + len(path) - 1)
+        time.sleep(3)
         for unit in units:
-            unit.agent.kill()
-            unit.start()
-        sure(tree.ready(), "the tree is not ready")
-        for turn in range(2):
-            # (each agent has several copies of this path, and not all are in use)
-            for at, unit in enumerate(units, turn * len(units)):
-                path, process = str(unit.agent.settings).encode(), unit.agent.process.pid
-                with stopped(process) as memory:
-                    copies = sorted(Memory(process, memory).found(re.escape(path)))
-                    os.pwrite(memory, b"?", copies[at % len(copies)] + len(path) - 1)
-            time.sleep(3)
-            for unit in units:
-                unit.tend()
-            sure(tree.ready() and tree.right(), tree.wrong())
-        whys = sum((unit.whys for unit in units), collections.Counter())
-        begins = "rignoldad: its memory is spoiled: "
-        sure(whys and all(why.startswith(begins) for why in whys), whys)
+            unit.tend()
+        tree.is_ready()
+        tree.settles()
+    whys = sum((unit.whys for unit in units), collections.Counter())
+    begins = "rignoldad: its memory is spoiled: "
+    sure(whys and all(why.startswith(begins) for why in whys), whys)
 
 
 def main():
-    words = argparse.ArgumentParser()
-    words.add_argument("--trials", type=int, default=100)
-    words.add_argument("--seed", default="1")
-    words.add_argument("--trees", type=int, default=4)
-    words.add_argument("--kinds", nargs="+", choices=[*KINDS, *EACH], default=KINDS)
-    words = words.parse_args()
-    kinds = words.kinds
-    faults = [(kinds[at % len(kinds)], at // len(kinds)) for at in range(words.trials)]
-    counts, whys = run(faults, words.seed, words.trees)
+    chosen = options("kind", trials=100, seed="1", trees=4)
+    kinds = chosen.kind or KINDS
+    faults = [(kinds[at % len(kinds)], at // len(kinds)) for at in range(chosen.trials)]
+    counts, whys = run(faults, chosen.seed, chosen.trees)
     print(table(counts))
     for why, count in whys.most_common():
         print(f"{count} times {why}")

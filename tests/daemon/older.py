@@ -1,55 +1,50 @@
-"""Nothing older is applied after something newer: restarts, parents that were away, wrong numbers.
-"""
+"""Nothing older is applied after something newer: restarts, and wrong numbers."""
 import contextlib
-import signal
 import struct
 import time
 
-from blocked import lacking, preload, slow_call
-from daemons import Tree, until
+from blocked import SLOW_RENAME, preload
+from daemons import Tree, root_has, until
 from memory import write_over
 from runner import sure, test
 
-# (the file of `colour` does not take its place)
-SLOW_RENAME = slow_call("rename(const char *from, const char *to)", "to", "/colour",
-                        "SYS_renameat2, AT_FDCWD, from, AT_FDCWD, to, 0")
+
+def notes(tree):
+    """Agents note each colour that they apply; and nobody is given up for being slow."""
+    for agent in tree:
+        agent.hook(f'[ $2 != colour ] || echo "$(cat)" >>{agent.home}/applied')
+        agent.tables["link"] = {"backlog": 60_000, "ack_timeout": "1m", "evict": "10m"}
+
 
 @contextlib.contextmanager
-def begun(shape, harmless):
-    """Agents that note each colour that they apply; they have 1. Rounds come where they are asked
-    for, and nobody is given up for being slow."""
-    with Tree(shape) as tree:
-        for agent in tree:
-            agent.hook(f'[ $2 != colour ] || echo "$(cat)" >>{agent.home}/applied')
-            agent.tables["link"] = {"backlog": 60_000, "ack_timeout": "1m", "evict": "10m"}
-        tree.root.tables["root"].update(harmless=harmless, round="10m")
+def begun(shape):
+    """Such agents have colour 1. Rounds come where they are asked for."""
+    with Tree(shape, notes, root_has(harmless=7, round="10m")) as tree:
         tree.write("colour", 1)
         # (a small table would come again after a few items)
         tree.write("bulk", b"x" * 500_000)
         tree.start()
-        sure(tree.ready() and tree.right(), tree.wrong())
-        sure(until(lambda: is_quiet(tree)), [agent.status()["sequence"] for agent in tree])
+        tree.is_ready()
+        tree.settles()
+        rests(tree)
         yield tree
         tree.root.ask("round")
-        sure(until(lambda: is_quiet(tree) and not tree.wrong()), tree.wrong())
-        all_applied = {agent.name: applied(agent) for agent in tree}
-        back = {name: all for name, all in all_applied.items() if all != sorted(all)}
-        sure(not back, "something older was applied:", back)
-
-
-def applied(agent):
-    return [int(line) for line in (agent.home / "applied").read_text().split()]
+        rests(tree)
+        tree.settles()
+        for agent in tree:
+            applied = [int(line) for line in (agent.home / "applied").read_text().split()]
+            sure(applied == sorted(applied), agent.name, "applied something older:", applied)
 
 
 def number(agent):
     return agent.status()["sequence"]
 
 
-def is_quiet(tree):
-    """Whether all have what the root has published."""
-    waits = tree.root.ask("wait", "--everywhere", "--timeout", "1s", check=False)
-    there = [agent for agent in tree if agent.alive()]
-    return "error" not in waits and len({number(agent) for agent in there}) == 1
+def rests(tree):
+    """Asserts that all come to have what the root has published."""
+    def is_quiet():
+        return not tree.root.lacks("--everywhere") and len({number(it) for it in tree}) == 1
+    sure(until(is_quiet), [number(agent) for agent in tree])
 
 
 def colour(agent, value):
@@ -57,80 +52,49 @@ def colour(agent, value):
          agent.name, "has not", value, "but", agent.files().get("colour"))
 
 
-@test
-def an_agent_that_restarts_applies_nothing_older():
-    with begun({"other": "root", "leaf": "root"}, 3_000) as tree:
-        leaf = tree["leaf"]
-        in_a_round(tree)
-        for _ in range(3):
-            last = number(leaf)
-            leaf.restart()
-            sure(until(leaf.up) and until(lambda: number(leaf) >= last))
-            colour(leaf, 2)
-        tree["other"].signal(signal.SIGCONT)
-        sure(until(lambda: is_quiet(tree)))
-
-
-def in_a_round(tree):
-    """Colour 2 comes in a round, which goes on."""
-    # (for the root publishes no faster than the quickest child that there is takes it)
-    tree["other"].signal(signal.SIGSTOP)
-    begun = number(tree.root)
-    tree.root.ask("round")
-    sure(until(lambda: number(tree.root) > begun + 500, pause=0.001))
-    tree.root.ask("publish", "colour", 2)
-    colour(tree["leaf"], 2)
-
-
-WRONG = 2**63 - 1, 2**64 - 1, 10**6 * int(time.time()) + 10**6
-
-
-@test
-def a_wrong_number_in_a_marker_is_healed_by_two_rounds():
-    with begun({"middle": "root", "leaf": "middle"}, 7) as tree:
-        marker = tree["leaf"].settings / ".rignolda"
-        for value, wrong in enumerate(WRONG, 2):
-            tree["leaf"].kill()
-            marker.write_text(str(wrong))
-            tree.write("colour", value)
-            tree["leaf"].start()
-            sure(tree.ready())
-            two_rounds(tree)
-            # (while it runs, what it knows counts)
-            marker.write_text(str(wrong))
-            two_rounds(tree)
-            sure(int(marker.read_text()) == number(tree["leaf"]), marker.read_text())
-
-
 def two_rounds(tree):
     """They come, and all agents have the root's settings and numbers."""
     tree.rounds(2)
-    sure(until(lambda: is_quiet(tree)), [agent.status()["sequence"] for agent in tree])
+    rests(tree)
     sure(not tree.wrong(), tree.wrong())
 
 
 @test
-def a_wrong_number_in_memory_is_healed_by_two_rounds():
-    with begun({"middle": "root", "leaf": "middle"}, 7) as tree:
-        for value, name in enumerate(("leaf", "middle", "root"), 2):
-            word = struct.pack("<Q", number(tree[name]))
-            wrong = struct.pack("<Q", (number(tree[name]) + 2**62) % 2**64)
-            sure(write_over(tree[name].process.pid, {word: wrong}) > 0, name)
-            tree.write("colour", value)
+def a_wrong_number_in_a_marker_or_in_memory_is_healed_by_two_rounds():
+    with begun({"middle": "root", "leaf": "middle"}) as tree:
+        root, middle, leaf = tree
+        marker = leaf.settings / ".rignolda"
+        for wrong in 2**63 - 1, 2**64 - 1, 10**6 * int(time.time()) + 10**6:
+            leaf.kill()
+            marker.write_text(str(wrong))
+            tree.write("colour", int(tree.truth()["colour"]) + 1)
+            leaf.start()
+            tree.is_ready()
+            two_rounds(tree)
+            # (while it runs, what it knows counts)
+            marker.write_text(str(wrong))
+            two_rounds(tree)
+            sure(int(marker.read_text()) == number(leaf), marker.read_text())
+        for agent in leaf, middle, root:
+            own = number(agent)
+            wrong = {struct.pack("<Q", own): struct.pack("<Q", (own + 2**62) % 2**64)}
+            sure(write_over(agent.process.pid, wrong) > 0, agent.name)
+            tree.write("colour", int(tree.truth()["colour"]) + 1)
             two_rounds(tree)
 
 
-@test(needs=lacking)
+@test(needs="cc")
 def the_disk_has_the_number_before_the_files():
     """Whoever is ended in between has the older ones, and waits for the newer ones."""
-    with begun({"leaf": "root"}, 7) as tree:
-        leaf = tree["leaf"]
+    with begun({"leaf": "root"}) as tree:
+        root, leaf = tree
         leaf.kill()
         slow = preload(leaf, SLOW_RENAME)
         leaf.start()
-        sure(tree.ready() and until(lambda: is_quiet(tree)))
+        tree.is_ready()
+        rests(tree)
         slow.touch()
-        published = tree.root.ask("publish", "colour", 2)["sequence"]
+        published = root.ask("publish", "colour", 2)["sequence"]
         sure(until((slow.parent / "slow.began").exists))
         marker = int((leaf.settings / ".rignolda").read_text())
         sure(marker >= published, marker, "before", published)

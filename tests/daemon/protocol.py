@@ -6,7 +6,6 @@ import random
 import socket
 import struct
 import threading
-import time
 import zlib
 
 from daemons import PATIENCE, USUAL, until
@@ -73,17 +72,16 @@ def take_hello(sock, begins=b"RGND\x01"):
 
 def closed(sock):
     """Whether the other end closes."""
-    end = time.monotonic() + USUAL * PATIENCE
-    try:
-        while (left := end - time.monotonic()) > 0:
-            sock.settimeout(left)
-            if not sock.recv(1 << 16):
-                return True
-    except ConnectionError:
-        return True
-    except TimeoutError:
-        pass
-    return False
+    sock.settimeout(0.1)
+
+    def is_closed():
+        try:
+            return not sock.recv(1 << 16)
+        except TimeoutError:
+            return False
+        except ConnectionError:
+            return True
+    return until(is_closed, pause=0)
 
 
 def the_root_comes(tree):
@@ -97,6 +95,13 @@ def the_root_comes(tree):
             tree.root.start()
         return not tree.wrong()
     sure(until(is_right), tree.wrong(), tree.root.text()[-300:])
+
+
+def listener(agent):
+    """Listens in the place of an agent that does not run."""
+    sock = socket.create_server(("127.0.0.1", agent.port))
+    sock.settimeout(USUAL * PATIENCE)
+    return sock
 
 
 class Child:
@@ -143,10 +148,8 @@ class Parent:
     def __init__(self, agent):
         self.agent, self.numbers = agent, itertools.count(1)
         self.name = agent.parent.name
-        self.listener = socket.create_server(("127.0.0.1", agent.parent.port))
-        self.listener.settimeout(USUAL * PATIENCE)
+        self.listener, self.sock = listener(agent.parent), None
         self.life = random.getrandbits(64)
-        self.sock = None
         # (what is said here at once is to come in time)
         agent.tables["link"] = {"ack_timeout": "1m", "evict": "10m"}
         agent.start()
@@ -181,11 +184,11 @@ class Parent:
             else:
                 raise AssertionError(f"it sends {kind}")
 
-    def close(self):
-        self.sock.close()
-        self.listener.close()
-
     def gives_way(self):
         """Leaves the agent to its real parent, which has to come through to all."""
         self.close()
         the_root_comes(self.agent.tree)
+
+    def close(self):
+        self.sock.close()
+        self.listener.close()

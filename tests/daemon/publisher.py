@@ -10,6 +10,7 @@ hold tables back or no more, `above9` goes on above 9, or a quarter of all numbe
 `?8` asks for a body where eight may follow a table.
 """
 import random
+import re
 import struct
 import zlib
 
@@ -18,17 +19,16 @@ CHANGES, MANY, LONG = 4096, 64, 1 << 20
 
 class Root:
     def __init__(self, number):
-        self.number, self.settings, self.queue = number, {}, []
+        self.number, self.settings, self.queue = number, {}, {}
         self.since, self.table_bytes = [], None
         self.harmless, self.in_round, self.changes_had_it = 0, False, False
         self.held = False
 
     def put(self, key, value):
-        self.settings.pop(key, None)
-        if value is not None:
-            self.settings[key] = value
-        if key not in self.queue:
-            self.queue.append(key)
+        self.settings[key] = value
+        if value is None:
+            del self.settings[key]
+        self.queue.setdefault(key)
 
     def round(self, harmless):
         if self.in_round:
@@ -45,12 +45,10 @@ class Root:
             self.table_bytes = None
 
     def is_long(self, limit):
-        if self.table_bytes is None:
-            return True
-        bytes_since = sum(self.since)
+        """Whether a table is due after what followed the last one."""
+        bytes_since, count = sum(self.since), len(self.since)
         grown = bytes_since > self.table_bytes
-        return (len(self.since) >= max(1, limit)
-                or grown and (len(self.since) >= MANY or bytes_since > LONG))
+        return count >= max(1, limit) or grown and (count >= MANY or bytes_since > LONG)
 
     def kind(self, limit):
         if self.held:
@@ -70,7 +68,8 @@ class Root:
         if kind is None:
             return "-"
         self.number = self.number % (2 ** 64 - 1) + 1
-        keys = {"T": sorted(self.settings), "H": [], "C": sorted(self.queue[:CHANGES])}[kind]
+        queue = list(self.queue)
+        keys = {"T": sorted(self.settings), "H": [], "C": sorted(queue[:CHANGES])}[kind]
         body = kind.encode() + struct.pack(">Q", self.number)
         if kind != "H":
             body += struct.pack(">I", len(keys))
@@ -84,38 +83,30 @@ class Root:
             self.harmless -= 1
             self.changes_had_it = False
         elif kind == "C":
-            self.queue = self.queue[CHANGES:]
+            self.queue = dict.fromkeys(queue[CHANGES:])
             self.changes_had_it = True
         else:
-            self.queue, self.since, self.table_bytes = [], [], len(body)
+            self.queue, self.since, self.table_bytes = {}, [], len(body)
             if self.in_round and self.harmless == 0:
                 self.in_round = False
         return f"{kind}{self.number}:{zlib.crc32(body):08x}"
 
     def step(self, step):
-        if step.startswith("?"):
-            return self.ask(int(step[1:]))
-        if step.startswith("round"):
-            self.round(int(step[5:]))
-        elif step.startswith("above"):
-            self.go_above(int(step[5:]))
-        elif step.startswith("all="):
-            have = set(self.queue)
-            for at in range(int(step[4:])):
-                key = f"k{at:05}"
-                self.settings[key] = b"1"
-                if key not in have:
-                    self.queue.append(key)
-        elif step in ("hold", "go"):
-            self.held = step == "hold"
-        elif step.endswith("-"):
-            self.put(step[:-1], None)
-        elif "*" in step:
-            key, count = step.split("*")
-            self.put(key, b"x" * int(count))
+        word, sign, rest = re.fullmatch("([a-z]*)([-=*?]?)(.*)", step).groups()
+        if sign == "?":
+            return self.ask(int(rest))
+        if word == "round":
+            self.round(int(rest))
+        elif word == "above":
+            self.go_above(int(rest))
+        elif word == "all":
+            for at in range(int(rest)):
+                self.put(f"k{at:05}", b"1")
+        elif word in ("hold", "go"):
+            self.held = word == "hold"
         else:
-            key, value = step.split("=")
-            self.put(key, value.encode())
+            value = b"x" * int(rest) if sign == "*" else rest.encode()
+            self.put(word, None if sign == "-" else value)
         return None
 
 

@@ -17,6 +17,26 @@ def lose(percent):
         subprocess.run(words, check=True, capture_output=True)
 
 
+def between(agent, by_parent=False, **more):
+    """From its next start on an agent connects to its parent by a relay, or that to the agent,
+    until their tree ends."""
+    relay = Relay(agent.port if by_parent else agent.parent.port, **more)
+    agent.tree.ends.callback(relay.close)
+    if by_parent:
+        turn(agent, relay.port)
+    else:
+        agent.top["parents"] = [agent.parent.at(relay.port)]
+    return relay
+
+
+def turn(child, port=None):
+    """From its next start or reload on, the parent of an agent connects to it."""
+    top = child.parent.top
+    names = top.get("children") or [it.name for it in child.parent.children]
+    top["children"] = [child.at(port) if name == child.name else name for name in names]
+    child.top.update(parents=[child.parent.name], listen=f"127.0.0.1:{child.port}")
+
+
 class Relay:
     """Passes bytes on. With `cuts` it closes each connection after a drawn while, and what is under
     way is lost, often in the middle of a message, but not while it is `calm`; with `delay` bytes
@@ -27,11 +47,10 @@ class Relay:
         self.draw = random.Random(seed)
         self.listener = socket.create_server(("127.0.0.1", 0))
         self.port = self.listener.getsockname()[1]
-        self.open = True
-        self.calm = False
+        self.open, self.calm = True, False
         self.connections = 0
         self.passed = 0     # how many bytes came
-        self.pairs = []
+        self.socks = []
         threading.Thread(target=self.accept, daemon=True).start()
 
     def accept(self):
@@ -51,7 +70,7 @@ class Relay:
             near.close()
             return
         self.connections += 1
-        self.pairs.append((near, far))
+        self.socks += [near, far]
         end = time.monotonic() + self.draw.uniform(*self.cuts) if self.cuts else None
         waiting = []        # (when, to, bytes)
         try:
@@ -63,10 +82,9 @@ class Relay:
                     _, to, piece = waiting.pop(0)
                     # (of the last piece only a part gets through, if the connection ends now)
                     to.sendall(piece)
-                due = [end] if end and not self.calm else []
-                times = [at - now for at in due + [it[0] for it in waiting[:1]]]
-                ready = select.select([near, far], [], [], max(0.0, min(times + [0.2])))[0]
-                for sock in ready:
+                due = [it[0] for it in waiting[:1]] + ([end] if end and not self.calm else [])
+                wait = max(0.0, min([it - now for it in due] + [0.2]))
+                for sock in select.select([near, far], [], [], wait)[0]:
                     piece = sock.recv(1 << 16)
                     if not piece:
                         return
@@ -85,7 +103,5 @@ class Relay:
 
     def close(self):
         self.open = False
-        self.listener.close()
-        for pair in self.pairs:
-            for sock in pair:
-                sock.close()
+        for sock in (self.listener, *self.socks):
+            sock.close()

@@ -1,8 +1,10 @@
 """Runs the tests of trees of agents."""
 import argparse
 import concurrent.futures
+import functools
 import os
 import pathlib
+import shutil
 import sys
 import time
 import traceback
@@ -10,12 +12,13 @@ import traceback
 sys.dont_write_bytecode = True
 
 HERE = pathlib.Path(__file__).resolve().parent
+sys.path.append(str(HERE.parents[1] / "tools"))
 TESTS = []
 
 
 def test(function=None, *, begins=False, needs=None):
-    """Makes a function a test. One that takes long begins, and one is tried only where `needs` says
-    nothing that lacks."""
+    """Makes a function a test. One that takes long begins. One is tried only where the program is
+    that it needs, or where `needs` says nothing that lacks."""
     if function is None:
         return lambda function: test(function, begins=begins, needs=needs)
     function.begins, function.needs = begins, needs
@@ -29,7 +32,7 @@ def sure(holds, *words):
         raise AssertionError(" ".join(map(str, words)))
 
 
-def run(function):
+def run(function, name=None):
     """Runs a test: whether it passed."""
     started = time.monotonic()
     try:
@@ -37,28 +40,55 @@ def run(function):
         result = "ok"
     except Exception:
         result = "FAILED\n" + traceback.format_exc()
-    print(f"{function.__name__}: {result} ({time.monotonic() - started:.1f} s)", flush=True)
+    print(f"{name or function.__name__}: {result} ({time.monotonic() - started:.1f} s)", flush=True)
     return result == "ok"
 
 
-def main():
-    """Runs what the command line says; the last line is 'N passed, M failed'."""
+def options(*names, **usual):
+    """What the command line says for a script: words of some names, and options, each with what is
+    usual, which is nothing, a number or a text."""
     words = argparse.ArgumentParser(description=sys.modules["__main__"].__doc__,
                                     formatter_class=argparse.RawDescriptionHelpFormatter)
-    words.add_argument("names", metavar="WORD", nargs="*",
-                       help="a file here without its ending, or a part of the names of tests")
-    names = words.parse_args().names
+    for name in names:
+        words.add_argument(name, metavar=name.upper(), nargs="*")
+    for name, value in usual.items():
+        how = {"action": "store_true"} if value is False else {"type": type(value)}
+        words.add_argument(f"--{name}", default=value, **how)
+    return words.parse_args()
+
+
+def sum_up(results):
+    """Says how many of these are well: the status of a script."""
+    results = list(results)
+    print(f"{results.count(True)} passed, {results.count(False)} failed")
+    return 0 if all(results) else 1
+
+
+def run_seeds(chosen, act):
+    """Runs an act with each of the seeds that the command line says: the status of a script."""
+    seeds = range(chosen.seed, chosen.seed + chosen.runs)
+    return sum_up([run(functools.partial(act, seed), f"seed {seed}") for seed in seeds])
+
+
+def lacking(needs):
+    return needs() if callable(needs) else None if shutil.which(needs) else f"there is no {needs}"
+
+
+def main():
+    """Runs what the command line says: files here without their ending, or parts of the names of
+    tests."""
+    names = options("words").words
     os.chdir(HERE)
     begun = time.monotonic()
     chosen = [it for it in TESTS if not names
               or any(word == it.__module__ or word in it.__name__ for word in names)]
-    lacks = {needs: needs() for needs in dict.fromkeys(it.needs for it in chosen if it.needs)}
-    for lacking in filter(None, lacks.values()):
-        print("not tried:", lacking)
+    lacks = {needs: lacking(needs) for needs in {it.needs for it in chosen if it.needs}}
+    for needs, lack in lacks.items():
+        if lack:
+            print("not tried:", *(it.__name__ for it in chosen if it.needs == needs), "as", lack)
     chosen = sorted((it for it in chosen if not lacks.get(it.needs)), key=lambda it: not it.begins)
     # (most of them wait most of the time)
     with concurrent.futures.ThreadPoolExecutor(4) as pool:
         results = list(pool.map(run, chosen))
     print(f"in {time.monotonic() - begun:.0f} s")
-    print(f"{results.count(True)} passed, {results.count(False)} failed")
-    return 0 if all(results) else 1
+    return sum_up(results)

@@ -10,18 +10,17 @@ import tempfile
 import time
 
 import runner
-from daemons import Tree, free_port, root_has, until
+from daemons import Tree, becomes, free_port, root_has, until
 from runner import sure
 
 IN_STORE = ["left", "left1", "left2", "right2"]      # the others have connections
 
-
-def lacking():
-    is_there = shutil.which("redis-server")
-    return None if is_there else "links in a store: apt-get install redis-server"
+test = functools.partial(runner.test, begins=True, needs="redis-server")
 
 
-test = functools.partial(runner.test, begins=True, needs=lacking)
+def quoted(word):
+    """Bytes as redis-cli reads them."""
+    return '"' + "".join(f"\\x{byte:02x}" for byte in word) + '"'
 
 
 class Redis:
@@ -30,9 +29,10 @@ class Redis:
     def __init__(self):
         self.home = pathlib.Path(tempfile.mkdtemp(prefix="rignolda-redis-"))
         self.port = free_port()
+        self.address = f"redis://127.0.0.1:{self.port}/tree"
         self.password = self.home / "password"
         self.password.write_text("a word\n")
-        self.file = self.home / "dump.rdb"
+        self.file, self.kept = self.home / "dump.rdb", self.home / "backup"
         self.process = None
 
     def __enter__(self):
@@ -56,6 +56,10 @@ class Redis:
             self.process.wait()
             self.process = None
 
+    def at(self, agent):
+        """From its next start on an agent knows how to ask it."""
+        agent.tables["store"] = {"password": str(self.password), "database": 2}
+
     def ask(self, *words, lines=()):
         """What it answers to a command, or to one a line."""
         command = ["redis-cli", "-p", str(self.port), "-n", "2", *words]
@@ -70,11 +74,11 @@ class Redis:
     def backup(self):
         """Keeps what it holds now."""
         self.ask("SAVE")
-        shutil.copy(self.file, self.home / "backup")
+        shutil.copy(self.file, self.kept)
 
     def restore(self):
         """What it holds when it starts next."""
-        shutil.copy(self.home / "backup", self.file)
+        shutil.copy(self.kept, self.file)
 
     def age(self):
         """Keeps each word beside it; and makes each what was kept, at another time."""
@@ -85,113 +89,94 @@ class Redis:
 
     def spoil(self, draw):
         """No word is one any more: random bytes, a list, nothing, or another beginning."""
-        lines = []
-        for key in self.words():
-            how = draw.randrange(4)
-            if how == 0:
-                random_bytes = draw.randbytes(draw.randrange(1, 300))
-                lines.append(f'SET {key} "{"".join(f"{chr(92)}x{it:02x}" for it in random_bytes)}"')
-            elif how == 1:
-                lines += [f"DEL {key}", f"LPUSH {key} none"]
-            elif how == 2:
-                lines.append(f"DEL {key}")
-            else:
-                lines.append(f"SETRANGE {key} 0 spoiled")
-        self.ask(lines=lines)
+        ways = [lambda key: f"SET {key} {quoted(draw.randbytes(draw.randrange(1, 300)))}",
+                lambda key: f"DEL {key}\nLPUSH {key} none", lambda key: f"DEL {key}",
+                lambda key: f"SETRANGE {key} 0 spoiled"]
+        self.ask(lines=[draw.choice(ways)(key) for key in self.words()])
 
 
-def in_store(redis, names=IN_STORE):
+def in_store(redis):
     """From their start on, these agents and their parents meet in the store."""
     def before(tree):
-        address = f"redis://127.0.0.1:{redis.port}/tree"
         # (a round has to be several times longer than it takes by the slowest link)
         tree.root.tables["root"].update(round="4s", harmless=7)
         for agent in tree:
             agent.tables["link"] = {"ack_timeout": "2s", "evict": "20s"}
-            agent.tables["store"] = {"password": str(redis.password), "database": 2}
-            if any(child.name in names for child in agent.children):
+            redis.at(agent)
+            if agent.children:
                 agent.top["children"] = [
-                    f"{child.name}@{address}" if child.name in names else child.name
-                    for child in agent.children]
-            if agent.name in names:
-                agent.top["parents"] = [f"{agent.parent.name}@{address}"]
+                    f"{it.name}@{redis.address}" if it.name in IN_STORE else it.name
+                    for it in agent.children]
+            if agent.name in IN_STORE:
+                agent.top["parents"] = [f"{agent.parent.name}@{redis.address}"]
     return before
 
 
 @test()
 def settings_travel_through_a_store():
     """Small and large ones; who has what is known at the root; and one process has one name."""
-    with Redis() as redis, Tree(before=in_store(redis)) as tree:
+    with Redis() as redis, Tree(None, in_store(redis)) as tree:
         tree.begin()
-        took = []
         for at in range(5):
-            begun = time.monotonic()
             number = tree.root.ask("publish", "key1", f"again {at}")["sequence"]
-            sure(tree.right(), tree.wrong())
-            took.append(time.monotonic() - begun)
-            tree.root.ask("wait", "--everywhere", number)
-        print(f"settings came in {min(took):.3f} to {max(took):.3f} s", flush=True)
+            tree.settles()
+            tree.wait(number)
         big = random.Random(1).randbytes(1 << 20)
         tree.publish("big", value=big)
         sure(tree["left1"].files()["big"] == big, "it is another one")
         # a second process of one name takes the store from the first one, and is told apart
         leaf = tree["left2"]
-        first, log = leaf.process, leaf.text()
+        first = leaf.process
         leaf.socket = leaf.home / "control2"
         leaf.start()
-        sure(until(lambda: "another process writes there" in leaf.text()), leaf.text())
+        leaf.says("another process writes there")
         first.kill()
         first.wait()
         sure(until(leaf.up), leaf.text())
         tree.write("after", "that")
-        sure(tree.right(), tree.wrong())
-        sure(not any(agent.said("panicked") for agent in tree))
+        tree.settles()
 
 
 @test()
 def losses_in_a_store_lose_nothing():
     """Words that are gone or spoiled, a store that is away or back empty: no round mends that."""
     draw = random.Random(3)
-
-    with Redis() as redis:
-        before = in_store(redis), root_has(round="1h")
-        with Tree(before=lambda tree: [act(tree) for act in before]) as tree:
-            tree.begin()
-            for turn in range(6):
-                tree.write("key1", f"before {turn}")
-                if turn % 2:
-                    redis.kill()
-                    tree.write("key2", f"while it is away {turn}")
-                    redis.start()
-                else:
-                    redis.spoil(draw)
-                    tree.write("key2", f"where it is spoiled {turn}")
-                    redis.spoil(draw)
-                tree.write("key3", f"after {turn}")
-                sure(tree.right(), turn, tree.wrong())
-            # a child's word is set again although nothing changes: who begins anew looks at it
-            redis.ask("DEL", *redis.words())
-            lacking = lambda: {f"tree:{tree[it].parent.name}:{it}:up"
-                               for it in IN_STORE} - set(redis.words())
-            sure(until(lambda: not lacking()), "these are gone:", lacking())
-            statuses = {agent.name: agent.status() for agent in tree}
-            sure(all(it["gaps"] + it["strays"] == 0 for it in statuses.values()), statuses)
-            # (each change of state is one line)
-            text = tree["left1"].text()
-            states = re.findall("^(connected|closed) the parent", text, re.MULTILINE)
-            sure(states.count("closed") >= 3, text)
-            sure(states == (["connected", "closed"] * len(states))[:len(states)], text)
-            for agent in (tree.root, tree["left"]):
-                agent.restart()
-            sure(tree.ready() and tree.right(), tree.wrong())
-            sure(not any(agent.said("panicked") for agent in tree))
+    with Redis() as redis, Tree(None, in_store(redis), root_has(round="1h")) as tree:
+        tree.begin()
+        for turn in range(6):
+            tree.write("key1", f"before {turn}")
+            if turn % 2:
+                redis.kill()
+                tree.write("key2", f"while it is away {turn}")
+                redis.start()
+            else:
+                redis.spoil(draw)
+                tree.write("key2", f"where it is spoiled {turn}")
+                redis.spoil(draw)
+            tree.write("key3", f"after {turn}")
+            tree.settles()
+        # a child's word is set again although nothing changes: who begins anew looks at it
+        redis.ask("DEL", *redis.words())
+        of_children = {f"tree:{tree[it].parent.name}:{it}:up" for it in IN_STORE}
+        becomes(lambda: of_children - set(redis.words()), set(), "these are gone:")
+        lost = {agent.name: agent.status()["gaps"] + agent.status()["strays"] for agent in tree}
+        sure(not any(lost.values()), lost)
+        # (each change of state is one line)
+        text = tree["left1"].text()
+        states = re.findall("^(connected|closed) the parent", text, re.MULTILINE)
+        sure(states.count("closed") >= 3, text)
+        sure(states == (["connected", "closed"] * len(states))[:len(states)], text)
+        for agent in (tree.root, tree["left"]):
+            agent.restart()
+        tree.is_ready()
+        tree.settles()
 
 
 @test()
 def faults_of_a_store_are_mended_by_rounds():
     """Old words, an old backup, and kills: two rounds later all is right."""
     draw = random.Random(4)
-    with Redis() as redis, Tree(before=in_store(redis)) as tree:
+    with Redis() as redis, Tree(None, in_store(redis)) as tree:
         tree.begin()
         redis.backup()
         redis.age()
@@ -206,10 +191,9 @@ def faults_of_a_store_are_mended_by_rounds():
             redis.kill()
             redis.restore()
             tree.write("key7", f"down {turn}")
-            for victim in victims:
-                victim.start()
+            if victims:
+                tree.start(victims)
             redis.start()
             redis.make_old()
-            sure(tree.right(), turn, tree.wrong())
-        sure(tree.ready(), "the tree is not ready")
-        sure(not any(agent.said("panicked") for agent in tree))
+            tree.settles()
+        tree.is_ready()

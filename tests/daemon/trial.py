@@ -1,4 +1,4 @@
-#!/usr/bin/env python3
+#!/usr/bin/env -S python3 -B
 """Faults of all kinds among 15 agents in rings, drawn, as a stranger would cause them.
 
     tests/daemon/trial.py [--runs 4] [--seed 1] [--faults 40]    by hand; check.py tries one run
@@ -13,11 +13,9 @@ After the last one all folders come to be the hub's, and all agents to the hub b
 Then a change is published, `wait --everywhere` ends well, and all folders have it at once; no agent
 has ended by itself. With --runs each run has the next seed. The last line is 'N passed, M failed'.
 """
-import argparse
 import collections
 import contextlib
 import os
-import pathlib
 import random
 import re
 import shutil
@@ -27,10 +25,11 @@ import sys
 import time
 
 import runner
-from daemons import Tree, by_tls, during, meanwhile, read, until
+from daemons import Tree, becomes, by_tls, during, meanwhile, read, until
 from runner import sure, test
 
 RACKS, LEAVES = 4, 10
+NAMES = [f"rack{at + 1}" for at in range(RACKS)] + [f"leaf{at + 1}" for at in range(LEAVES)]
 DIALLED = "leaf10"
 BY_IPV6 = "rack3"
 
@@ -44,9 +43,6 @@ def parents_of(name):
     return [f"rack{own}"] if name == DIALLED else [f"rack{own}", f"rack{own % RACKS + 1}", "root"]
 
 
-NAMES = [f"rack{at + 1}" for at in range(RACKS)] + [f"leaf{at + 1}" for at in range(LEAVES)]
-
-
 def has_ipv6():
     with contextlib.suppress(OSError), socket.create_server(("::1", 0), family=socket.AF_INET6):
         return True
@@ -54,23 +50,23 @@ def has_ipv6():
 
 
 def in_rings(tree):
-    by_tls(tree)
     six = has_ipv6()
     host = lambda name: "[::1]" if six and name == BY_IPV6 else "127.0.0.1"
     at = lambda name: f"{name}@{host(name)}:{tree[name].port}"
     tree.root.tables["root"]["harmless"] = 15
     for agent in tree:
+        name, top = agent.name, agent.top
         agent.tables["link"] = {"ack_timeout": "1s", "evict": "8s", "backlog": 80}
         # (also a folder that lost its marker is its own)
         agent.tables["apply"]["take"] = True
-        agent.top["listen"] = f"{host(agent.name)}:{agent.port}"
-        agent.top["children"] = [at(name) if name == DIALLED else name for name in NAMES
-                                 if agent.name in parents_of(name)]
-        if not agent.top["children"] and agent.name != DIALLED:
-            del agent.top["children"], agent.top["listen"]
-    for name in NAMES:
-        tree[name].top["parents"] = [it if name == DIALLED else at(it) for it in parents_of(name)]
-    del tree[DIALLED].top["children"]
+        agent.children = []
+        children = [it for it in NAMES if name in parents_of(it)]
+        if children:
+            top["children"] = [at(it) if it == DIALLED else it for it in children]
+        if children or name == DIALLED:
+            top["listen"] = f"{host(name)}:{agent.port}"
+        if agent.parent:
+            top["parents"] = [it if name == DIALLED else at(it) for it in parents_of(name)]
 
 
 # ---- Folders
@@ -161,9 +157,8 @@ OF_FOLDERS = {"extra files": extra_files, "extra odd names": extra_odd_names, "e
 SPOILS = [*OF_FILES, *OF_TWO, *OF_FOLDERS]
 
 
-def spoil(agent, how, draw):
-    """Spoils an agent's folder, while the agent may write in it."""
-    folder = agent.settings
+def spoil(folder, how, draw):
+    """Spoils a folder, while its agent may write in it."""
     # (where the agent was faster, a file that was to be spoilt is another one by now)
     with contextlib.suppress(OSError):
         if how in OF_FOLDERS:
@@ -185,6 +180,7 @@ class Run:
         self.below = [agent for agent in tree if agent is not tree.root]
         self.undo = []          # (when, the agent, what ends its fault)
         self.counts = collections.Counter()
+        self.copies = {}        # old ones of folders, by the names of their agents
 
     def change(self):
         """Changes one setting, by a file or by a command."""
@@ -211,7 +207,7 @@ class Run:
         ended = [agent.name for agent in self.tree if agent not in hit and not agent.alive()]
         sure(not ended, "they ended by themselves:", ended)
 
-    def fault(self, draw, copies):
+    def fault(self, draw):
         hit = [agent for _, agent, _ in self.undo]
         whole = [agent for agent in self.tree if agent not in hit]
         kinds = {"kill": 20, "end": 10, "stop": 9, "hub": 6, "spoil": 36, "copy": 8}
@@ -228,41 +224,36 @@ class Run:
             is_gentle = kind == "end" or draw.random() < 0.3
             victim.kill(signal.SIGTERM if is_gentle else signal.SIGKILL)
             if draw.random() < 0.3 and victim is not self.tree.root:
-                spoil(victim, draw.choice(SPOILS), draw)
+                spoil(victim.settings, draw.choice(SPOILS), draw)
             away = 0.2 if kind == "hub" else draw.choice([0, 0.1, 0.5, 2, 5])
             self.undo.append((time.monotonic() + away, victim, victim.start))
         else:
-            victim = draw.choice(self.below)
-            copy = copies.get(victim.name)
-            if kind == "copy" and copy:
-                shutil.rmtree(victim.settings, ignore_errors=True)
+            folder = draw.choice(self.below).settings
+            if kind == "copy" and folder in self.copies:
+                shutil.rmtree(folder, ignore_errors=True)
                 with contextlib.suppress(OSError):
-                    shutil.copytree(copy, victim.settings, dirs_exist_ok=True)
+                    folder.mkdir(exist_ok=True)
+                    for name, value in self.copies[folder].items():
+                        (folder / name).write_bytes(value)
             else:
-                spoil(victim, draw.choice(SPOILS), draw)
-        kept = draw.choice(self.below)
-        if kept.name not in copies:
-            # (what will be an old copy)
-            copies[kept.name] = kept.home / "copy"
-            copies[kept.name].mkdir()
-            for name, value in read(kept.settings).items():
-                if value is not None:
-                    (copies[kept.name] / name).write_bytes(value)
+                spoil(folder, draw.choice(SPOILS), draw)
+        # (what will be an old copy)
+        folder = draw.choice(self.below).settings
+        if folder not in self.copies:
+            files = read(folder).items()
+            self.copies[folder] = {name: value for name, value in files if value is not None}
 
     def differing(self):
         """Whose settings are others. What lies there and is no file, or has no key for its name, is
         nobody's setting."""
-        truth, wrong = self.tree.truth(), []
-        for agent in self.tree:
-            own = {key: value for key, value in agent.files().items()
-                   if key in truth or value is not None and KEY.fullmatch(key)}
-            wrong += [agent.name] if own != truth else []
-        return wrong
+        truth = self.tree.truth()
+        own = lambda agent: {key: value for key, value in agent.files().items()
+                             if key in truth or value is not None and KEY.fullmatch(key)}
+        return [agent.name for agent in self.tree if own(agent) != truth]
 
     def lost(self):
         """Who does not come to the hub by its parents."""
-        parents = {agent.name: agent.request(do="status").get("status", {}).get("parent")
-                   for agent in self.tree}
+        parents = {agent.name: agent.status().get("parent") for agent in self.tree}
         lost = []
         for name in NAMES:
             at, seen = name, set()
@@ -273,21 +264,21 @@ class Run:
         return lost
 
     def go(self, faults):
-        tree, draw, copies = self.tree, random.Random(self.draw.random()), {}
+        tree, draw = self.tree, random.Random(self.draw.random())
         for at in range(60):
             tree.write(f"key{at}", draw.randbytes(draw.randrange(300)))
         # (as after a power cut: the hub is the last)
         tree.start([*self.below, tree.root])
-        sure(until(lambda: not self.differing()), "a cold start:", self.differing())
+        becomes(self.differing, [], "a cold start:")
         with meanwhile(self.change):
             for _ in range(faults):
-                self.fault(draw, copies)
+                self.fault(draw)
                 for _ in during(draw.choice([0, 0.05, 0.3, 0.6])):
                     self.settle()
                     time.sleep(0.02)
             self.settle(is_all=True)
-        sure(until(lambda: not self.differing(), pause=0.05), self.counts, self.differing())
-        sure(until(lambda: not self.lost(), pause=0.1), "no way to the hub:", self.lost())
+        becomes(self.differing, [], self.counts, "these differ:", pause=0.05)
+        becomes(self.lost, [], "no way to the hub:", pause=0.1)
         tree.publish("final", draw.random())
         # (what wait says is so at once)
         lacking = [it.name for it in tree if it.files().get("final") != tree.truth()["final"]]
@@ -300,11 +291,10 @@ class Run:
             time.sleep(1)
             return moves() == before
         sure(until(rests), "they move on")
-        sure(not any(agent.said("panicked") for agent in tree))
 
 
 def tried(seed, faults):
-    with Tree(dict.fromkeys(NAMES, "root"), in_rings) as tree:
+    with Tree(dict.fromkeys(NAMES, "root"), by_tls, in_rings) as tree:
         Run(tree, seed).go(faults)
 
 
@@ -314,19 +304,9 @@ def faults_of_all_kinds_end_in_a_right_tree():
 
 
 def main():
-    words = argparse.ArgumentParser(description=__doc__.splitlines()[0])
-    for name, usual in ("runs", 4), ("seed", 1), ("faults", 40):
-        words.add_argument(f"--{name}", type=int, default=usual)
-    chosen = words.parse_args()
-    passed = 0
-    for seed in range(chosen.seed, chosen.seed + chosen.runs):
-        one = lambda: tried(seed, chosen.faults)
-        one.__name__ = f"seed {seed}"
-        passed += runner.run(one)
-    print(f"{passed} passed, {chosen.runs - passed} failed")
-    return 0 if passed == chosen.runs else 1
+    chosen = runner.options(runs=4, seed=1, faults=40)
+    return runner.run_seeds(chosen, lambda seed: tried(seed, chosen.faults))
 
 
 if __name__ == "__main__":
-    os.chdir(pathlib.Path(__file__).resolve().parent)
     sys.exit(main())

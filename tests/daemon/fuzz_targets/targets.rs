@@ -108,8 +108,10 @@ fn messages(bytes: &[u8]) {
     let (mut input, mut at) = (bytes.to_vec(), 0);
     loop {
         let (rest, taken) = (&bytes[at..], take(&mut input, expect));
+        // (a hello begins as a report does)
         let is_long = LENGTHS.iter().any(|(kind, place, digits, most)| {
-            rest.first() == Some(kind)
+            first % 4 != 0
+                && rest.first() == Some(kind)
                 && number(rest, *place, *digits).is_some_and(|it| it > *most as u64)
         });
         match taken {
