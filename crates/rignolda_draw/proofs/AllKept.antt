@@ -38,6 +38,12 @@ put_there [] i x y there = absurd (none-some y there)
 put_there (z ∷ zs) zero x y there = same_Some x y there
 put_there (z ∷ zs) (suc i) x y there = put_there zs i x y there
 
+-- what was put in is what is there, if it is within the list
+there_is : {X : Type 0} (xs : List (Option X)) (i : ℕ) (o : Option X) (y : X) → get_or (set xs i o) i None ≡ Some y → o ≡ Some y
+there_is [] i o y there = absurd (none-some y there)
+there_is (z ∷ zs) zero o y there = there
+there_is (z ∷ zs) (suc i) o y there = there_is zs i o y there
+
 -- all entries are the same
 same_there : {A : Type 0} (count i : ℕ) (a : A) → get_or (replicate count a) i a ≡ a
 same_there zero i a = refl
@@ -71,25 +77,43 @@ module _ (nodes : Nodes) (kept : List (Option LinkLine)) (links : List (Option L
             ];
       }
 
-  -- and the line after it is put in
-  pub put_back : (line : LinkLine) (link : LinkValue) → get_or links node None ≡ Some link → ShowsLine nodes node line link.state
-      → ShowsAll nodes (set kept node (Some line)) links
-  put_back line link is now =
-      record {
-        each = λ w other_line other_link there linked.
-            elim (cases_eq w node) [
-              | inl same ↦
-                  (let its_line : line ≡ other_line =
-                  put_there kept node line other_line (ap (λ k. get_or (set kept node (Some line)) k None) (sym same) ∙ there) in
-                  let its_link : link ≡ other_link =
-                  same_Some link other_link (sym is ∙ (ap (λ k. get_or links k None) (sym same) ∙ linked)) in
-                  subst (λ v. ShowsLine nodes v other_line other_link.state) (sym same)
-                  (subst (λ (l : LinkLine). ShowsLine nodes node l other_link.state) its_line
-                  (subst (λ (l : LinkValue). ShowsLine nodes node line l.state) its_link now)))
-              | inr other ↦
-                  shows.each w other_line other_link (sym (get_or-set_other kept node w (Some line) None other) ∙ there) linked
-            ];
-      }
+-- the line of a link after a step is kept, or none
+pub kept_after : (nodes : Nodes) (kept after : List (Option LinkLine)) (node : ℕ) (before : Before) (had : Effect) (links : List (Option LinkValue))
+    (link : LinkValue) (entry : Option LinkLine) → FollowsAll nodes kept node before had links → get_or links node None ≡ Some link
+    → after ≡ set kept node entry → IfSome entry (λ line. ShowsLine nodes node line link.state) → ShowsAll nodes after links
+kept_after nodes kept after node before had links link entry follows is made shows =
+    subst (λ (ks : List (Option LinkLine)). ShowsAll nodes ks links) (sym made)
+    (record {
+      each = λ w line its_link there linked.
+          elim (cases_eq w node) [
+            | inl same ↦
+                (let its : link ≡ its_link =
+                same_Some link its_link (sym is ∙ (ap (λ k. get_or links k None) (sym same) ∙ linked)) in
+                subst (λ v. ShowsLine nodes v line its_link.state) (sym same)
+                (subst (λ (l : LinkValue). ShowsLine nodes node line l.state) its
+                (if_some entry line (λ l. ShowsLine nodes node l link.state) shows
+                (there_is kept node entry line (ap (λ k. get_or (set kept node entry) k None) (sym same) ∙ there)))))
+            | inr other ↦
+                follows.others.each w line its_link
+                (get_or-set_other kept node w None None other ∙ (sym (get_or-set_other kept node w entry None other) ∙ there)) linked
+          ];
+    })
+  where
+    if_some : (entry : Option LinkLine) (line : LinkLine) (P : LinkLine → Type 0) → IfSome entry P → entry ≡ Some line → P line
+    if_some None line P holds is = absurd (none-some line is)
+    if_some (Some l) line P holds is = subst P (same_Some l line is) holds
+
+-- where no link leads into the node, nothing is said of what is kept there
+pub no_link : (nodes : Nodes) (kept : List (Option LinkLine)) (node : ℕ) (before : Before) (had : Effect) (links : List (Option LinkValue))
+    → FollowsAll nodes kept node before had links → get_or links node None ≡ None → ShowsAll nodes kept links
+no_link nodes kept node before had links follows none =
+    record {
+      each = λ w line link there linked.
+          elim (cases_eq w node) [
+            | inl same ↦ absurd (none-some link (sym none ∙ (ap (λ k. get_or links k None) (sym same) ∙ linked)))
+            | inr other ↦ follows.others.each w line link (get_or-set_other kept node w None None other ∙ there) linked
+          ];
+    }
 
 -- ---- a step
 

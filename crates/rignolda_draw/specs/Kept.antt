@@ -7,7 +7,7 @@
 use Rattle.std.specs.Prelude.{◌≡◌, ◌<◌, ℕ, Bool, true, false, List, ◌++◌, Option, Some, None}
 use Rattle.std.specs.Prelude.{codes, decimal}
 use Rattle.std.specs.Prelude.{length, option_to_list, slice_get, string_bytes, IsAscii}
-use Rattle.std.specs.Prelude.{slice_index_or, slice_set}
+use Rattle.std.specs.Prelude.{slice_index_or, slice_set, IfSome}
 use Rattle.std.specs.List.{flat_map}
 use Rattle.rignolda_draw.specs.Words.{cell, frame_word, item_word}
 use Rattle.rignolda_draw.specs.Runs.{state_cells}
@@ -105,6 +105,11 @@ pub record FollowsLine (nodes : Nodes) (node : ℕ) (line : LinkLine) (before : 
   pub name : string_bytes line.name ≡ name_cell nodes node
   pub text : FollowsLink line.text before s
   pub still : had ≡ Nothing → before.is_loss ≡ false → ShowsLine nodes node line s
+
+-- so it is where a line is kept
+abbrev pub FollowsAt : Nodes → Option LinkLine → ℕ → Before → Effect → LinkState → Type 0
+FollowsAt nodes entry node before had s =
+    IfSome entry (λ line. FollowsLine nodes node line before had s)
 
 -- the lines that are kept are those of the links of a tree; of some none is kept
 pub record ShowsAll (nodes : Nodes) (kept : List (Option LinkLine))

@@ -1,13 +1,13 @@
 //! The lines of the links of a tree, which are kept from line to line.
 
-ghost use Rattle.std.specs.Prelude.{◌≡◌, ◌++◌, Option, Some, None, replicate, slice_index_or};
+ghost use Rattle.std.specs.Prelude.{◌≡◌, ◌++◌, Option, None, replicate, slice_index_or};
 ghost use Rattle.std.specs.Prelude.{[], slice_set, string_bytes, IfOk, IfSome, IsErrOf, OnOk};
 ghost use Rattle.std.specs.Prelude.{false, IsFalse};
 ghost use Rattle.std.specs.Option.{option_map_or};
 ghost use Rattle.stab_treecore.specs.Refusals.{NamesNoLink};
 ghost use Rattle.stab_treecore.specs.TreeStep.{tree_step};
 ghost use Rattle.stab_treecore.specs.WholeTree.{link_into};
-ghost use Rattle.rignolda_draw.specs.Kept.{FollowsAll, FollowsLine, ShowsAll, ShowsLine};
+ghost use Rattle.rignolda_draw.specs.Kept.{FollowsAll, FollowsAt, FollowsLine, ShowsAll, ShowsLine};
 ghost use Rattle.rignolda_draw.specs.Schedules.{link_line, step_line};
 
 use crate::cells::push_kept_cells;
@@ -77,7 +77,6 @@ pub(crate) fn push_kept_line(
 }
 
 /// Adds the line of a step that was taken, where a link leads into its child, and keeps it.
-#[tactic(auto, using(crate::proofs::AllKept::put_back))]
 fn push_taken(
     alloc: Global,
     text: &mut String,
@@ -93,62 +92,82 @@ fn push_taken(
         (link_into state.now taken.now.child) []) }
     ensures shows { OnOk result (ShowsAll tree.now kept.new.items state.now.links) }
 {
-    let was = take_out(kept, taken.child);
     match state.link(taken.child) {
         None => Ok(()),
-        Some(link) => {
-            let now = followed(alloc, was, tree, link, taken)?;
-            push_line_of(text, tree, link, &now, taken)?;
-            put_in(kept, taken.child, now);
-            Ok(())
-        }
+        Some(link) => push_kept(alloc, text, kept, tree, link, taken),
     }
 }
 
-/// Takes out the line that is kept of the link into a node.
+/// The same of a link that is there.
 #[tactic(auto, using(crate::proofs::AllKept::set_past))]
-fn take_out(kept: &mut Vec<Option<LinkLine>>, node: NodeId) -> Option<LinkLine>
-    ensures was { result ≡ slice_index_or kept.old.items node None }
-    ensures left { kept.new.items ≡ slice_set kept.old.items node None }
-{
-    if node.index() < kept.len() {
-        kept[node.index()].take()
-    } else {
-        None
-    }
-}
-
-/// Keeps the line of the link into a node.
-#[tactic(auto, using(crate::proofs::AllKept::set_past))]
-fn put_in(kept: &mut Vec<Option<LinkLine>>, node: NodeId, line: LinkLine)
-    ensures { kept.new.items ≡ slice_set kept.old.items node (Some line) }
-{
-    if node.index() < kept.len() {
-        kept[node.index()] = Some(line);
-    }
-}
-
-/// The line of a link after a step: that before it is changed, or it is made where none was kept.
-fn followed(
+fn push_kept(
     alloc: Global,
-    was: Option<LinkLine>,
+    text: &mut String,
+    kept: &mut Vec<Option<LinkLine>>,
     tree: &Tree,
     link: &Link,
     taken: &Taken,
-) -> Result<LinkLine, AllocError>
-    requires { IfSome was (λ line. FollowsLine tree.now taken.now.child line
-        taken.now.before taken.now.effect link.now.state) }
-    ensures { IfOk result (λ line. ShowsLine tree.now taken.now.child line link.now.state) }
+) -> Result<(), AllocError>
+    requires { FollowsAt tree.now (slice_index_or kept.old.items taken.now.child None)
+        taken.now.child taken.now.before taken.now.effect link.now.state }
+    ensures line { OnOk result (string_bytes text.new ≡ string_bytes text.old
+        ++ link_line tree.now taken.now.child taken.now.event taken.now.effect link.now) }
+    ensures kept { OnOk result ((entry : Option LinkLine)
+        × (kept.new.items ≡ slice_set kept.old.items taken.now.child entry)
+        × IfSome entry (λ line. ShowsLine tree.now taken.now.child line link.now.state)) }
 {
-    match was {
-        None => LinkLine::new(alloc, tree, taken.child, link),
-        Some(mut line) => {
-            if changes(taken) {
-                line.follow(link, taken.before)?;
-            }
-            Ok(line)
-        }
+    if taken.child.index() < kept.len() {
+        push_at(
+            alloc,
+            text,
+            &mut kept[taken.child.index()],
+            tree,
+            link,
+            taken,
+        )
+    } else {
+        let line = LinkLine::new(alloc, tree, taken.child, link)?;
+        push_line_of(text, tree, link, &line, taken)
     }
+}
+
+/// Adds the line of a link from the one that is kept there, or from a new one, which is then kept.
+fn push_at(
+    alloc: Global,
+    text: &mut String,
+    entry: &mut Option<LinkLine>,
+    tree: &Tree,
+    link: &Link,
+    taken: &Taken,
+) -> Result<(), AllocError>
+    requires { FollowsAt tree.now entry.old taken.now.child taken.now.before taken.now.effect
+        link.now.state }
+    ensures line { OnOk result (string_bytes text.new ≡ string_bytes text.old
+        ++ link_line tree.now taken.now.child taken.now.event taken.now.effect link.now) }
+    ensures shows { OnOk result (IfSome entry.new
+        (λ line. ShowsLine tree.now taken.now.child line link.now.state)) }
+{
+    let Some(line) = entry else {
+        let line = LinkLine::new(alloc, tree, taken.child, link)?;
+        push_line_of(text, tree, link, &line, taken)?;
+        *entry = Some(line);
+        return Ok(());
+    };
+    follow(line, tree, link, taken)?;
+    push_line_of(text, tree, link, line, taken)
+}
+
+/// Changes the line of a link as a step changed it.
+fn follow(line: &mut LinkLine, tree: &Tree, link: &Link, taken: &Taken) -> Result<(), AllocError>
+    requires { FollowsLine tree.now taken.now.child line.old taken.now.before taken.now.effect
+        link.now.state }
+    ensures { OnOk result (ShowsLine tree.now taken.now.child line.new link.now.state) }
+{
+    let _its_tree = tree.len();
+    if changes(taken) {
+        line.follow(link, taken.before)?;
+    }
+    Ok(())
 }
 
 /// Whether a step may have changed its link.
