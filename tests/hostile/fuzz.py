@@ -38,6 +38,9 @@ from examples import DATA, words_of  # noqa: E402
 from programs import answered, built  # noqa: E402
 from tables.reader import EVENTS, LETTERS, row  # noqa: E402
 
+# How many bytes a job may have.
+MOST_BYTES = 16_777_216
+
 SECONDS = 20
 COMMANDS = [["link"], ["link", "--trace"], ["tree"], ["run"], ["run", "--words"],
             ["run", "--mixed"]]
@@ -214,7 +217,9 @@ def case(seed, number):
         data = spoil_bytes(draw, data)
     else:
         data = spoil_encoding(draw, data)
-    return command, spoil_bytes(draw, data) if draw.random() < 0.05 else data
+    data = spoil_bytes(draw, data) if draw.random() < 0.05 else data
+    # (of a longer file nothing is read)
+    return command, data[:MOST_BYTES]
 
 
 # How a case is run and judged.

@@ -1,7 +1,7 @@
 //! Asks a running agent, over its control socket.
 #![forbid(unsafe_code)]
 use clap::{Parser, Subcommand};
-use rignolda::settings::is_newer;
+use rignolda::settings::{is_newer, VALUE_BYTES};
 use rignoldactl::ask::{self, Agent};
 use rignoldactl::files::{self, File};
 use rignoldactl::{milliseconds, Request, Response, Seen, Status};
@@ -14,7 +14,6 @@ use std::time::{Duration, Instant};
 
 /// How often a command that waits asks.
 const PAUSE: Duration = Duration::from_millis(50);
-const VALUE_BYTES: u64 = 1 << 20;
 
 /// Asks a running agent of rignoldad, over its control socket.
 ///
@@ -286,12 +285,12 @@ fn value_of(word: Option<&str>) -> Result<Vec<u8>, Failed> {
         _ => {
             let input = std::io::stdin().lock();
             input
-                .take(VALUE_BYTES + 1)
+                .take(VALUE_BYTES as u64 + 1)
                 .read_to_end(&mut value)
                 .map_err(|error| Failed(1, format!("the standard input: {error}")))?;
         }
     }
-    match value.len() as u64 > VALUE_BYTES {
+    match value.len() > VALUE_BYTES {
         true => Err(Failed(1, format!("a value has at most {VALUE_BYTES} bytes"))),
         false => Ok(value),
     }

@@ -2,6 +2,7 @@
 //! [counts](crate::metrics) and [page](crate::page).
 use crate::config::Address;
 use crate::serve;
+use rignolda::settings::VALUE_BYTES;
 use rignolda_tls::Listener;
 use rignoldactl::{Request, Response};
 use std::io;
@@ -10,7 +11,7 @@ use std::path::Path;
 use std::time::Duration;
 
 /// The longest request: the hexadecimal digits of the longest value, and its key.
-const REQUEST_BYTES: usize = (2 << 20) + 4_096;
+const REQUEST_BYTES: usize = 2 * VALUE_BYTES + 4_096;
 /// How long a connection may be without a request.
 const IDLE: Duration = Duration::from_secs(30);
 /// The same of those who ask for the counts.
