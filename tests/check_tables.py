@@ -14,6 +14,7 @@ that no row brings about. The last line is 'N passed, M failed'.
 
 import os
 import re
+import shlex
 import subprocess
 import sys
 import tempfile
@@ -128,6 +129,20 @@ def faults_otherwise(file):
     return f"these are on the page or answered, and not both: {differ}" if differ else None
 
 
+def script_otherwise(file):
+    """How examples/check.sh differs by a launcher that says where the manual is, as ./stab does, or
+    None."""
+    with tempfile.TemporaryDirectory() as folder:
+        launcher = Path(folder) / "stab"
+        launcher.write_text('#!/bin/sh\n'
+                            '[ "$1" != --help ] || echo "stab: help is in its manual: man X" >&2\n'
+                            f'exec {shlex.quote(str(Path(file).resolve()))} "$@"\n')
+        launcher.chmod(0o755)
+        status, out, err = answered(TOP / "examples/check.sh", cwd=folder, timeout=LONGEST,
+                                    env={**os.environ, "STAB": str(launcher)})
+        return None if (status, err) == (0, "") else f"status {status}: {out}{err}"
+
+
 def main(*files):
     """Tries all rows with these programs."""
     files = dict(zip(PROGRAMS, files))
@@ -138,7 +153,8 @@ def main(*files):
         faults = threads.map(lambda of: tried(*of), runs)
         names = (f"{called}: {row.name}, by {Path(file).name}" for called, file, row in runs)
         lists = [("the list of the examples", stab_examples.listed_otherwise()),
-                 ("the faults of docs/FORMATS.md", faults_otherwise(files["stab"]))]
+                 ("the faults of docs/FORMATS.md", faults_otherwise(files["stab"])),
+                 ("examples/check.sh", script_otherwise(files["stab"]))]
         return counted([*lists, *zip(names, faults)], quiet=True)
 
 

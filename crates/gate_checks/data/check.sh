@@ -44,6 +44,8 @@ run() {
     fi
     "$program" ${words[@]+"${words[@]}"} <"$input" >"$work/out" 2>"$work/err"
     printf 'status %s\n' "$?" >>"$work/err"
+    # (what ./stab adds to a help, to say where its manual is)
+    sed -i '/^stab: help is in its manual: /d' "$work/err"
 }
 
 # The files that say what is expected, in the order of the list.
