@@ -96,3 +96,18 @@ parents_stay t (Act e ∷ changes) = parents_stay (change_step t (Act e)) change
 parents_stay t (Publish items ∷ changes) = parents_stay (change_step t (Publish items)) changes
 parents_stay t (Strike child start ∷ changes) = parents_stay (change_step t (Strike child start)) changes
 parents_stay t (Restart node list ∷ changes) = parents_stay (change_step t (Restart node list)) changes
+
+-- a run that goes on
+pub run_on : (t s u : WholeTree) (before after : List Change) → IsRunning t before s → IsRunning s after u → IsRunning t (before ++ after) u
+run_on t s u [] after first second =
+    record { replayed = second.replayed ∙ ap (λ v. changes_replay v after) first.replayed; able = subst (λ v. AllCanBeMade v after) first.replayed second.able }
+run_on t s u (change ∷ before) after first second =
+    let rest = run_on (change_step t change) s u before after (record { replayed = first.replayed; able = first.able.1 }) second in
+    record { replayed = rest.replayed; able = (first.able.0, rest.able) }
+
+-- what is reached once a run goes on
+pub reached_on : (P : WholeTree → Change → Type 0) (t s : WholeTree) (before after : List Change) → IsRunning t before s → ReachesChange P s after
+    → ReachesChange P t (before ++ after)
+reached_on P t s [] after first reaches = subst (λ v. ReachesChange P v after) first.replayed reaches
+reached_on P t s (change ∷ before) after first reaches =
+    inr (first.able.0, reached_on P (change_step t change) s before after (record { replayed = first.replayed; able = first.able.1 }) reaches)

@@ -11,9 +11,10 @@
 //!
 //! Faults may happen at any moment: a list of [`Change`]s has acts on links, items that are
 //! published later, links that are struck and nodes that restart, in any order. [`run_changes`]
-//! makes them one by one, and refuses the first that cannot be made. At each node the tree law
-//! holds of the replay of a list, counted from any moment after which no fault hits the node, such
-//! as the last fault on its path. Their laws are in [`change_laws`].
+//! makes them one by one, and refuses the first that cannot be made; [`make_changes`] goes on from
+//! any state. At each node the tree law holds of the replay of a list, counted from any moment
+//! after which no fault hits the node, such as the last fault on its path. Their laws are in
+//! [`change_laws`].
 #![tactic(auto)]
 
 mod change;
@@ -35,7 +36,7 @@ pub use change_fault::ChangeFault;
 pub use event::TreeEvent;
 pub use fault::{RestartFault, StrikeFault, TreeStartFault, TreeStepFault};
 pub use open::check_starts;
-pub use run::run_changes;
+pub use run::{make_changes, run_changes};
 pub use schedule::run_schedule;
 pub use stab_core::LinkAct;
 pub use stab_tree::{OpeningFault, Openings, is_inner};

@@ -2,7 +2,8 @@ ghost use Rattle.std.specs.Prelude.{◌≡◌, ◌<◌, ℕ, List, ◌++◌, IfO
 ghost use Rattle.stab_treecore.specs.Changes.{change_step, changes_replay};
 ghost use Rattle.stab_treecore.specs.Hits.{Spare};
 ghost use Rattle.stab_treecore.specs.Moment.{LawSince, SharperLawSince};
-ghost use Rattle.stab_treecore.specs.ChangeRefusals.{AllCanBeMade, CanBeMade, IsChangeReason, IsReasonAt};
+ghost use Rattle.stab_treecore.specs.ChangeRefusals.{AllCanBeMade, CanBeMade, IsChangeReason};
+ghost use Rattle.stab_treecore.specs.ChangeRefusals.{IsReasonAt, ReachesChange};
 ghost use Rattle.stab_treecore.specs.Since.{gained, moment};
 ghost use Rattle.stab_tree.specs.NodeOpenings.{FitTree};
 ghost use Rattle.stab_treecore.specs.Faults.{restarted_tree};
@@ -94,10 +95,28 @@ fn replayed(
 {
     let mut state = TreeState::new(alloc, params, tree, published, starts, openings)?;
     let _root = tree.root();
-    for change in changes {
-        make(alloc, tree, &mut state, change)?;
-    }
+    make_changes(alloc, tree, &mut state, changes)?;
     Ok(state)
+}
+
+/// Makes these changes of a state of this tree, one by one. The first that cannot be made is
+/// refused, and then those before it are made.
+pub fn make_changes(
+    alloc: Global,
+    tree: &Tree,
+    state: &mut TreeState,
+    changes: &[Change],
+) -> Result<(), ChangeFault>
+    requires { state.old.parents ≡ tree.now.parents }
+    ensures replay { OnOk result (state.new ≡ changes_replay state.old changes.now) }
+    ensures made { OnOk result (AllCanBeMade state.old changes.now) }
+    ensures refused { IfErr result (λ fault.
+        ReachesChange (IsReasonAt fault) state.old changes.now) }
+{
+    for change in changes {
+        make(alloc, tree, state, change)?;
+    }
+    Ok(())
 }
 
 /// Makes one change of a state of this tree.
