@@ -112,17 +112,19 @@ fn told_input<R: Read>(alloc: Global, reader: &mut R) -> Result<String, StepsFau
         IfSome (R.remaining reader.old) (λ input. IsUntold input fault)) }
 {
     let bytes = load(alloc, reader)?;
-    let text = told_bytes(alloc, &bytes)?;
+    let text = told_bytes(alloc, bytes)?;
     Ok(text)
 }
 
-/// The text of the scenario that these bytes are.
+/// The text of the scenario that these bytes are. What was read is freed before what is counted
+/// from it takes memory.
 #[tactic(auto, using(crate::proofs::Told::unread, crate::proofs::Told::unrun))]
-fn told_bytes(alloc: Global, bytes: &[u8]) -> Result<String, StepsFault>
-    ensures told { IfOk result (λ text. IsTold bytes.now (string_bytes text)) }
-    ensures fault { IfErr result (λ fault. IsUntold bytes.now fault) }
+fn told_bytes(alloc: Global, bytes: Vec<u8>) -> Result<String, StepsFault>
+    ensures told { IfOk result (λ text. IsTold bytes.items (string_bytes text)) }
+    ensures fault { IfErr result (λ fault. IsUntold bytes.items fault) }
 {
-    let scenario = read_scenario(alloc, bytes)?;
-    let text = scenario_text(alloc, &scenario)?;
+    let scenario = read_scenario(alloc, &bytes)?;
+    drop(bytes);
+    let text = scenario_text(alloc, scenario)?;
     Ok(text)
 }

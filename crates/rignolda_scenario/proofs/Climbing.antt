@@ -1,5 +1,5 @@
 -- Looking for a node on a path, one node further up each time.
-use Rattle.std.proofs.Common.{◌≡◌, ℕ, suc, ◌==◌, List, Option, Some, true, false, if◌then◌else◌, refl, ap, ◌∙◌}
+use Rattle.std.proofs.Common.{◌≡◌, ℕ, suc, ◌==◌, List, Option, Some, true, false, if◌then◌else◌, ap, ◌∙◌}
 use Rattle.std.specs.Option.{option_map_or}
 use Rattle.stab_tree.specs.Nodes.{parent_at}
 use Rattle.rignolda_scenario.specs.LastFault.{is_within}

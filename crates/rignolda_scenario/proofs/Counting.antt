@@ -20,7 +20,7 @@ use Rattle.stab_treecore.specs.NodeLaws.{capacity_into, most_missing, strays_bou
 use Rattle.stab_treecore.specs.Paths.{path_sum, sum_above}
 use Rattle.stab_treecore.specs.TreeReplay.{initial_tree, opened}
 use Rattle.stab_treecore.specs.TreeStep.{event_on, link_after}
-use Rattle.stab_treecore.specs.WholeTree.{WholeTree, link_into}
+use Rattle.stab_treecore.specs.WholeTree.{WholeTree}
 use Rattle.stab_treecore.proofs.ForChanges.{happened_at, sum_above-add}
 
 -- the capacity of a link, where there is one

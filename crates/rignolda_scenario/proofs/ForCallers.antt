@@ -1,5 +1,5 @@
 -- For callers who read the job, or the value of the bytes, themselves.
-use Rattle.std.proofs.Common.{◌≡◌, ◌≢◌, ℕ, List, codes, get_or, Option, Some, Result, Ok, ap, refl, arith, ◌∙◌}
+use Rattle.std.proofs.Common.{◌≡◌, ℕ, List, codes, get_or, Option, Some, Result, Ok, ap, refl, arith, ◌∙◌}
 use Rattle.serde_json.specs.Data.{Data}
 use Rattle.serde_json.specs.Find.{get}
 use Rattle.stab_job.specs.JobValues.{JobValue}

@@ -1,5 +1,5 @@
 -- How many acts rounds of all links are.
-use Rattle.std.proofs.Common.{◌≡◌, ℕ, suc, zero, ◌+◌, ◌*◌, List, [], ◌∷◌, ◌++◌, Option, Some, None, Bool, false, length, replicate, refl, sym, zero-mul, suc-mul, arith}
+use Rattle.std.proofs.Common.{◌≡◌, ℕ, suc, zero, ◌+◌, ◌*◌, List, [], ◌∷◌, ◌++◌, Option, Some, None, false, length, replicate, refl, sym, zero-mul, suc-mul, arith}
 use Rattle.std.proofs.lemmas.List.{length-append, length-map, length-replicate}
 use Rattle.stab_core.specs.declared.act.LinkAct.TheVariants.{SendFrame, RecvFrame, SendAck, RecvAck}
 use Rattle.stab_treecore.specs.declared.change.Change.TheVariants.{Act}

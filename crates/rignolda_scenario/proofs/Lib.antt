@@ -14,3 +14,5 @@ pub mod Refused
 pub mod Climbing
 pub mod ForCallers
 pub mod Lengths
+pub mod Playing
+pub mod Marking

@@ -24,7 +24,7 @@ use Rattle.rignolda_scenario.specs.declared.fault.ScenarioFault.{ScenarioFault}
 use Rattle.rignolda_scenario.specs.declared.fault.ScenarioFault.TheVariants as scenario_fault
 use Rattle.rignolda_scenario.specs.declared.step.Step.{Step}
 use Rattle.rignolda_scenario.specs.declared.step.Step.TheVariants.{One, Rounds, ReadingRounds}
-use Rattle.rignolda_scenario.specs.Entries.{act_step, is_word, link_named, node_named, publish_step, restart_step, rounds_of, step_of, step_of_items, step_of_parts, step_of_three, step_of_two, strike_step, two_or_three}
+use Rattle.rignolda_scenario.specs.Entries.{act_step, is_word, link_named, node_named, rounds_of, step_of, step_of_items, step_of_parts, step_of_three, step_of_two, two_or_three}
 use Rattle.rignolda_scenario.specs.NamedSteps.{AreStepsOf, NamedStep, act_on, published, strike_at, restart_of, rounds, reading_rounds, named_act_on, named_of_parts, named_of_three, named_of_two, named_rounds, named_step, step_of_named, strike_on}
 use Rattle.rignolda_scenario.specs.Scenarios.{scenario, steps_after, steps_of}
 use Rattle.rignolda_scenario.proofs.Unscheduled.{by_its_steps}

@@ -1,5 +1,5 @@
 -- The reading rounds of all links, one link after the other.
-use Rattle.std.proofs.Common.{◌≡◌, ℕ, zero, suc, ◌<◌, List, [], ◌∷◌, ◌++◌, length, drop, get_or, slice_get, Some, None, refl, ap, sym, ◌∙◌, arith}
+use Rattle.std.proofs.Common.{◌≡◌, ℕ, zero, suc, ◌<◌, List, [], ◌∷◌, ◌++◌, length, drop, get_or, slice_get, Some, None, ap, sym, ◌∙◌, arith}
 use Rattle.stab_frames.specs.Parameters.{Parameters}
 use Rattle.rignolda_scenario.specs.Played.{reading_round_of, reading_round_on}
 

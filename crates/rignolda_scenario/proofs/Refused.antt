@@ -1,7 +1,6 @@
 -- Why a scenario is not run, where its changes are not listed, or one of them is refused.
-use Rattle.std.proofs.Common.{◌≡◌, ◌<◌, ◌≤◌, ◌+◌, ℕ, zero, suc, List, [], ◌∷◌, ◌++◌, length, take, drop, get_or, Option, inl, inr, ap, sym, ◌∙◌, subst, append_assoc, arith}
+use Rattle.std.proofs.Common.{◌≡◌, ◌<◌, ℕ, zero, suc, List, [], ◌∷◌, ◌++◌, length, drop, get_or, Option, inl, inr, ap, sym, ◌∙◌, subst, append_assoc, arith}
 use Rattle.std.proofs.lemmas.List.{length-append}
-use Rattle.stab_core.specs.declared.start.StartFault.{StartFault}
 use Rattle.stab_core.specs.declared.start.StartFault.TheVariants as start
 use Rattle.stab_treecore.specs.declared.change.Change.{Change}
 use Rattle.stab_treecore.specs.declared.change_fault.ChangeFault.{ChangeFault}
@@ -22,10 +21,7 @@ use Rattle.rignolda_scenario.specs.Played.{IsUnlisted, changes_in, changes_of}
 use Rattle.rignolda_scenario.specs.Refusals.{change_refused, list_refused}
 use Rattle.rignolda_scenario.specs.declared.fault.ListFault.{ListFault}
 use Rattle.rignolda_scenario.specs.declared.fault.ListFault.TheVariants as list
-use Rattle.rignolda_scenario.specs.declared.fault.ScenarioFault.{ScenarioFault}
-use Rattle.rignolda_scenario.specs.declared.fault.ScenarioFault.TheVariants as fault
 use Rattle.rignolda_scenario.specs.declared.step.Step.{Step}
-use Rattle.rignolda_scenario.proofs.Spared.{changes_of-parts}
 
 -- more changes are too many as well
 pub unlisted_with_more : (before after : List Change) (refusal : ListFault) → IsUnlisted before refusal → IsUnlisted (before ++ after) refusal
@@ -52,12 +48,12 @@ unrun_by_change j steps (change.Begin (begin.Start start.Memory)) why = tt
 unrun_by_change j steps (change.Begin (begin.Step refusal)) why = why
 
 -- what reaches a change of the first ones reaches it in all
-reaches_more : (P : WholeTree → Change → Type 0) (t : WholeTree) (before after : List Change) → ReachesChange P t before → ReachesChange P t (before ++ after)
+pub reaches_more : (P : WholeTree → Change → Type 0) (t : WholeTree) (before after : List Change) → ReachesChange P t before → ReachesChange P t (before ++ after)
 reaches_more P t [] after reaches = absurd reaches
 reaches_more P t (change ∷ changes) after (inl here) = inl here
 reaches_more P t (change ∷ changes) after (inr later) = inr (later.0, reaches_more P (change_step t change) changes after later.1)
 
-reason_more : (params : List Parameters) (starts : List Start) (net : Network) (before after : List Change) (refusal : ChangeFault)
+pub reason_more : (params : List Parameters) (starts : List Start) (net : Network) (before after : List Change) (refusal : ChangeFault)
     → IsChangeReason params starts net before refusal → IsChangeReason params starts net (before ++ after) refusal
 reason_more params starts net before after (change.Begin refusal) why = why
 reason_more params starts net before after (change.Act refusal) why =
@@ -68,25 +64,6 @@ reason_more params starts net before after (change.Restart refusal) why =
     (why.0, why.1, why.2, reaches_more (IsReasonAt (change.Restart refusal)) (initial_tree net) before after why.3)
 reason_more params starts net before after change.Memory why =
     (why.0, why.1, why.2, reaches_more (IsReasonAt change.Memory) (initial_tree net) before after why.3)
-
--- what keeps the first steps from being run keeps all of them
-pub unrun_front : (j : JobValue) (steps : List Step) (k : ℕ) (its_fault : ScenarioFault) → IsUnrun j (take k steps) its_fault → IsUnrun j steps its_fault
-unrun_front j steps k fault.TooManyEvents why =
-    let ps = j.tree.parents in
-    omega (
-      arith,
-      why,
-      ap length (changes_of-parts ps j.params k steps),
-      length-append (changes_of ps j.params (take k steps)) (changes_of ps j.params (drop k steps)),
-    )
-unrun_front j steps k fault.Memory why = tt
-unrun_front j steps k (fault.Run refusal) why =
-    let ps = j.tree.parents in
-    subst (λ cs. IsChangeReason j.params j.starts (network j) cs refusal) (sym (changes_of-parts ps j.params k steps))
-    (reason_more j.params j.starts (network j) (changes_of ps j.params (take k steps)) (changes_of ps j.params (drop k steps)) refusal why)
-unrun_front j steps k (fault.Job refusal) why = absurd why
-unrun_front j steps k fault.Steps why = absurd why
-unrun_front j steps k (fault.Step number refusal) why = absurd why
 
 next_step : (ps : List (Option ℕ)) (params : List Parameters) (steps : List Step) (i : ℕ) (its_step : Step) → i < length steps
     → its_step ≡ get_or steps i its_step

@@ -1,10 +1,10 @@
 -- After its last fault no step hits a node.
-use Rattle.std.proofs.Common.{◌≡◌, ◌≢◌, ℕ, zero, suc, ◌+◌, ◌-◌, ◌<◌, ◌≤◌, ◌==◌, List, [], ◌∷◌, ◌++◌, length, take, drop, Option, Some, None, option_and_then, Bool, true, false, if◌then◌else◌, refl, ap, sym, subst, ◌∙◌, append_assoc, arith, eq-eqb, inl, inr}
+use Rattle.std.proofs.Common.{◌≡◌, ℕ, zero, suc, ◌-◌, ◌<◌, ◌≤◌, ◌==◌, List, [], ◌∷◌, ◌++◌, length, take, drop, Option, Some, None, option_and_then, Bool, true, false, if◌then◌else◌, refl, ap, sym, subst, ◌∙◌, append_assoc, arith, eq-eqb, inl, inr}
 use Rattle.std.specs.Option.{option_map_or}
 use Rattle.std.proofs.lemmas.Bool.{cases_lt}
 use Rattle.stab_treecore.specs.declared.change.Change.{Change}
 use Rattle.stab_treecore.specs.declared.change.Change.TheVariants.{Act, Publish, Strike, Restart}
-use Rattle.stab_treecore.specs.Hits.{Hits, Spare}
+use Rattle.stab_treecore.specs.Hits.{Spare}
 use Rattle.stab_frames.specs.Parameters.{Parameters}
 use Rattle.stab_rounds.specs.TreePlayed.{round_from}
 use Rattle.stab_tree.specs.IsTree.{IsRooted}

@@ -1,6 +1,6 @@
 -- Reading steps one by one.
 use Rattle.std.proofs.Common.{◌≡◌, ℕ, zero, suc, ◌<◌, length, drop, get_or, List, [], ◌∷◌, ◌++◌, Result, Ok, Err, refl, ap, sym, ◌∙◌, append_assoc, arith}
-use Rattle.serde_json.specs.Data.{Items, item}
+use Rattle.serde_json.specs.Data.{item}
 use Rattle.serde_json.specs.View.{items_view, view}
 use Rattle.serde_json.specs.declared.value.Value.{Value}
 use Rattle.stab_frames.specs.Parameters.{Parameters}

@@ -11,9 +11,8 @@ use Rattle.stab_core.specs.declared.act.LinkAct.{LinkAct}
 use Rattle.stab_core.specs.declared.start.Start.{Start}
 use Rattle.stab_job.specs.Steps.{AreNodesOf}
 use Rattle.stab_tree.specs.Links.{link_place_of}
-use Rattle.stab_tree.specs.Nodes.{Nodes, place_of}
+use Rattle.stab_tree.specs.Nodes.{Nodes}
 use Rattle.stab_treecore.specs.declared.change.Change.TheVariants.{Act, Restart}
-use Rattle.stab_treecore.specs.declared.event.TreeEvent.{TreeEvent}
 use Rattle.rignolda_scenario.specs.declared.fault.StepFault.TheVariants as fault
 use Rattle.rignolda_scenario.specs.declared.step.Step.{Step}
 use Rattle.rignolda_scenario.specs.declared.step.Step.TheVariants.{One}

@@ -1,5 +1,5 @@
 -- A scenario by the job that was read without its schedule, and by the value of its bytes.
-use Rattle.std.proofs.Common.{◌≡◌, ℕ, List, Ok, refl}
+use Rattle.std.proofs.Common.{◌≡◌, ℕ, List, refl}
 use Rattle.stab_job.specs.JobValues.{JobValue}
 use Rattle.serde_json.specs.Data.{Data}
 use Rattle.stab_job.specs.Jobs.{job, job_of_data}

@@ -4,7 +4,8 @@
 use Rattle.std.specs.Prelude.{ℕ, ◌<◌, List, length, take}
 use Rattle.stab_treecore.specs.Changes.{changes_replay}
 use Rattle.stab_treecore.specs.Moment.{missing_since, published_since, strays_since}
-use Rattle.stab_treecore.specs.ChangeRefusals.{IsChangeReason}
+use Rattle.stab_treecore.specs.ChangeRefusals.{AllCanBeMade, IsChangeReason}
+use Rattle.stab_treecore.specs.Network.{IsNetwork}
 use Rattle.stab_treecore.specs.Since.{gained, moment}
 use Rattle.stab_job.specs.JobValues.{JobValue, network}
 use Rattle.stab_treecore.specs.TreeReplay.{initial_tree}
@@ -52,6 +53,12 @@ abbrev pub counted : JobValue → List Step → ℕ → Counted
 counted j steps node =
     counted_over (last_fault j.tree.parents node steps) (state_since j steps node)
     (state_after j steps) node
+
+-- the tree of a job can begin, and all changes of these steps can be made
+abbrev pub CanBePlayed : JobValue → List Step → Type 0
+CanBePlayed j steps =
+    IsNetwork (network j)
+    × AllCanBeMade (initial_tree (network j)) (changes_of j.tree.parents j.params steps)
 
 -- why a scenario is not run: its steps are too many changes; its tree cannot begin, or one of them
 -- cannot be made; or memory

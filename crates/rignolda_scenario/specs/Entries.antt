@@ -11,7 +11,7 @@ use Rattle.std.specs.Prelude.{if◌then◌else◌}
 use Rattle.std.specs.Prelude.{Option, Some, None, option_and_then, Result, Ok, Err, ⊤}
 use Rattle.std.specs.Option.{option_map_or}
 use Rattle.std.specs.Str.{bytes_eq}
-use Rattle.serde_json.specs.Data.{Data, number, string, array, object, Items, no_items, item}
+use Rattle.serde_json.specs.Data.{Data, number, array, object, Items, no_items, item}
 use Rattle.serde_json.specs.Find.{as_str, as_array}
 use Rattle.stab_frames.specs.Parameters.{Parameters}
 use Rattle.stab_core.specs.declared.act.LinkAct.{LinkAct}
@@ -22,7 +22,6 @@ use Rattle.stab_script.specs.Events.{plain_act, loss_act}
 use Rattle.stab_script.specs.Starts.{start}
 use Rattle.stab_tree.specs.Links.{link_place_of}
 use Rattle.stab_tree.specs.Nodes.{Nodes, place_of}
-use Rattle.stab_treecore.specs.declared.event.TreeEvent.{TreeEvent}
 use Rattle.stab_treecore.specs.declared.change.Change.TheVariants.{Act, Publish, Strike, Restart}
 use Rattle.rignolda_scenario.specs.declared.fault.StepFault.{StepFault}
 use Rattle.rignolda_scenario.specs.declared.fault.StepFault.TheVariants as fault

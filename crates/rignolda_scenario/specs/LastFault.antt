@@ -2,14 +2,14 @@
 -- Example: In the chain r, a, b let step 3 be a strike at the link into a, and step 5 the restart
 -- of b. The last fault of a is step 3, that of b is step 5, and that of r is 0: none hits it.
 -- Source: this project's own.
-use Rattle.std.specs.Prelude.{◌≡◌, ℕ, zero, suc, ◌+◌, ◌==◌, List, [], ◌∷◌, take, Bool, true, false}
-use Rattle.std.specs.Prelude.{if◌then◌else◌, Option}
+use Rattle.std.specs.Prelude.{ℕ, zero, suc, ◌==◌, List, [], ◌∷◌, Bool, true, false, Option}
+use Rattle.std.specs.Prelude.{if◌then◌else◌}
 use Rattle.std.specs.Option.{option_map_or}
 use Rattle.stab_tree.specs.Nodes.{parent_at}
 use Rattle.stab_tree.specs.Steps.{depth_of}
 use Rattle.stab_treecore.specs.declared.change.Change.TheVariants.{Strike, Restart}
 use Rattle.rignolda_scenario.specs.declared.step.Step.{Step}
-use Rattle.rignolda_scenario.specs.declared.step.Step.TheVariants.{One, Rounds, ReadingRounds}
+use Rattle.rignolda_scenario.specs.declared.step.Step.TheVariants.{One}
 
 -- another node is this one, or one of the nearest `count` nodes above it
 abbrev pub is_within : List (Option ℕ) → ℕ → ℕ → ℕ → Bool
@@ -44,8 +44,3 @@ last_after parents node count last (step ∷ steps) =
 -- the last step that hits a node, and 0 where none does
 abbrev pub last_fault : List (Option ℕ) → ℕ → List Step → ℕ
 last_fault parents node steps = last_after parents node 0 0 steps
-
--- the last step that hits a node is among the first `count`, whichever node it is
-abbrev pub AreFaultsWithin : ℕ → List Step → Type 0
-AreFaultsWithin count steps = (parents : List (Option ℕ)) (node : ℕ)
-    → last_fault parents node (take count steps) ≡ last_fault parents node steps

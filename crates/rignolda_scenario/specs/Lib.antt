@@ -6,4 +6,5 @@ pub mod Played
 pub mod LastFault
 pub mod Counts
 pub mod NodeCounts
+pub mod Marks
 pub mod Texts

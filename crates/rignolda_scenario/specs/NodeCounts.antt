@@ -1,5 +1,6 @@
 -- The count of a node that the code's record lends.
 -- Source: this project's own.
+use Rattle.std.specs.Prelude.{◌++◌}
 use Rattle.rignolda_scenario.specs.Counts.{Counted}
 use Rattle.rignolda_scenario.specs.declared.text.NodeCount.{NodeCount}
 
@@ -9,5 +10,5 @@ counted_of c = record {
   gained = c.gained.now;
   strays = c.strays;
   missing = c.missing;
-  published = c.published.now;
+  published = c.held.now ++ c.published.now;
 }

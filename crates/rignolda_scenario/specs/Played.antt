@@ -2,16 +2,19 @@
 -- Example: In the chain r, a, b one round is five acts on the link into a and then five on the link
 -- into b. One reading round of links of capacity 1 is seven acts on each.
 -- Source: this project's own.
-use Rattle.std.specs.Prelude.{ℕ, zero, suc, ◌<◌, length, List, [], ◌∷◌, ◌++◌, map, replicate, false}
+use Rattle.std.specs.Prelude.{◌≡◌, ℕ, zero, suc, ◌<◌, length, List, [], ◌∷◌, ◌++◌, map, replicate, false}
 use Rattle.std.specs.Prelude.{Option}
 use Rattle.stab_core.specs.declared.act.LinkAct.TheVariants.{Offer, SendFrame, RecvFrame, SendAck}
 use Rattle.stab_core.specs.declared.act.LinkAct.TheVariants.{RecvAck}
 use Rattle.stab_frames.specs.Parameters.{Parameters}
-use Rattle.stab_rounds.specs.TreePlayed.{act_on, play, round_from}
+use Rattle.stab_rounds.specs.TreePlayed.{act_on, round_from}
 use Rattle.stab_tree.specs.Links.{links_of}
 use Rattle.stab_treecore.specs.declared.event.TreeEvent.{TreeEvent}
 use Rattle.stab_treecore.specs.declared.change.Change.{Change}
 use Rattle.stab_treecore.specs.declared.change.Change.TheVariants.{Act}
+use Rattle.stab_treecore.specs.ChangeRefusals.{AllCanBeMade}
+use Rattle.stab_treecore.specs.Changes.{changes_replay}
+use Rattle.stab_treecore.specs.WholeTree.{WholeTree}
 use Rattle.rignolda_scenario.specs.declared.fault.ListFault.{ListFault}
 use Rattle.rignolda_scenario.specs.declared.fault.ListFault.TheVariants as fault
 use Rattle.rignolda_scenario.specs.declared.step.Step.{Step}
@@ -63,3 +66,7 @@ most_changes = 1000000
 abbrev pub IsUnlisted : List Change → ListFault → Type 0
 IsUnlisted changes fault.TooMany = most_changes < length changes
 IsUnlisted changes fault.Memory = Unit {0}
+
+-- these changes can all be made of the state `t`, and leave the state `u`
+abbrev pub Makes : WholeTree → List Change → WholeTree → Type 0
+Makes t changes u = (u ≡ changes_replay t changes) × AllCanBeMade t changes

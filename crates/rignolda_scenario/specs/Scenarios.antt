@@ -4,12 +4,12 @@
 -- refused for that, whatever their steps are. In the chain r, a, b the steps `["r", "offer"]` and
 -- `["x", "offer"]` are refused at step 1, since no link leads into r; that no node is called x is
 -- not looked at. Source: this project's profile.
-use Rattle.std.specs.Prelude.{ℕ, suc, codes, nat_lt, length, List, [], ◌∷◌, Option, option_and_then}
-use Rattle.std.specs.Prelude.{Result, Ok, Err}
+use Rattle.std.specs.Prelude.{ℕ, suc, codes, List, [], ◌∷◌, Option, option_and_then}
+use Rattle.std.specs.Prelude.{Result, Ok}
 use Rattle.serde_json.specs.Data.{Data, Items, no_items, item}
 use Rattle.serde_json.specs.Find.{as_array, get}
 use Rattle.stab_frames.specs.Parameters.{Parameters}
-use Rattle.stab_json.specs.Checks.{◌>>=◌, ◌>>◌, ◌or◌, ◌when◌, ◌refused_as◌}
+use Rattle.stab_json.specs.Checks.{◌>>=◌, ◌or◌, ◌refused_as◌}
 use Rattle.stab_json.specs.Values.{value_of}
 use Rattle.stab_job.specs.Jobs.{job, job_of_data}
 use Rattle.stab_job.specs.JobValues.{JobValue}

@@ -6,12 +6,11 @@ use Rattle.std.specs.Prelude.{ℕ, zero, suc, List, [], ◌++◌, length, codes,
 use Rattle.std.specs.List.{flat_map, range_with_len}
 use Rattle.stab_core.specs.Texts.{newline, number_entry, numbers_line}
 use Rattle.stab_job.specs.JobValues.{JobValue}
-use Rattle.stab_tree.specs.Nodes.{Nodes}
 use Rattle.stab_tree.specs.Steps.{depth_of}
-use Rattle.stab_treecore.specs.WholeTree.{received}
+use Rattle.stab_treecore.specs.WholeTree.{WholeTree, received}
 use Rattle.rignolda_scenario.specs.declared.read.Scenario.{Scenario}
 use Rattle.rignolda_scenario.specs.declared.step.Step.{Step}
-use Rattle.rignolda_scenario.specs.Counts.{Counted, counted, state_after}
+use Rattle.rignolda_scenario.specs.Counts.{Counted, counted_over, state_after, state_since}
 use Rattle.rignolda_scenario.specs.LastFault.{last_fault}
 
 -- the lines of the root
@@ -33,16 +32,17 @@ node_text name c =
     ++ number_entry (length c.gained) ++ bounds_words c.strays c.missing
     ++ numbers_line (codes "items:") c.gained ++ numbers_line (codes "published:") c.published
 
--- the lines of a node at this depth
-abbrev pub text_at : JobValue → List Step → ℕ → List ℕ → ℕ → List ℕ
-text_at j steps zero name node =
-    root_text name (last_fault j.tree.parents node steps) (received (state_after j steps) node)
-text_at j steps (suc depth) name node = node_text name (counted j steps node)
+-- the lines of a node at this depth, counted from the state `s`, which the step of this number left,
+-- to the state `t`
+abbrev pub text_over : ℕ → WholeTree → WholeTree → ℕ → List ℕ → ℕ → List ℕ
+text_over since s t zero name node = root_text name since (received t node)
+text_over since s t (suc depth) name node = node_text name (counted_over since s t node)
 
--- the lines of a node
+-- the lines of a node, counted from the last fault that hits it
 abbrev pub lines_of : JobValue → List Step → ℕ → List ℕ
 lines_of j steps node =
-    text_at j steps (depth_of j.tree.parents node) (slice_index_or j.tree.names node []) node
+    text_over (last_fault j.tree.parents node steps) (state_since j steps node)
+    (state_after j steps) (depth_of j.tree.parents node) (slice_index_or j.tree.names node []) node
 
 -- the lines of each node, in file order
 unfoldable pub scenario_text : Scenario → List ℕ

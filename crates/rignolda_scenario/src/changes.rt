@@ -97,7 +97,7 @@ fn push_copy(alloc: Global, changes: &mut Vec<Change>, change: &Change) -> Resul
 }
 
 /// Adds these events.
-fn push_acts(changes: &mut Vec<Change>, events: &[TreeEvent]) -> Result<(), AllocError>
+pub(crate) fn push_acts(changes: &mut Vec<Change>, events: &[TreeEvent]) -> Result<(), AllocError>
     ensures { OnOk result (changes.new.items ≡ changes.old.items ++ acts events.now) }
 {
     for event in events {

@@ -1,21 +1,25 @@
-//! What a node received since a moment, what it may be, and what was published since.
+//! What may be at a node since a moment, and where what is published since begins.
 
-ghost use Rattle.std.specs.Prelude.{◌≡◌, ◌<◌, ◌≤◌, ◌+◌, ◌*◌, ◌++◌, drop, length, IfOk, OnOk};
+ghost use Rattle.std.specs.Prelude.{◌≡◌, ◌<◌, ◌≤◌, ◌+◌, ◌*◌, ◌++◌, ℕ, List, drop, length, Some};
+ghost use Rattle.std.specs.Prelude.{IfOk};
+ghost use mathlib.Core.List.{IsPrefix};
 ghost use Rattle.stab_treecore.specs.Moment.{old_backlog, published_since};
 ghost use Rattle.stab_treecore.specs.Since.{backlog, gained, moment};
 ghost use Rattle.stab_treecore.specs.Paths.{path_sum};
-ghost use Rattle.stab_treecore.specs.WholeTree.{source};
-ghost use Rattle.stab_tree.specs.Nodes.{root_of};
+ghost use Rattle.stab_treecore.specs.WholeTree.{WholeTree, received, source};
+ghost use Rattle.stab_tree.specs.Nodes.{parent_at, root_of};
 ghost use Rattle.stab_tree.specs.Steps.{depth_of};
+ghost use Rattle.rignolda_scenario.specs.Marks.{IsPublishedFrom};
 
 use stab_core::Link;
 use stab_frames::Item;
 use stab_tree::{NodeId, Tree};
 use stab_treecore::TreeState;
 use std::alloc::{AllocError, Global};
+use std::cmp;
 
 /// The items of a list after its first `count`.
-fn rest_of(list: &[Item], count: usize) -> &[Item]
+pub(crate) fn rest_of(list: &[Item], count: usize) -> &[Item]
     ensures { result.now ≡ drop count list.now }
 {
     if count >= list.len() {
@@ -41,24 +45,6 @@ fn source_of<'s>(tree: &Tree, state: &'s TreeState, child: NodeId) -> &'s [Item]
         Some(parent) => state.received(parent),
         None => &[],
     }
-}
-
-/// Adds what the parent of a node has for it.
-fn push_backlog(
-    list: &mut Vec<Item>,
-    tree: &Tree,
-    state: &TreeState,
-    child: NodeId,
-) -> Result<(), AllocError>
-    requires same_tree { state.now.parents ≡ tree.now.parents }
-    requires known { child < length tree.now.parents }
-    ensures { OnOk result (list.new.items ≡ list.old.items ++ backlog state.now child) }
-{
-    let Some(link) = state.link(child) else {
-        return Ok(());
-    };
-    list.extend_from_slice(held_by(link))?;
-    list.extend_from_slice(rest_of(source_of(tree, state, child), link.offered().len()))
 }
 
 /// How many items the parent of a node has for it.
@@ -112,57 +98,63 @@ pub(crate) fn old_backlogs(tree: &Tree, state: &TreeState, node: NodeId) -> u128
     sum
 }
 
-/// What a node received since this state.
-pub(crate) fn gained_since<'s>(state: &TreeState, end: &'s TreeState, node: NodeId) -> &'s [Item]
-    requires at_first { node < length state.now.parents }
-    requires at_last { node < length end.now.parents }
-    ensures { result.now ≡ gained state.now end.now node }
-{
-    rest_of(end.received(node), state.received(node).len())
-}
-
-/// What is published for a child of the root since this state: what the root had for it, and what
-/// the root gained.
+/// Where what is published for a child of the root since this state begins: the items that the root's
+/// sender holds, and then the root's list from a place on.
 fn published_for(
     alloc: Global,
     tree: &Tree,
     state: &TreeState,
-    end: &TreeState,
     child: NodeId,
-) -> Result<Vec<Item>, AllocError>
+) -> Result<(Vec<Item>, usize), AllocError>
     requires same_tree { state.now.parents ≡ tree.now.parents }
-    requires same_end { end.now.parents ≡ tree.now.parents }
     requires known { child < length tree.now.parents }
-    ensures { IfOk result (λ list. list.items
-        ≡ backlog state.now child ++ gained state.now end.now (root_of tree.now.parents)) }
+    ensures { IfOk result (λ both. (list : List ℕ)
+        → IsPrefix (received state.now (root_of tree.now.parents)) list
+        → parent_at tree.now.parents child ≡ Some (root_of tree.now.parents)
+        → both.0.items ++ drop both.1 list
+        ≡ backlog state.now child
+        ++ drop (length (received state.now (root_of tree.now.parents))) list) }
 {
-    let mut list = Vec::new(alloc);
-    push_backlog(&mut list, tree, state, child)?;
-    list.extend_from_slice(gained_since(state, end, tree.root()))?;
-    Ok(list)
+    let there = state.received(tree.root()).len();
+    let Some(link) = state.link(child) else {
+        return Ok((Vec::new(alloc), there));
+    };
+    let held = Vec::from_slice(alloc, held_by(link))?;
+    Ok((held, cmp::min(link.offered().len(), there)))
 }
 
-/// What is published for a node since this state.
-pub(crate) fn published_since(
-    alloc: Global,
-    tree: &Tree,
-    state: &TreeState,
-    later: &TreeState,
-    node: NodeId,
-) -> Result<Vec<Item>, AllocError>
-    requires same_tree { state.now.parents ≡ tree.now.parents }
-    requires same_later { later.now.parents ≡ tree.now.parents }
-    requires known { node < length tree.now.parents }
-    requires below { 1 ≤ depth_of tree.now.parents node }
-    ensures { IfOk result (λ list. list.items
-        ≡ published_since (moment state.now) (gained state.now later.now) node) }
+/// The child of the root on the path of a node that is not the root.
+fn top(tree: &Tree, node: NodeId) -> NodeId
+    requires { node < length tree.now.parents }
+    ensures known { result < length tree.now.parents }
+    ensures top { 1 ≤ depth_of tree.now.parents node
+        → parent_at tree.now.parents result ≡ Some (root_of tree.now.parents) }
+    ensures published { (s t : WholeTree) → s.parents ≡ tree.now.parents
+        → 1 ≤ depth_of tree.now.parents node
+        → published_since (moment s) (gained s t) node
+        ≡ backlog s result ++ gained s t (root_of s.parents) }
 {
     let mut at = node;
     'up: for _ in 1..tree.depth(node) {
         match tree.parent(at) {
-            None => return Ok(Vec::new(alloc)),
+            None => return at,
             Some(parent) => at = parent,
         }
     }
-    published_for(alloc, tree, state, later, at)
+    at
+}
+
+/// Where what is published for a node since this state begins: the items that the root's sender
+/// holds, and then the root's list from a place on.
+pub(crate) fn published_from(
+    alloc: Global,
+    tree: &Tree,
+    state: &TreeState,
+    node: NodeId,
+) -> Result<(Vec<Item>, usize), AllocError>
+    requires same_tree { state.now.parents ≡ tree.now.parents }
+    requires known { node < length tree.now.parents }
+    ensures { IfOk result (λ both. IsPublishedFrom state.now node both.0.items both.1) }
+{
+    published_for(alloc, tree, state, top(tree, node))
 }

@@ -1,8 +1,7 @@
-//! The last fault that hits a node.
+//! Which nodes a fault hits.
 
-ghost use Rattle.std.specs.Prelude.{◌≡◌, ◌<◌, ◌≤◌, if◌then◌else◌, length};
-ghost use Rattle.rignolda_scenario.specs.LastFault.{AreFaultsWithin, hits, is_fault};
-ghost use Rattle.rignolda_scenario.specs.LastFault.{is_on_path, last_fault};
+ghost use Rattle.std.specs.Prelude.{◌≡◌, ◌<◌, length};
+ghost use Rattle.rignolda_scenario.specs.LastFault.{hits, is_fault, is_on_path};
 
 use crate::step::Step;
 use stab_tree::{NodeId, Tree};
@@ -27,7 +26,7 @@ fn is_on_path(tree: &Tree, node: NodeId, other: NodeId) -> bool
 }
 
 /// Whether a step is a fault that hits a node.
-fn hits(tree: &Tree, node: NodeId, step: &Step) -> bool
+pub(crate) fn hits(tree: &Tree, node: NodeId, step: &Step) -> bool
     requires { node < length tree.now.parents }
     ensures { result ≡ hits tree.now.parents node step.now }
 {
@@ -38,25 +37,8 @@ fn hits(tree: &Tree, node: NodeId, step: &Step) -> bool
     }
 }
 
-/// The number of the last step that hits a node, and 0 where none does.
-pub(crate) fn last_fault(tree: &Tree, node: NodeId, steps: &[Step]) -> usize
-    requires { node < length tree.now.parents }
-    ensures last { result ≡ last_fault tree.now.parents node steps.now }
-    ensures within { result ≤ length steps.now }
-{
-    let mut last = 0;
-    let mut count = 0;
-    for step in steps {
-        count += 1;
-        if hits(tree, node, step) {
-            last = count;
-        }
-    }
-    last
-}
-
 /// Whether a step is a fault, whichever node it hits.
-fn is_fault(step: &Step) -> bool
+pub(crate) fn is_fault(step: &Step) -> bool
     ensures { result ≡ is_fault step.now }
 {
     match step {
@@ -64,26 +46,4 @@ fn is_fault(step: &Step) -> bool
         Step::One(Change::Restart(_, _)) => true,
         _ => false,
     }
-}
-
-/// The number of the last fault, after a step of this number, where that of the one before is
-/// `last`.
-fn last_at(step: &Step, number: usize, last: usize) -> usize
-    ensures { result ≡ (if is_fault step.now then number else last) }
-{
-    if is_fault(step) { number } else { last }
-}
-
-/// The number of the last step that is a fault, and 0 where none is.
-pub(crate) fn end_of_faults(steps: &[Step]) -> usize
-    ensures all { AreFaultsWithin result steps.now }
-    ensures within { result ≤ length steps.now }
-{
-    let mut last = 0;
-    let mut count = 0;
-    for step in steps {
-        count += 1;
-        last = last_at(step, count, last);
-    }
-    last
 }

@@ -34,6 +34,17 @@ impl Drop for Scenario {
     }
 }
 
+impl Scenario {
+    /// Its job and its steps.
+    pub(crate) fn into_parts(self) -> (Job, Sequence<Step>)
+        ensures job { result.0 ≡ self.job }
+        ensures steps { result.1 ≡ self.steps }
+    {
+        let Scenario { job, steps } = self;
+        (job, steps)
+    }
+}
+
 /// The scenario that these bytes mean, or the first check that they fail; memory may be refused
 /// before a later check.
 pub fn read_scenario(alloc: Global, bytes: &[u8]) -> Result<Scenario, ScenarioFault>

@@ -1,6 +1,5 @@
-use Rattle.std.proofs.Common.{◌≡◌, suc, ◌+◌, ◌<◌, ◌++◌, ◌∙◌, length, drop, get_or, slice_get, Some, ap, sym, subst, add-one, append_assoc, arith}
+use Rattle.std.proofs.Common.{◌≡◌, suc, ◌<◌, ◌++◌, ◌∙◌, length, drop, get_or, slice_get, Some, ap, sym, subst, add-one, append_assoc, arith}
 use Rattle.std.proofs.lemmas.Option.{slice_get_within}
-use Rattle.stab_frames.specs.Parameters.{Parameters}
 use Rattle.stab_tree.specs.Links.{links_of}
 use Rattle.stab_tree.specs.Nodes.{Nodes}
 use Rattle.rignolda_scenario.specs.Played.{reading_round_of, reading_round_on}

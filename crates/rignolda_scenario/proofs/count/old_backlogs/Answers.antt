@@ -1,4 +1,4 @@
-use Rattle.std.proofs.Common.{◌≡◌, ℕ, suc, ◌+◌, ◌-◌, ◌*◌, ◌<◌, length, Some, List, Option, ap, sym, ◌∙◌, subst, arith}
+use Rattle.std.proofs.Common.{◌≡◌, ℕ, suc, ◌+◌, ◌-◌, length, Some, ap, sym, ◌∙◌, subst, arith}
 use Rattle.stab_treecore.specs.Moment.{old_backlog}
 use Rattle.stab_treecore.specs.Since.{moment}
 use Rattle.stab_judge.proofs.Climbing.{climbed}

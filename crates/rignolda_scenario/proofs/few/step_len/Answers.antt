@@ -1,4 +1,4 @@
-use Rattle.std.proofs.Common.{◌≡◌, ◌*◌, ◌∙◌, length, ap, sym}
+use Rattle.std.proofs.Common.{◌*◌, ◌∙◌, length, ap, sym}
 use Rattle.stab_rounds.specs.TreePlayed.{round_from}
 use Rattle.stab_tree.specs.Links.{links_of}
 use Rattle.rignolda_scenario.specs.declared.step.Step.{Step}

@@ -1,4 +1,4 @@
-use Rattle.std.proofs.Common.{◌≡◌, [], get_or, sym, ◌∙◌}
+use Rattle.std.proofs.Common.{[], get_or, sym}
 use Rattle.serde_json.specs.Data.{string}
 use Rattle.rignolda_scenario.proofs.Tabled.{link_there}
 use Rattle.rignolda_scenario.proofs.named.link_at.Goals as goal

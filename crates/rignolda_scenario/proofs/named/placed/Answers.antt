@@ -1,4 +1,3 @@
-use Rattle.std.proofs.Common.{◌≡◌}
 use Rattle.rignolda_scenario.proofs.Tabled.{placed_act, placed_strike, placed_restart}
 use Rattle.rignolda_scenario.proofs.named.placed.Goals as goal
 

@@ -1,4 +1,4 @@
-use Rattle.std.proofs.Common.{◌≡◌, [], get_or}
+use Rattle.std.proofs.Common.{[], get_or}
 use Rattle.serde_json.specs.Data.{string}
 use Rattle.stab_script.proofs.Meaning.{of_what_is_there}
 use Rattle.rignolda_scenario.proofs.Tabled.{act_there, restart_there, strike_there}

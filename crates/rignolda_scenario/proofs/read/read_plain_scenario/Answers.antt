@@ -1,4 +1,4 @@
-use Rattle.std.proofs.Common.{◌≡◌, Some, subst}
+use Rattle.std.proofs.Common.{subst}
 use Rattle.stab_tree.specs.Nodes.{Nodes}
 use Rattle.rignolda_scenario.specs.NamedSteps.{AreStepsOf}
 use Rattle.rignolda_scenario.proofs.NamedMeaning.{scenario_by_name}

@@ -1,4 +1,4 @@
-use Rattle.std.proofs.Common.{◌≡◌, arith}
+use Rattle.std.proofs.Common.{arith}
 use Rattle.rignolda_scenario.proofs.Streamed.{a_new_list, a_new_start}
 use Rattle.rignolda_scenario.proofs.stream.last_of_three.Goals as goal
 

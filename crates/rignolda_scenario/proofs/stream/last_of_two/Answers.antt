@@ -1,4 +1,3 @@
-use Rattle.std.proofs.Common.{◌≡◌}
 use Rattle.rignolda_scenario.proofs.Streamed.{some_items, a_count, a_reading_count}
 use Rattle.rignolda_scenario.proofs.stream.last_of_two.Goals as goal
 

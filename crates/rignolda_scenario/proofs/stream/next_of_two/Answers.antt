@@ -1,4 +1,4 @@
-use Rattle.std.proofs.Common.{◌≡◌, ◌-◌, arith}
+use Rattle.std.proofs.Common.{◌-◌, arith}
 use Rattle.rignolda_scenario.specs.NamedSteps.{named_of}
 use Rattle.rignolda_scenario.proofs.Streamed.{a_step_of_two}
 use Rattle.rignolda_scenario.proofs.stream.next_of_two.Goals as goal

@@ -3,6 +3,6 @@ use Rattle.std.specs.List.{flat_map, range_with_len}
 use Rattle.rignolda_scenario.specs.Texts.{lines_of}
 use Rattle.rignolda_scenario.proofs.text.scenario_text.Given as goal
 
--- the lines of the nodes so far
-abbrev pub invariant-loop-place : goal.invariant-loop-place
-invariant-loop-place l = string_bytes l.text ≡ flat_map (lines_of l.scenario.job l.scenario.steps) (range_with_len 0 l.place)
+-- the lines so far are those of the first nodes
+abbrev pub invariant-nodes : goal.invariant-nodes
+invariant-nodes l = string_bytes l.text ≡ flat_map (lines_of l.job l.fn.scenario.steps) (range_with_len 0 l.place)

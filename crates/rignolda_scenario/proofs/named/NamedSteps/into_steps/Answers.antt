@@ -1,4 +1,4 @@
-use Rattle.std.proofs.Common.{◌≡◌, subst}
+use Rattle.std.proofs.Common.{subst}
 use Rattle.stab_job.specs.Steps.{AreNodesOf}
 use Rattle.stab_job.proofs.Lists.{of_what_is_done}
 use Rattle.stab_script.proofs.Meaning.{of_what_is_there}
