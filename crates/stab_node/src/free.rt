@@ -8,7 +8,7 @@ use stab_tree::{MAX_NODES, NodeId, Tree};
 use std::sync::Wait;
 use std::sync::atomic::{AtomicU64, Ordering};
 use std::time::Clock;
-use std::{array, hint, thread};
+use std::{array, cmp, hint, thread};
 
 /// The number of nodes whose two workers take turns. A turn that one of them makes too early finds
 /// nothing to do, and takes the lock of their one link from the other; among more workers than
@@ -43,7 +43,10 @@ const MOST_YIELDS: u32 = 256;
 /// From how many microseconds on a worker that gave up the processor was off it for long: several
 /// times what the turns of the other workers take. A system may give another program a whole time
 /// slice each time.
-const LONG_AWAY: u64 = 500;
+const LONG_AWAY: u64 = 460;
+
+/// And so many more for each child of the node that has most of them, whose turn takes longest.
+const LONG_AWAY_FOR_A_CHILD: u64 = 40;
 
 /// For how many times as long as a worker was off its processor none gives it up, so that at most
 /// about a sixteenth of the time is lost so.
@@ -73,18 +76,37 @@ pub struct Free<'r, R> {
     seats: [Seat; MAX_NODES],
     /// How many looks in vain two workers have left.
     looks: AtomicU64,
+    /// From how many microseconds on a worker was off its processor for long.
+    long_away: u64,
     /// The time from which on a worker may give up its processor again.
     sleeps_until: AtomicU64,
+}
+
+/// How many children the node has that has most of them.
+fn most_children(tree: &Tree) -> u64 {
+    let mut most = 0;
+    for node in 0..tree.len() {
+        let mut children: u64 = 0;
+        for parent in tree.parents() {
+            if *parent == Some(NodeId::new(node)) {
+                children = children.saturating_add(1);
+            }
+        }
+        most = cmp::max(most, children);
+    }
+    most
 }
 
 impl<'r, R> Free<'r, R> {
     /// The gate of a run of this tree.
     pub fn for_tree(rt: &'r R, tree: &'r Tree) -> Free<'r, R> {
+        let more = most_children(tree).saturating_mul(LONG_AWAY_FOR_A_CHILD);
         Free {
             rt,
             tree,
             seats: array::from_fn(|_| Seat::new()),
             looks: AtomicU64::new(LOOKS_TO_SPEND),
+            long_away: LONG_AWAY.saturating_add(more),
             sleeps_until: AtomicU64::new(0),
         }
     }
@@ -151,7 +173,7 @@ impl<R: Clock> Free<'_, R> {
         thread::yield_now();
         let after = self.time();
         let away = after.saturating_sub(before);
-        if away > LONG_AWAY {
+        if away > self.long_away {
             let until = after.saturating_add(away.saturating_mul(SLEEPS_FOR));
             self.sleeps_until.store(until, Ordering::SeqCst);
         }
