@@ -9,7 +9,6 @@ those of the program, for all examples and 1,000 drawn jobs of a link and of a t
 proof, questions, addresses, keys, faults and backlogs do what was worked out by hand; and that all
 of it is seen, announced once, and in time. The last line is 'N passed, M failed'.
 """
-import argparse
 import base64
 import contextlib
 import functools
@@ -32,7 +31,7 @@ sys.path[:0] = [str(TOP / "tools"), str(TOP / "agents")]
 from check_drawn import blocks, cut, is_head  # noqa: E402
 from check_report import parts_of  # noqa: E402
 from jobs import drawn_link, drawn_tree  # noqa: E402
-from programs import Cases, answered, built, ran  # noqa: E402
+from programs import Cases, answered, built, options, ran  # noqa: E402
 
 PAGE = TOP / "page" / "index.html"
 DATA = TOP / "crates" / "gate_checks" / "data"
@@ -1162,11 +1161,7 @@ class Checks(Cases):
 
 
 def main():
-    words = argparse.ArgumentParser(description=__doc__.splitlines()[0])
-    words.add_argument("--jobs", type=int, default=1000)
-    words.add_argument("--seed", type=int, default=1)
-    words.add_argument("browsers", nargs="*", default=["chromium", "firefox"])
-    words = words.parse_args()
+    words = options("browsers", jobs=1000, seed=1)
     checks, draw = Checks(), random.Random(words.seed)
     checks.holds("the page is at most 120 kB", PAGE.stat().st_size <= MOST_BYTES)
 
@@ -1190,7 +1185,7 @@ def main():
     print(f"{len(trees)} trees, of which {fitting} fit the page")
     accepted = sum(want is not None for _, _, want in checks.jobs)
     print(f"{len(jobs)} jobs, of which the program takes {accepted}")
-    for name in words.browsers:
+    for name in words.browsers or ["chromium", "firefox"]:
         with tempfile.TemporaryDirectory(ignore_cleanup_errors=True) as folder:
             checks.name = name
             browser = checks.browser = Browser(name, folder)

@@ -1,6 +1,7 @@
 """What the checks share: where the programs `rignolda` and `stab` are that were made of these
-sources, and how cases are counted."""
+sources, what a command line says, and how cases are counted."""
 
+import argparse
 import gzip
 import json
 import os
@@ -91,6 +92,26 @@ def answered(file, *words, given="", **options):
     given = given if isinstance(given, bytes) else given.encode()
     done = subprocess.run([file, *words], input=given, capture_output=True, **options)
     return done.returncode, *(it.decode(errors="replace") for it in (done.stdout, done.stderr))
+
+
+def options(*names, **usual):
+    """What the command line says for a script: words of some names, and options, each with what is
+    usual, which is nothing, a number or a text."""
+    words = argparse.ArgumentParser(description=sys.modules["__main__"].__doc__,
+                                    formatter_class=argparse.RawDescriptionHelpFormatter)
+    for name in names:
+        words.add_argument(name, metavar=name.upper(), nargs="*")
+    for name, value in usual.items():
+        how = {"action": "store_true"} if value is False else {"type": type(value)}
+        words.add_argument(f"--{name}", default=value, **how)
+    return words.parse_args()
+
+
+def sum_up(results):
+    """Says how many of these are well: the status of a script."""
+    results = list(results)
+    print(f"{results.count(True)} passed, {results.count(False)} failed")
+    return 0 if all(results) else 1
 
 
 class Cases:

@@ -14,11 +14,11 @@ It builds refuse.c, an object for LD_PRELOAD, by the kit's own clang, and runs u
   (d) rignolda on some command lines, as stab in (b): what it does undisturbed, or the line
       `rignolda: out of memory` with status 3 and nothing else.
 
-The programs are those that rt ci, or rt run, left in out/ of their crates. Nothing of the
-repository is touched. Each (program, job, way of refusing) is one case, and the last line is
+The programs are those that rt ci, or rt run, left in out/ of their crates, or that options name.
+With --only those cases alone are tried that have this in their names. Nothing of the repository is
+touched. Each (program, job, way of refusing) is one case, and the last line is
 'N passed, M failed'. It needs Python 3.8, which rt needs as well, and glibc.
 """
-import argparse
 import concurrent.futures
 import itertools
 import json
@@ -35,7 +35,7 @@ sys.path[:0] = [f"{TOP}/tools", f"{TOP}/agents", f"{TOP}/tests"]
 import check_report  # noqa: E402
 import examples  # noqa: E402
 from crates import clang  # noqa: E402
-from programs import Cases  # noqa: E402
+from programs import Cases, options  # noqa: E402
 
 # A program that has not ended after this many seconds hangs.
 SECONDS = 60.0
@@ -372,14 +372,8 @@ def built(crate):
 
 
 def main():
-    parser = argparse.ArgumentParser(description="refuses memory and threads to the built programs")
-    parser.add_argument("--stab", default=built("stab_cli"))
-    parser.add_argument("--rignolda", default=built("rignolda"))
-    parser.add_argument("--checks", default=f"{TOP}/crates/gate_checks/out/gate_checks")
-    parser.add_argument("--only", default="", help="the cases that have this in their names")
-    parser.add_argument("--calls", default=f"{HERE}/calls", help="the calls of gate_checks")
-    parser.add_argument("--seconds", type=float, default=SECONDS, help="how long one may run")
-    given = parser.parse_args()
+    given = options(stab=built("stab_cli"), rignolda=built("rignolda"), only="", seconds=SECONDS,
+                    checks=f"{TOP}/crates/gate_checks/out/gate_checks", calls=f"{HERE}/calls")
     with tempfile.TemporaryDirectory(prefix="stab-refused-") as folder:
         room = Room(folder, given.seconds)
         room.build_object()
