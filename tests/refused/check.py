@@ -23,7 +23,6 @@ import concurrent.futures
 import itertools
 import json
 import os
-import shutil
 import struct
 import subprocess
 import sys
@@ -146,23 +145,13 @@ class Ended:
 
 
 class Room:
-    """A folder for the object, the jobs and the programs of one check."""
+    """A folder for the jobs of one check, and for the object, which the clang of the kit builds."""
 
     def __init__(self, folder, seconds):
         self.folder, self.seconds = folder, seconds
         self.object = f"{folder}/refuse.so"
-
-    def build_object(self):
-        """Builds the object by the clang of the kit."""
-        words = ["-ffreestanding", f"{HERE}/refuse.c", "-o", self.object]
-        subprocess.run(clang(*words, is_program=False), check=True)
-
-    def copy(self, program):
-        """A copy of a program, which no later build changes."""
-        to = f"{self.folder}/{os.path.basename(program)}"
-        shutil.copyfile(program, to)
-        os.chmod(to, 0o755)
-        return to
+        subprocess.run(clang("-ffreestanding", f"{HERE}/refuse.c", "-o", self.object,
+                             is_program=False), check=True)
 
     def write(self, name, job):
         """Writes a job, or its text, and answers its file."""
@@ -257,7 +246,7 @@ class Check(Cases):
             return
         with open(f"{os.path.dirname(os.path.dirname(program))}/stdout", "rb") as it:
             right = (0, it.read())
-        command = [self.room.copy(program)]
+        command = [program]
         with open(calls) as it:
             wanted = {line.strip() for line in it if line.strip() and not line.startswith("#")}
         is_right = lambda ended: (ended.status, ended.out) == right
@@ -322,7 +311,6 @@ def is_report_of(job):
 
 def check_stab(check, room, program):
     """Parts (b) and (c)."""
-    program = room.copy(program)
     for name in JOBS:
         words, input, right = of_example(name)
         is_right = lambda ended: ended.seen == right
@@ -350,7 +338,6 @@ def check_stab(check, room, program):
 
 def check_rignolda(check, room, program):
     """Part (d)."""
-    program = room.copy(program)
     cases = [(f"rignolda {line}".strip(), status, line.split()) for status, line in LINES]
     for status, logs in LOGS:
         name = f"rignolda judge of logs with status {status}"
@@ -376,7 +363,6 @@ def main():
                     checks=f"{TOP}/crates/gate_checks/out/gate_checks", calls=f"{HERE}/calls")
     with tempfile.TemporaryDirectory(prefix="stab-refused-") as folder:
         room = Room(folder, given.seconds)
-        room.build_object()
         with concurrent.futures.ThreadPoolExecutor(LANES) as lanes:
             check = Check(room, lanes, given.only)
             for program, part in (
@@ -385,7 +371,7 @@ def main():
                 (given.rignolda, lambda it: check_rignolda(check, room, it)),
             ):
                 if os.path.isfile(program):
-                    part(program)
+                    part(os.path.abspath(program))
                 else:
                     check.tell(program, ["the program is not built: rt ci, or rt run in its crate"])
     print(f"{check.runs} runs")
