@@ -29,12 +29,12 @@ IN_C = "-std=gnu11", "-O2", *WARNED
 ROWS = "connection", "number", "child", "sender", "receiver", "list"
 # What is said to somebody who gives other words to agents/run_tree than it takes.
 REFUSED = (
-    ("a capacity of 3", "has room for a power of two of messages: 1, 2, 4, 8, 16, 32, 64",
-     "--capacity", "3"),
+    ("a capacity of 3", "invalid choice: 3 (choose from 1, 2, 4, 8, 16, 32, 64)", "--capacity",
+     "3"),
     ("too few labels", "with a capacity of 4 a link has 10 to 1000 labels",
      "--capacity", "4", "--labels", "9"),
     ("no agents", "a tree has 1 to 64 agents", "--agents", "0"),
-    ("a folder that is there", "and a run is kept in a new folder", "--keep", "{room}"),
+    ("a folder that is there", "File exists: '{room}'", "--keep", "{room}"),
     ("a folder that cannot be made", "Not a directory: '{room}/file/it'", "--keep",
      "{room}/file/it"),
     ("no program", "is no program: `make -C agents run` builds one", "--agent", "{room}/none"),

@@ -134,7 +134,7 @@ static int calls(void) {
     }
     held++;
     print(held == 2 ? "List::push: 2 entries\n" : "List::push: 3 entries\n");
-    return BUG == 13 && !list;
+    return 0;
 }
 
 int main(int count, char **words) {
