@@ -181,17 +181,13 @@ class Release(Commands):
     def take_lock(self):
         """Waits until no other script builds in this folder. The lock is free again when this one
         has ended, however it ends."""
+        self.lock = open(KEPT / "lock", "a", encoding="utf-8")
         try:
-            self.lock = open(KEPT / "lock", "a", encoding="utf-8")
             fcntl.flock(self.lock, fcntl.LOCK_EX | fcntl.LOCK_NB)
         except BlockingIOError:
             self.say("another build runs here: waiting for it")
             fcntl.flock(self.lock, fcntl.LOCK_EX)
             self.look()
-        except OSError as fault:
-            # (on a file system without locks only those of rt keep builds apart)
-            if fault.filename:
-                self.fail(f"the file {KEPT}/lock cannot be written")
 
     def compile(self, tree, crate, source, to, *words):
         """Has the compiler prove and compile a crate over what rt ci has left of the libraries
@@ -360,13 +356,10 @@ class Release(Commands):
         if not shutil.which("rt"):
             self.fail(f"{why}: the command rt of the Rattle kit is needed to prove and build the "
                       "program")
-        try:
-            if not self.is_kept_own():
-                self.fail(f"{why}, and nothing is built in {KEPT}:\n    it is not a folder of this "
-                          "user to which nobody else may write; delete it")
-            LOG.write_text("")
-        except OSError:
-            self.fail(f"the file {LOG} cannot be written")
+        if not self.is_kept_own():
+            self.fail(f"{why}, and nothing is built in {KEPT}:\n    it is not a folder of this user "
+                      "to which nobody else may write; delete it")
+        LOG.write_text("")
         self.take_lock()
         for count in range(MAX_BUILDS):
             if not is_anew and all(it.built for it in self.artefacts.values()):
@@ -542,11 +535,8 @@ class Release(Commands):
                f"the release was built by another kit: {self.released_by}")
 
     def check(self):
-        try:
-            self.is_kept_own()
-            LOG.write_text("")
-        except OSError:
-            self.fail(f"the file {LOG} cannot be written")
+        self.is_kept_own()
+        LOG.write_text("")
         cases = Cases()
         for case in self.cases():
             cases.holds(*case)
