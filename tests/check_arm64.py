@@ -16,10 +16,11 @@ from concurrent.futures import ThreadPoolExecutor
 from pathlib import Path
 
 TOP = Path(__file__).resolve().parent.parent
-sys.path[:0] = [str(TOP / "tools"), str(TOP / "tests/daemon")]
+sys.path[:0] = [str(TOP / part) for part in ("tools", "tests/daemon", "tests/library")]
 import check_tables  # noqa: E402
 import debian  # noqa: E402
 import static  # noqa: E402
+from compare import runs  # noqa: E402
 from programs import Cases, kept, ran  # noqa: E402
 from tables import stab_examples  # noqa: E402
 
@@ -72,7 +73,7 @@ def tries_library(cases, room, before):
         made[name] = wrapped(before, room / name, room / "c" / name)
     for name in "both", "plain":
         cases.works(f"arm64: each call ({name})", made[name], "2000", "1")
-    cases.works("arm64: the drawn runs", TOP / "tests/library/compare.py", "runs", made["link"])
+    cases.has_none("arm64: the drawn runs", runs(made["link"]))
 
 
 def compares_daemon(cases):

@@ -133,6 +133,12 @@ class Cases:
         status, said = ran(*words, **options)
         self.holds(name, status == 0, "\n".join(said.splitlines()[-30:]))
 
+    def has_none(self, name, faults):
+        """Counts a case, which holds where there are no faults; the first ones are said."""
+        faults = list(faults)
+        shown = faults[:3] + [f"and {len(faults) - 3} more"] * (len(faults) > 3)
+        self.holds(name, not faults, "\n".join(map(str, shown)))
+
     def sum_up(self):
         """Says how many there were, and answers the status of the check."""
         print(f"{self.passed} passed, {self.failed} failed")

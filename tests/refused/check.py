@@ -188,11 +188,6 @@ class Check(Cases):
         super().__init__()
         self.room, self.lanes, self.only, self.runs = room, lanes, only, 0
 
-    def tell(self, name, faults, note=""):
-        """Says whether a case holds: it does where there is no fault."""
-        shown = faults[:3] + [f"and {len(faults) - 3} more"] * (len(faults) > 3)
-        self.holds(name if faults else name + note, not faults, "\n".join(map(str, shown)))
-
     def run(self, *given, **named):
         self.runs += 1
         return self.room.run(*given, **named)
@@ -214,9 +209,9 @@ class Check(Cases):
         """Whether a run that is refused nothing is right, and its allocations are counted."""
         ended = self.run(command, input)
         if ended.refused != 0 or not ended.allocations:
-            self.tell(name, [f"the object counted no allocations: {ended}"])
+            self.holds(name, False, f"the object counted no allocations: {ended}")
         elif not is_right(ended):
-            self.tell(name, [f"undisturbed: {ended}"])
+            self.holds(name, False, f"undisturbed: {ended}")
         else:
             return True
         return False
@@ -238,7 +233,7 @@ class Check(Cases):
                     last = number
             if refused == 0:
                 faults.append("no refusal was answered by out of memory")
-            self.tell(f"{name}, refused {way}", faults, f": {refused} of {last} refusals end it")
+            self.has_none(f"{name}, refused {way}: {refused} of {last} refusals end it", faults)
 
     def refused(self, program, calls):
         """Part (a): the program that makes every call again."""
@@ -264,10 +259,10 @@ class Check(Cases):
             seen |= names
             if ended.refused:
                 last = max(last, number)
-        self.tell("gate_checks, refused once", faults, f": {last} refusals")
+        self.has_none(f"gate_checks, refused once: {last} refusals", faults)
         for name in sorted(wanted):
             faults = [] if name in seen else ["no allocation of this call was ever refused"]
-            self.tell(f"gate_checks, {name} is refused", faults)
+            self.has_none(f"gate_checks, {name} is refused", faults)
 
     def threads(self, name, command, input, is_right, nodes):
         """Part (c): the start of each thread is refused in its turn."""
@@ -281,7 +276,7 @@ class Check(Cases):
         for number, ended in enumerate(self.lanes.map(one, range(1, nodes + 1)), 1):
             if ended.refused != 1 or ended.seen != NOT_STARTED:
                 faults.append(f"thread {number} of {nodes}: {ended}")
-        self.tell(f"{name}, each thread refused", faults)
+        self.has_none(f"{name}, each thread refused", faults)
 
 
 def first_difference(right, ended):
@@ -373,7 +368,7 @@ def main():
                 if os.path.isfile(program):
                     part(os.path.abspath(program))
                 else:
-                    check.tell(program, ["the program is not built: rt ci, or rt run in its crate"])
+                    check.holds(program, False, "the program is not built: rt ci, or rt run in it")
     print(f"{check.runs} runs")
     return check.sum_up() or not check.passed
 
