@@ -27,8 +27,7 @@ from programs import answered, counted, run_with
 from scenario import random_job, text_of
 
 VALUES = [None, True, -1, 0, 1, 70000, 0.5, "", "x", "offer", "publish", "lose_frame", [], [0],
-    [[0]],
-          {}, {"send": 0, "recv": 1}, {"send": 0, "recv": 1, "acks": [1, 1, 1, 1]}]
+          [[0]], {}, {"send": 0, "recv": 1}, {"send": 0, "recv": 1, "acks": [1, 1, 1, 1]}]
 
 
 def rows_of_text(text):

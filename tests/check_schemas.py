@@ -23,9 +23,8 @@ from programs import counted  # noqa: E402
 # the faults that a schema finds as well, wherever they are found
 FOUND = {
     "job: wrong shape", "job: unknown version", "job: capacity out of range",
-    "job: too many labels",
-    "job: bad event", "job: turns out of range", "job: rate out of range", "job: h out of range",
-    "tree: wrong shape", "tree: bad name", "tree: too many nodes",
+    "job: too many labels", "job: bad event", "job: turns out of range", "job: rate out of range",
+    "job: h out of range", "tree: wrong shape", "tree: bad name", "tree: too many nodes",
 }
 
 # members that a job may have as well, and what is not of their form
