@@ -397,10 +397,15 @@ class Tree:
     def truth(self):
         return read(self.root.truth)
 
-    def wrong(self, agents=None):
-        """The agents whose settings differ from those of the root's folder."""
-        truth = self.truth()
+    def wrong(self, agents=None, truth=None):
+        """The agents whose settings differ from those of the root's folder, or from these."""
+        truth = self.truth() if truth is None else truth
         return [agent.name for agent in (agents or self) if agent.files() != truth]
+
+    def goes_on(self, truth, agents=None):
+        """Asserts that all have these settings as long as three rounds of half a second take."""
+        time.sleep(1.5)
+        sure(not self.wrong(agents, truth), self.wrong(agents, truth))
 
     def right(self, seconds=USUAL, agents=None):
         """Whether all agents come to have the settings of the root's folder."""
