@@ -7,9 +7,10 @@
 
 Each job at a limit is run three times. A line has the file's size, the median of the processor time
 and of the wall time, the peak memory, the peak as a multiple of the file's size, and what came of
-the job. Some are refused: with one more event, step or byte, or for what they are full of, each with
-the fault of docs/FORMATS.md. (That one more of anything is refused, tests/tables show.) A star is after a processor time over one second, and after a peak over twenty
-times the file's size where that is over 10 MB.
+the job. Some are refused: with one more event, step or byte, or for what they are full of, each
+with the fault of docs/FORMATS.md. (That one more of anything is refused, tests/tables show.) A star
+is after a processor time over one second, and after a peak over twenty times the file's size where
+that is over 10 MB.
 
 With --rignolda each job has almost as many bytes as a file may have, and is full of one thing that
 much may be looked up or said of: steps, members that nobody reads, names that no node has, and so

@@ -47,9 +47,9 @@ rignolda explain"
 NO_TREE = "not a report: line 1 is not as a report of this tree has it; the job is one of a tree: \
 see rignolda explain"
 
-# In all tables: a part of a text, what is there instead, and what is said: a verdict, which ends its
-# line, or a fault; or the number of the line that is not as it has to be. LAW is for all that is
-# said where the law of a link is broken.
+# In all tables: a part of a text, what is there instead, and what is said: a verdict, which ends
+# its line, or a fault; or the number of the line that is not as it has to be. LAW is for all that
+# is said where the law of a link is broken.
 
 REPORTS = [
     ("", "", "obeys\n"),
