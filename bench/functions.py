@@ -27,16 +27,11 @@ SHOWN = 25
 
 
 def main():
-    if len(sys.argv) not in (2, 3) or sys.argv[1].startswith("-"):
+    if len(sys.argv) not in (2, 3) or sys.argv[1] not in listed():
         sys.exit(__doc__)
     crate = sys.argv[1]
-    if crate not in listed():
-        sys.exit(f"functions: crates.txt has no crate {crate}")
     folder = os.path.abspath(sys.argv[2]) if len(sys.argv) == 3 else f"{TOP}/crates/{crate}"
-    root = next((it for it in ("src/lib.rt", "src/main.rt") if os.path.isfile(f"{folder}/{it}")),
-        "")
-    if not root:
-        sys.exit(f"functions: {folder} has no src/lib.rt and no src/main.rt")
+    root = next(it for it in ("src/lib.rt", "src/main.rt") if os.path.isfile(f"{folder}/{it}"))
     times, said, mark = [], [], " (first of its part)"
     with tempfile.TemporaryDirectory() as kept:
         words = [*compiler("check", crate, root), "--jobs", "1", "--progress", "--incremental",

@@ -11,7 +11,6 @@ seconds of processor an hour, as the kernel counts them for each thread, and how
 thread waited, of leaves the median; and the same for each of the changes, which are published one
 after the other.
 """
-import argparse
 import pathlib
 import statistics
 import sys
@@ -20,6 +19,7 @@ import time
 HERE = pathlib.Path(__file__).resolve().parent
 sys.path.insert(0, str(HERE.parent / "tests/daemon"))
 from daemons import Tree, binaries, until  # noqa: E402
+from runner import options  # noqa: E402
 
 
 def spent(process):
@@ -64,13 +64,9 @@ def cost_of_changes(trees, changes):
 
 
 def main():
-    parser = argparse.ArgumentParser()
-    parser.add_argument("--children", type=int, default=2)
-    parser.add_argument("--seconds", type=int, default=60)
-    parser.add_argument("--changes", type=int, default=0)
-    parser.add_argument("folders", type=pathlib.Path, nargs="*")
-    words = parser.parse_args()
-    trees = [begin(folder, words.children) for folder in words.folders or [binaries()]]
+    words = options("folders", children=2, seconds=60, changes=0)
+    folders = map(pathlib.Path, words.folders or [binaries()])
+    trees = [begin(folder, words.children) for folder in folders]
     try:
         for tree in trees:
             if not until(lambda it=tree: not it.wrong(), 60):

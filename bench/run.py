@@ -13,7 +13,6 @@ Linux gives each session a share of the processors, and within one each thread (
 sched(7)). So the loops are in sessions of their own, or in the one of the programs. It prints the
 medians of wall time, and of the ratios in turn. A run that has not delivered every item is named.
 """
-import argparse
 import contextlib
 import json
 import os
@@ -29,7 +28,7 @@ TOP = os.path.dirname(HERE)
 sys.dont_write_bytecode = True
 sys.path[:0] = [os.path.join(TOP, "tools"), os.path.join(TOP, "tests", "hostile")]
 from largest import run  # noqa: E402
-from programs import built  # noqa: E402
+from programs import built, options  # noqa: E402
 
 RUNS = 5
 TURNS = 7
@@ -199,19 +198,16 @@ def path_of(words, name, count, job):
 
 
 def main():
-    parser = argparse.ArgumentParser(description=__doc__.splitlines()[0])
-    parser.add_argument("--quick", action="store_true", help="jobs of up to 100,000 events")
-    parser.add_argument("--runs", action="store_true", help="runs of worker threads instead")
-    options = parser.parse_args()
+    chosen = options(quick=False, runs=False)
     os.makedirs(BUILD, exist_ok=True)
     program = built("stab", BUILD)
     load = os.getloadavg()[0]
     print(f"{time.strftime('%Y-%m-%d')}, {os.cpu_count()} processors, load {load:.1f}")
-    if options.runs:
+    if chosen.runs:
         measure_runs(program)
         return
     print(f"{'job':24} {'events':>9} {'MB':>6} {'ms':>8} {'events/s':>11} {'peak MB':>8}")
-    for words, name, count, job in jobs(options.quick):
+    for words, name, count, job in jobs(chosen.quick):
         path = path_of(words, name, count, job)
         runs = [run(program, words, path) for _ in range(RUNS)]
         found = [(processor, peak) for _, processor, peak, status, _ in runs if status == 0]

@@ -16,10 +16,11 @@ from concurrent.futures import ThreadPoolExecutor
 from pathlib import Path
 
 TOP = Path(__file__).resolve().parent.parent
-sys.path[:0] = [str(TOP / "tools"), str(TOP / "tests/daemon")]
+sys.path[:0] = [str(TOP / part) for part in ("tools", "tests/daemon", "tests/library")]
 import check_tables  # noqa: E402
 import debian  # noqa: E402
 import static  # noqa: E402
+from compare import runs  # noqa: E402
 from programs import Cases, kept, ran  # noqa: E402
 from tables import stab_examples  # noqa: E402
 
@@ -72,7 +73,7 @@ def tries_library(cases, room, before):
         made[name] = wrapped(before, room / name, room / "c" / name)
     for name in "both", "plain":
         cases.works(f"arm64: each call ({name})", made[name], "2000", "1")
-    cases.works("arm64: the drawn runs", TOP / "tests/library/compare.py", "runs", made["link"])
+    cases.has_none("arm64: the drawn runs", runs(made["link"]))
 
 
 def compares_daemon(cases):
@@ -87,32 +88,27 @@ def compares_daemon(cases):
 def tries_tree(cases, room, before):
     """Settings come down a tree of seven daemons, with TLS, and again after one is killed."""
     import daemons  # (it looks for the programs when it is asked for a tree)
-    from runner import sure
+    from runner import run, sure
     for name in "rignoldad", "rignoldactl":
         wrapped(before, room / "daemons" / name, room / "arm64" / name)
 
-    def before_it_starts(tree):
-        daemons.patient(tree)
-        daemons.by_tls(tree)
+    def are_for_arm64(tree):
         for name in ON_ARM64:
             tree[name].program = room / "arm64/rignoldad"
 
-    try:
-        with daemons.running(None, before_it_starts) as tree:
-            for name in "left", "left1":
-                tree[name].kill()
-                tree.write("while", f"{name} is away")
-                tree[name].start()
-                sure(tree.ready(), "the tree is not whole after the kill of", name)
-                sure(tree.right(), "other settings:", tree.wrong())
-            for agent in tree:
-                words = room / "arm64/rignoldactl", "--socket", agent.socket, "wait"
-                sure(subprocess.run(words, timeout=120).returncode == 0, "no answer of", agent.name)
-            sure(not any("panicked" in agent.text() for agent in tree), "an agent has panicked")
-    except (AssertionError, RuntimeError, OSError, subprocess.SubprocessError) as fault:
-        cases.holds("arm64: seven daemons, three of them for arm64", False, fault)
-    else:
-        cases.holds("arm64: seven daemons, three of them for arm64", True)
+    @daemons.of_tree(None, daemons.patient, daemons.by_tls, are_for_arm64)
+    def settings_reach_all(tree):
+        for name in "left", "left1":
+            tree[name].kill()
+            tree.write("while", f"{name} is away")
+            tree[name].start()
+            tree.is_ready()
+            tree.settles()
+        for agent in tree:
+            words = room / "arm64/rignoldactl", "--socket", agent.socket, "wait"
+            sure(subprocess.run(words, timeout=120).returncode == 0, "no answer of", agent.name)
+
+    cases.holds("arm64: seven daemons, three of them for arm64", run(settings_reach_all))
 
 
 def tried(cases, room):

@@ -122,11 +122,6 @@ def path_round(rng, tree, way, new):
             reads[node].see(act)
 
 
-def is_handed_on(tree, way):
-    return all(not tree.links[n].frames
-               and tree.links[n].acked == len(tree.list_of(tree.parents[n])) for n in way)
-
-
 def is_complete(count, tree, node):
     """Whether a node has few strays, and then each published item but for some of the first."""
     strays, missing, published, got = count.of(tree, node)
@@ -153,7 +148,9 @@ def comes_back(rng):
     handed_on = []
     for _ in range(rounds):
         path_round(rng, tree, way, new)
-        handed_on.append(is_handed_on(tree, way))
+        handed_on.append(all(
+            not tree.links[n].frames and tree.links[n].acked == len(tree.list_of(tree.parents[n]))
+            for n in way))
     assert handed_on[-1] and is_complete(count, tree, node), (node, count.of(tree, node))
     return [(rounds - 1 - handed_on.index(True),)]
 

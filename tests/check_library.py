@@ -17,24 +17,26 @@ import tempfile
 from pathlib import Path
 
 TOP = Path(__file__).resolve().parent.parent
-sys.path.insert(0, str(TOP / "tools"))
+sys.path[:0] = [str(TOP / "tools"), str(TOP / "tests/library")]
+import try_check_report  # noqa: E402
+from compare import drawn, runs  # noqa: E402
 from crates import clang  # noqa: E402
 from programs import Cases, ran  # noqa: E402
 
 ARCHIVES = "crates/stab_c/out/libstab_c.a", "release/librignolda.a", "release/libstab_c.a"
-COMPARE, CARGO = "tests/library/compare.py", "rust/rignolda/Cargo.toml"
+CARGO = "rust/rignolda/Cargo.toml"
 WARNED, INLINE = ("-Wall", "-Wextra", "-Werror"), "-DRIGNOLDA_INLINE"
 IN_C = "-std=gnu11", "-O2", *WARNED
 # The rows of the header's table of what to call when nothing comes: each of them is needed.
 ROWS = "connection", "number", "child", "sender", "receiver", "list"
 # What is said to somebody who gives other words to agents/run_tree than it takes.
 REFUSED = (
-    ("a capacity of 3", "has room for a power of two of messages: 1, 2, 4, 8, 16, 32, 64",
-     "--capacity", "3"),
+    ("a capacity of 3", "invalid choice: 3 (choose from 1, 2, 4, 8, 16, 32, 64)", "--capacity",
+     "3"),
     ("too few labels", "with a capacity of 4 a link has 10 to 1000 labels",
      "--capacity", "4", "--labels", "9"),
     ("no agents", "a tree has 1 to 64 agents", "--agents", "0"),
-    ("a folder that is there", "and a run is kept in a new folder", "--keep", "{room}"),
+    ("a folder that is there", "File exists: '{room}'", "--keep", "{room}"),
     ("a folder that cannot be made", "Not a directory: '{room}/file/it'", "--keep",
      "{room}/file/it"),
     ("no program", "is no program: `make -C agents run` builds one", "--agent", "{room}/none"),
@@ -63,8 +65,8 @@ class Library(Cases):
             # (the source before the archive, which a linker reads in this order)
             self.works(f"{name}: {test} builds", words[0], f"tests/library/{test}.c", *words[1:],
                        "-o", to)
-        self.works(f"{name}: the drawn runs", COMPARE, "runs", at["link"])
-        self.works(f"{name}: {jobs} drawn links", COMPARE, "drawn", at["link"], jobs)
+        self.has_none(f"{name}: the drawn runs", runs(at["link"]))
+        self.has_none(f"{name}: {jobs} drawn links", drawn(at["link"], jobs))
         self.works(f"{name}: a million steps over connections", at["sessions"], "1000000", "1")
         self.works(f"{name}: items arrive from all bits", at["arrives"], rounds, "1")
         for word in ROWS:
@@ -110,7 +112,7 @@ class Library(Cases):
 
     def by_python(self):
         """What is tested without a compiler."""
-        self.works("the checker of reports", "tests/library/try_check_report.py")
+        self.has_none("the checker of reports", try_check_report.wrong())
         (self.room / "file").touch()
         for name, text, *words in REFUSED:
             words = [it.format(room=self.room) for it in words]
@@ -209,8 +211,8 @@ class Library(Cases):
                 ("the package builds by itself", own, "package", "--allow-dirty")):
             self.works(f"cargo: {name}", "cargo", *words, "--offline", "--quiet",
                        "--manifest-path", CARGO, env=env)
-        self.works("cargo: the drawn runs", COMPARE, "runs", link)
-        self.works("cargo: 10000 drawn links", COMPARE, "drawn", link, 10000)
+        self.has_none("cargo: the drawn runs", runs(link))
+        self.has_none("cargo: 10000 drawn links", drawn(link, 10000))
 
 
 def main(words):

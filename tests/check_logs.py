@@ -157,13 +157,6 @@ def of_runs(draw):
             yield {**JOB, "items": items, "received": [[], has]}, has in right
 
 
-def of_agents(file):
-    """The logs of agents that were made by hand, each with what is wrong in its verdict."""
-    for name, parts, wanted, *broken in long.CASES:
-        found = long.judged(file, *parts, broken=broken[0] if broken else ())
-        yield f"agents: {name}", None if found == wanted else f"{found}\nwanted {wanted}"
-
-
 def tried(file):
     """Tries all logs with this program."""
     count = int(sys.argv[1]) if len(sys.argv) > 1 else 1500
@@ -181,9 +174,12 @@ def tried(file):
     broken = sum(text != "obeys\n" for _, text in cases[:count])
     print(f"logs: {count} drawn, of which {broken} do not obey, {len(REFUSED)} refused, "
           f"{len(runs)} of all that runs give, and {len(long.CASES)} of agents")
-    faults = ((json.dumps(job), None if has == want else f"{has}\nwanted {want}")
-              for (job, _), has, want in zip(cases + runs, said, wanted))
-    return counted(itertools.chain(faults, of_agents(file)), quiet=True)
+    tried = [(json.dumps(job), has, want)
+             for (job, _), has, want in zip(cases + runs, said, wanted)]
+    tried += [(f"agents: {name}", long.judged(file, *parts, broken=[*broken, ()][0]), want)
+              for name, parts, want, *broken in long.CASES]
+    return counted(((name, None if has == want else f"{has}\nwanted {want}")
+                    for name, has, want in tried), quiet=True)
 
 
 if __name__ == "__main__":

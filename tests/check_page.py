@@ -9,7 +9,6 @@ those of the program, for all examples and 1,000 drawn jobs of a link and of a t
 proof, questions, addresses, keys, faults and backlogs do what was worked out by hand; and that all
 of it is seen, announced once, and in time. The last line is 'N passed, M failed'.
 """
-import argparse
 import base64
 import contextlib
 import functools
@@ -32,7 +31,7 @@ sys.path[:0] = [str(TOP / "tools"), str(TOP / "agents")]
 from check_drawn import blocks, cut, is_head  # noqa: E402
 from check_report import parts_of  # noqa: E402
 from jobs import drawn_link, drawn_tree  # noqa: E402
-from programs import Cases, answered, built, ran  # noqa: E402
+from programs import Cases, answered, built, options, ran  # noqa: E402
 
 PAGE = TOP / "page" / "index.html"
 DATA = TOP / "crates" / "gate_checks" / "data"
@@ -402,12 +401,13 @@ class Checks(Cases):
     def go(self, address=None):
         """Opens an address, or the page, and waits until it is ready."""
         self.browser.go(address or PAGE.as_uri())
+        self.wait("document.documentElement?.dataset.ready")
+
+    def wait(self, what):
+        """Waits until something holds of the page."""
         end = time.time() + SECONDS
-        while not self.run("return document.documentElement?.dataset.ready ?? ''"):
-            if time.time() > end:
-                raise RuntimeError("the page is not ready: "
-                    + self.run("return document.body.innerText.slice(0, 300)"))
-            time.sleep(0.05)
+        while not self.run(f"return {what}") and time.time() < end:
+            time.sleep(0.01)
 
     def ready(self):
         """The page is ready in time, the best of five."""
@@ -450,14 +450,6 @@ class Checks(Cases):
                 if tells_apart(data):
                     self.see(f"counts of {job}", answer[1] == counts,
                              f"{answer[1]} and not {counts}")
-
-    def tree_exercises(self):
-        body = "return checkTree(args[0], { ...TREE_TASKS[args[0]].job, events: args[1] });"
-        for i, events in enumerate(SOLVED_TREES):
-            self.same(f"tree exercise {i + 1} is solved", "", body, i, events)
-            self.see(f"tree exercise {i + 1} fails", self.run(body, i, events[:-1]) != "")
-            self.see(f"tree exercise {i + 1} from another start",
-                     self.run("return checkTree(args[0], TREES['A clean tree']);", i) != "")
 
     def tree_hands(self):
         """Buttons, slider, keys and the address of the tree."""
@@ -765,9 +757,7 @@ class Checks(Cases):
                 # (the event that tells the page of its address comes a little later)
                 self.run("scrollTo(0, args[0] % 2 * 1e6); location.hash = '#proof=' + args[0]",
                          step + 1)
-                end = time.time() + SECONDS
-                while self.run("return proofAt") != step and time.time() < end:
-                    time.sleep(0.01)
+                self.wait(f"proofAt === {step}")
                 self.same(f"step {step + 1} of the proof is seen at {width}",
                           [step, True, True, True], inside + "return [proofAt, isIn($('proof')), "
                           "box($('proof')).top < 9, isIn($('lanes'))]")
@@ -1094,17 +1084,21 @@ class Checks(Cases):
                      [none, some, [1, 2, 4, 4, 0, 6], [1, 3, 4, 4, 0, 9]],
                      ["Strays of links at c: 1 of at most C = 3",
                       "Strays of backlogs: 4 of at most E = 4", "Missing: 0 of at most M = 9"]])
+
     def exercises(self):
         """Each is refused with too few events, and solved with those that are given here."""
-        for i, events in enumerate(SOLVED):
-            body = "return checkTask(args[0], { ...TASKS[args[0]].job, events: args[1] });"
-            self.same(f"exercise {i + 1} is solved", "", body, i, events)
-            self.see(f"exercise {i + 1} fails", self.run(body, i, events[:-1]) != "")
-            self.see(f"exercise {i + 1} from another start",
-                     self.run("return checkTask(args[0], RUNS['Two clean rounds']);", i) != "")
-
+        body = "return {0}(args[0], {{ ...{1}[args[0]].job, events: args[1] }});".format
+        for kind, check, tasks, other, solved in (
+                ("", "checkTask", "TASKS", "RUNS['Two clean rounds']", SOLVED),
+                ("tree ", "checkTree", "TREE_TASKS", "TREES['A clean tree']", SOLVED_TREES)):
+            for i, events in enumerate(solved):
+                name = f"{kind}exercise {i + 1}"
+                self.same(f"{name} is solved", "", body(check, tasks), i, events)
+                self.see(f"{name} fails", self.run(body(check, tasks), i, events[:-1]) != "")
+                self.see(f"{name} from another start",
+                         self.run(f"return {check}(args[0], {other});", i) != "")
         for exercise, events, wanted in UNSOLVED:
-            said = self.run(body, exercise - 1, events)
+            said = self.run(body("checkTask", "TASKS"), exercise - 1, events)
             self.see(f"what seems to solve exercise {exercise}", said.startswith(wanted))
 
     def labels(self):
@@ -1162,11 +1156,7 @@ class Checks(Cases):
 
 
 def main():
-    words = argparse.ArgumentParser(description=__doc__.splitlines()[0])
-    words.add_argument("--jobs", type=int, default=1000)
-    words.add_argument("--seed", type=int, default=1)
-    words.add_argument("browsers", nargs="*", default=["chromium", "firefox"])
-    words = words.parse_args()
+    words = options("browsers", jobs=1000, seed=1)
     checks, draw = Checks(), random.Random(words.seed)
     checks.holds("the page is at most 120 kB", PAGE.stat().st_size <= MOST_BYTES)
 
@@ -1190,7 +1180,7 @@ def main():
     print(f"{len(trees)} trees, of which {fitting} fit the page")
     accepted = sum(want is not None for _, _, want in checks.jobs)
     print(f"{len(jobs)} jobs, of which the program takes {accepted}")
-    for name in words.browsers:
+    for name in words.browsers or ["chromium", "firefox"]:
         with tempfile.TemporaryDirectory(ignore_cleanup_errors=True) as folder:
             checks.name = name
             browser = checks.browser = Browser(name, folder)
@@ -1199,7 +1189,7 @@ def main():
                 for part in ("ready", "texts", "exercises", "labels", "hands", "drawn_rows",
                              "lesson", "proof", "keys", "seen", "announced",
                              *["spoken"] * (name == "chromium"), "lab", "slides", "time", "trees",
-                             "tree_exercises", "tree_hands", "faults", "backlogs", "narrow"):
+                             "tree_hands", "faults", "backlogs", "narrow"):
                     getattr(checks, part)()
             finally:
                 browser.end()

@@ -1,13 +1,13 @@
 #!/usr/bin/env -S python3 -B
-"""Gives random scenarios to `rignolda`, and compares what it prints with independent programs.
+"""Gives random scenarios to `rignolda`, and compares what it prints with an independent program.
 
     tests/check_scenarios.py [COUNT [SEED]]     200 scenarios by default, the same each time
 
-Of each scenario `rignolda scenario` has to print what tests/faults/scenario.py prints, `rignolda
-draw` what tests/faults/drawn.py prints, its picture has to have the rows of that text in their
-order, and `rignolda explain` has to find nothing. Then one value of a step is spoiled: where
-`rignolda scenario` refuses a step, the first thing that `explain` finds has to be at that step, and
-else nothing. One in twenty is continued to 1,000,000 changes, or to one more, which is refused.
+Of each scenario `rignolda scenario` and `draw` have to print what tests/faults/scenario.py says,
+its picture has to have the rows of that run in their order, and `rignolda explain` has to find
+nothing. Then one value of a step is spoiled: where `rignolda scenario` refuses a step, the first
+thing that `explain` finds has to be at that step, and else nothing. One in twenty is continued to
+1,000,000 changes, or to one more, which is refused.
 
 The program is the one of check_tables.py. The last line is 'N passed, M failed'.
 """
@@ -22,13 +22,11 @@ from pathlib import Path
 TOP = Path(__file__).resolve().parent.parent
 sys.path[:0] = [str(TOP / "tests/faults"), str(TOP / "tools")]
 
-from drawn import drawn_text
 from programs import answered, counted, run_with
-from scenario import random_job, text_of
+from scenario import drawn_text, random_job, text_of
 
 VALUES = [None, True, -1, 0, 1, 70000, 0.5, "", "x", "offer", "publish", "lose_frame", [], [0],
-    [[0]],
-          {}, {"send": 0, "recv": 1}, {"send": 0, "recv": 1, "acks": [1, 1, 1, 1]}]
+          [[0]], {}, {"send": 0, "recv": 1}, {"send": 0, "recv": 1, "acks": [1, 1, 1, 1]}]
 
 
 def rows_of_text(text):

@@ -6,12 +6,14 @@ schema can say has to be refused by it; a schema knows nothing of what two membe
 the number of labels that a capacity needs, and takes 1.0 for a whole number. Of members that only
 `rignolda` reads the schema has to accept and refuse what docs/FORMATS.md says.
 
-It needs the Python package jsonschema; without it, it fails. The last line is 'N passed, M failed'.
+It needs Debian's package python3-jsonschema. The last line is 'N passed, M failed'.
 """
 
 import json
 import pathlib
 import sys
+
+from jsonschema import Draft7Validator
 
 ROOT = pathlib.Path(__file__).resolve().parent.parent
 sys.path.insert(0, str(ROOT / "tools"))
@@ -21,9 +23,8 @@ from programs import counted  # noqa: E402
 # the faults that a schema finds as well, wherever they are found
 FOUND = {
     "job: wrong shape", "job: unknown version", "job: capacity out of range",
-    "job: too many labels",
-    "job: bad event", "job: turns out of range", "job: rate out of range", "job: h out of range",
-    "tree: wrong shape", "tree: bad name", "tree: too many nodes",
+    "job: too many labels", "job: bad event", "job: turns out of range", "job: rate out of range",
+    "job: h out of range", "tree: wrong shape", "tree: bad name", "tree: too many nodes",
 }
 
 # members that a job may have as well, and what is not of their form
@@ -67,15 +68,9 @@ def read(job):
         return None
 
 
-def kind_of(job):
-    """Which schema a job is of: those that only a run or a tree reads are jobs of a tree."""
-    return "link_job" if job.parent.name in ("data", "links", "refused") else "job"
-
-
 def cases():
     """Compares the answer of a schema with what is expected, job by job: each with its fault, or
     None."""
-    from jsonschema import Draft7Validator
     schemas = {}
     for kind in ("link_job", "job"):
         schema = json.loads((ROOT / "docs" / "schema" / f"{kind}.json").read_text())
@@ -86,7 +81,9 @@ def cases():
         fault, value = fault_of(job), read(job)
         if value is None or (fault is not None and fault not in FOUND) or job.stem in NOT_FOUND:
             continue
-        is_valid = schemas[kind_of(job)].is_valid(value)
+        # (those that only a run or a tree reads are jobs of a tree)
+        kind = "link_job" if job.parent.name in ("data", "links", "refused") else "job"
+        is_valid = schemas[kind].is_valid(value)
         looked_at.add(is_valid)
         yield job.relative_to(DATA), None if is_valid == (fault is None) else (
             f"{fault or 'accepted'}, the schema differs")
@@ -98,14 +95,4 @@ def cases():
                 f"it has to be {'accepted' if is_good else 'refused'}")
 
 
-def main():
-    try:
-        return counted(cases(), quiet=True)
-    except ImportError:
-        print("schemas: there is no Python package jsonschema: apt-get install python3-jsonschema")
-        print("0 passed, 1 failed")
-        return 1
-
-
-if __name__ == "__main__":
-    sys.exit(main())
+sys.exit(counted(cases(), quiet=True))

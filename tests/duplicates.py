@@ -113,9 +113,6 @@ def looked_at(kind, most):
 
 
 def main(words):
-    if words and not re.fullmatch("[1-9][0-9]{0,5}", words[0]):
-        print("duplicates: it takes a number, or no word", file=sys.stderr)
-        return 2
     most = int(words[0]) if words else 0
     return counted(looked_at(kind, most) for kind in ("src", "specs", "proofs"))
 

@@ -84,13 +84,6 @@ def path_of(crate, file, old):
     return f"{place}/{name}".strip("/").replace("/", "::") if name else ""
 
 
-def has_answers(crate, file, function):
-    """Whether a function of this file has a file of its own in proofs/."""
-    at = f"{TOP}/crates/{crate}/proofs/{file.removeprefix('src/').removesuffix('.rt')}"
-    return any(os.path.basename(folder).split("+")[-1] == function and files
-               for folder, _, files in os.walk(at))
-
-
 def code(text):
     """A text without its comments, and without what is between its words."""
     return re.sub(r"\s", "", re.sub(r"//.*|(?m:^ *--.*)", "", text))
@@ -115,7 +108,9 @@ def fault_of_control(crate, bug, control):
     its = [path_of(crate, file, pairs[0][0]) for file, pairs in (bug, control or bug) if pairs]
     function = its[0].rpartition("::")[2]
     if control is None:
-        if has_answers(crate, bug[0], function):
+        at = f"{TOP}/crates/{crate}/proofs/{bug[0].removeprefix('src/').removesuffix('.rt')}"
+        if any(os.path.basename(folder).split("+")[-1] == function and files
+               for folder, _, files in os.walk(at)):
             return f"{function} has a file in proofs/, so a control is needed in tests/controls"
     elif not fault_of_texts(crate, *control) and (bug[0], its[0]) != (control[0], its[1]):
         return f"its control is not of the same function, {function} in {bug[0]}"

@@ -1,19 +1,12 @@
 """The examples of crates/gate_checks/data, whose README says what each file is."""
-from dataclasses import dataclass
+from collections import namedtuple
 from pathlib import Path
 
 DATA = Path(__file__).resolve().parent.parent / "crates/gate_checks/data"
 
 
-@dataclass
-class Example:
-    """What `stab` is given, and how it has to end."""
-
-    words: list
-    job: Path  # what is read from standard input, or None
-    status: int
-    out: bytes
-    err: bytes
+# What `stab` is given, its standard input a file or None, and how it has to end.
+Example = namedtuple("Example", "words job status out err")
 
 
 def words_of(path):

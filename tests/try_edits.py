@@ -27,7 +27,7 @@ import tempfile
 sys.dont_write_bytecode = True
 from edits import TOP, edits_in, path_of, texts_with  # noqa: E402
 from crates import compiler, lines_of, listed, tasks  # noqa: E402
-from programs import ran  # noqa: E402
+from programs import ran, sum_up  # noqa: E402
 
 # What a check says of a function that is not proved, and of that what says nothing against it but
 # that it calls another one.
@@ -137,8 +137,7 @@ def main(words):
     if unknown:
         print(f"try_edits: crates.txt lists no crate {unknown[0]}", file=sys.stderr)
         return 2
-    passed = failed = 0
-    jobs = os.environ.get("RT_JOBS", "")
+    results, jobs = [], os.environ.get("RT_JOBS", "")
     edits = {crate: edits_in(f"tests/{folder}/{crate}") for crate in words or crates}
     works = [(crate, names) for crate in edits for names in rounds(crate, edits[crate])]
     with concurrent.futures.ThreadPoolExecutor(int(jobs) if jobs.isdigit() else tasks()[0]) as pool:
@@ -148,10 +147,9 @@ def main(words):
                      enumerate(works), key=lambda it: -lines_of(it[1][0]))}
         for place, (crate, _) in enumerate(works):
             for name, is_well, why in begun[place].result():
-                passed, failed = passed + is_well, failed + (not is_well)
+                results.append(is_well)
                 print(f"{wanted if is_well else 'FAILED'} {crate}/{name}: {why}", flush=True)
-    print(f"{passed} passed, {failed} failed")
-    return 1 if failed else 0
+    return sum_up(results)
 
 
 if __name__ == "__main__":

@@ -6,6 +6,7 @@ import resource
 import subprocess
 import threading
 import time
+from pathlib import Path
 
 from crates import TOP, first_number, processors
 
@@ -20,10 +21,6 @@ def used():
     """The processor seconds of this process and of all that have ended below it."""
     both = (resource.getrusage(it) for it in (resource.RUSAGE_SELF, resource.RUSAGE_CHILDREN))
     return sum(it.ru_utime + it.ru_stime for it in both)
-
-
-def gigabytes(count):
-    return f"{count / 1e9:.1f} GB"
 
 
 def minutes(seconds):
@@ -56,7 +53,7 @@ class Costs:
             self.peak = max(self.peak, now)
             if time.monotonic() - told >= TELL:
                 told = time.monotonic()
-                self.tell(f"{clock(told - self.begin)}: {self.proved} proved; {gigabytes(now)}")
+                self.tell(f"{clock(told - self.begin)}: {self.proved} proved; {now / 1e9:.1f} GB")
 
     def hear(self, line):
         """Notes what a line that the part writes says of how far it is."""
@@ -84,7 +81,7 @@ def write_table(costs, to, wall, taken):
              f"{os.environ.get('RT_JOBS', '')} tasks at once, kit `{kit}`. Written by `./gate`, "
              "which leaves such a page in `out/gate.md` after a whole run.", "",
              f"**{minutes(wall)} minutes, {minutes(taken)} processor minutes, "
-             f"{gigabytes(costs.peak)} of memory at the peak.**", ""]
+             f"{costs.peak / 1e9:.1f} GB of memory at the peak.**", ""]
     if costs.share:
         lines += [f"**This was not a run from nothing:** `rt ci` did {costs.share}, and took "
                   "the others from earlier runs of the same files on this machine. `./gate --anew` "
@@ -94,8 +91,8 @@ def write_table(costs, to, wall, taken):
               "second.", "", "| Part | minutes | processor minutes |", "|---|---|---|"]
     lines += [f"| `{part}` | {minutes(ended)} | {minutes(seconds)} |"
               for part, (ended, seconds) in costs.parts.items()]
-    os.makedirs(os.path.dirname(to), exist_ok=True)
-    with open(to, "w", encoding="utf-8") as it:
-        it.write("\n".join(lines) + "\n")
+    to = Path(to)
+    to.parent.mkdir(exist_ok=True)
+    to.write_text("\n".join(lines) + "\n", encoding="utf-8")
     print(f"gate: {minutes(wall)} minutes, {minutes(taken)} processor minutes; its parts are in "
           f"{os.path.relpath(to, TOP)}", flush=True)

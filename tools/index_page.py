@@ -10,7 +10,6 @@ that ends no statement or before one that begins none, but not those in texts an
 import base64
 import re
 import subprocess
-import sys
 from pathlib import Path
 
 TOP = Path(__file__).resolve().parent.parent
@@ -82,6 +81,4 @@ def write():
 
 
 if __name__ == "__main__":
-    if sys.argv[1:]:
-        sys.exit("tools/index_page.py takes no words")
     write()

@@ -277,11 +277,6 @@ def files(crate, folder):
     return [f"| `{path.name}` | {first_comment(path)} |" for path in paths if path.stem != "Lib"]
 
 
-def cited_records():
-    """The names of which a page cites a field, and so the records that are shown."""
-    return {name for page in pages() for name in re.findall(r"`(\w+)\.\w+`", page.read_text())}
-
-
 def records_of(path):
     """The records of a file of definitions: the name of each, what it is of, and its fields with
     their texts."""
@@ -313,7 +308,9 @@ def libraries():
 
 def page_of_claims():
     """The text of the page of claims."""
-    lines, cited = [HEAD], cited_records()
+    # (the records that are shown are those of which a page cites a field)
+    cited = {name for page in pages() for name in re.findall(r"`(\w+)\.\w+`", page.read_text())}
+    lines = [HEAD]
     for crate in libraries():
         home = TOP / "crates" / crate
         lines += [f"## `{crate}`", "", first_comment(home / "src/lib.rt", "//!"), ""]

@@ -1,6 +1,7 @@
 """What the checks share: where the programs `rignolda` and `stab` are that were made of these
-sources, and how cases are counted."""
+sources, what a command line says, and how cases are counted."""
 
+import argparse
 import gzip
 import json
 import os
@@ -93,6 +94,26 @@ def answered(file, *words, given="", **options):
     return done.returncode, *(it.decode(errors="replace") for it in (done.stdout, done.stderr))
 
 
+def options(*names, **usual):
+    """What the command line says for a script: words of some names, and options, each with what is
+    usual, which is nothing, a number or a text."""
+    words = argparse.ArgumentParser(description=sys.modules["__main__"].__doc__,
+                                    formatter_class=argparse.RawDescriptionHelpFormatter)
+    for name in names:
+        words.add_argument(name, metavar=name.upper(), nargs="*")
+    for name, value in usual.items():
+        how = {"action": "store_true"} if value is False else {"type": type(value)}
+        words.add_argument(f"--{name}", default=value, **how)
+    return words.parse_args()
+
+
+def sum_up(results):
+    """Says how many of these are well: the status of a script."""
+    results = list(results)
+    print(f"{results.count(True)} passed, {results.count(False)} failed")
+    return 0 if all(results) else 1
+
+
 class Cases:
     """How many cases of a check have held."""
 
@@ -111,6 +132,12 @@ class Cases:
         """Runs a command, and counts whether it ends well, with its last lines if it does not."""
         status, said = ran(*words, **options)
         self.holds(name, status == 0, "\n".join(said.splitlines()[-30:]))
+
+    def has_none(self, name, faults):
+        """Counts a case, which holds where there are no faults; the first ones are said."""
+        faults = list(faults)
+        shown = faults[:3] + [f"and {len(faults) - 3} more"] * (len(faults) > 3)
+        self.holds(name, not faults, "\n".join(map(str, shown)))
 
     def sum_up(self):
         """Says how many there were, and answers the status of the check."""

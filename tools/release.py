@@ -181,17 +181,13 @@ class Release(Commands):
     def take_lock(self):
         """Waits until no other script builds in this folder. The lock is free again when this one
         has ended, however it ends."""
+        self.lock = open(KEPT / "lock", "a", encoding="utf-8")
         try:
-            self.lock = open(KEPT / "lock", "a", encoding="utf-8")
             fcntl.flock(self.lock, fcntl.LOCK_EX | fcntl.LOCK_NB)
         except BlockingIOError:
             self.say("another build runs here: waiting for it")
             fcntl.flock(self.lock, fcntl.LOCK_EX)
             self.look()
-        except OSError as fault:
-            # (on a file system without locks only those of rt keep builds apart)
-            if fault.filename:
-                self.fail(f"the file {KEPT}/lock cannot be written")
 
     def compile(self, tree, crate, source, to, *words):
         """Has the compiler prove and compile a crate over what rt ci has left of the libraries
@@ -205,16 +201,12 @@ class Release(Commands):
         return self.does([f"{home}/bin/rattle-link", "--target", target, "--toolchain",
                           f"{home}/toolchain", *options, "-o", str(made), *files], made.parent)
 
-    def link_as_rt(self, made, to):
-        """Links a program as rt does: over the C library glibc, which it then needs where it runs.
-        """
-        home = kit()
-        return self.link(target_of(""), to, made, f"{home}/c/libos_c.a", f"{home}/c/liblibc_c.a")
-
     def is_object_of(self, made):
-        """Whether the object beside a program is the one of which it was linked."""
-        again = made.with_name(f"{made.name}.again")
-        return (Path(f"{made}.o").is_file() and self.link_as_rt(f"{made}.o", again)
+        """Whether the object beside a program is the one of which rt linked it, over glibc."""
+        again, libraries = made.with_name(f"{made.name}.again"), ("libos_c.a", "liblibc_c.a")
+        return (Path(f"{made}.o").is_file()
+                and self.link(target_of(""), again, f"{made}.o",
+                              *(f"{kit()}/c/{it}" for it in libraries))
                 and again.read_bytes() == made.read_bytes())
 
     def make_static(self, name, made):
@@ -360,13 +352,10 @@ class Release(Commands):
         if not shutil.which("rt"):
             self.fail(f"{why}: the command rt of the Rattle kit is needed to prove and build the "
                       "program")
-        try:
-            if not self.is_kept_own():
-                self.fail(f"{why}, and nothing is built in {KEPT}:\n    it is not a folder of this "
-                          "user to which nobody else may write; delete it")
-            LOG.write_text("")
-        except OSError:
-            self.fail(f"the file {LOG} cannot be written")
+        if not self.is_kept_own():
+            self.fail(f"{why}, and nothing is built in {KEPT}:\n    it is not a folder of this "
+                      "user to which nobody else may write; delete it")
+        LOG.write_text("")
         self.take_lock()
         for count in range(MAX_BUILDS):
             if not is_anew and all(it.built for it in self.artefacts.values()):
@@ -436,12 +425,6 @@ class Release(Commands):
                 part = "-settings" if "settings" in name else ""
                 shutil.copy(RELEASE / name, to / f"{processor_of(name)}-linux{part}.a")
 
-    def compared_with(self, name):
-        """What a file is made with: the kit, and in a program the C library."""
-        if self.artefacts[name].kind != "program":
-            return self.kit
-        return f"{self.kit} and {library_for(name).name}"
-
     def make(self, is_anew):
         """Makes the files of release/, which are built first if that was not done yet."""
         for name, it in self.artefacts.items():
@@ -459,8 +442,9 @@ class Release(Commands):
                 self.fail(f"{name} was built where there was no musl-dev: run ./release.sh --prove")
             files[self.file(name)] = (output("gzip", "-9n", input=data) if it.kind == "program"
                                       else data)
-            lines.append(f"{name} sha256 {it.built[-64:]} sources {it.sources} "
-                         f"compared with {self.compared_with(name)}")
+            own = f" and {library_for(name).name}" if it.kind == "program" else ""
+            lines.append(f"{name} sha256 {it.built[-64:]} sources {it.sources} compared with "
+                         f"{self.kit}{own}")
         for name in self.daemon:
             if not self.why and name in self.released:
                 if not self.file(name).is_file():
@@ -530,7 +514,8 @@ class Release(Commands):
             what, is_same = "the file is", bool(made) and data == made.read_bytes()
             if name in self.objects and self.is_of_another_library(name):
                 what = "the object in the file is"
-                is_same = static.has_object(data, self.objects[name])
+                # (its digest is in the program, as its build identifier)
+                is_same = bytes.fromhex(self.objects[name]) in data
                 print(f"{name} is NOT COMPARED as a whole: in it is another C library than here")
             differ += [name] * (not is_same)
             yield (f"{name}: {what} what was just built, byte for byte", is_same,
@@ -542,11 +527,8 @@ class Release(Commands):
                f"the release was built by another kit: {self.released_by}")
 
     def check(self):
-        try:
-            self.is_kept_own()
-            LOG.write_text("")
-        except OSError:
-            self.fail(f"the file {LOG} cannot be written")
+        self.is_kept_own()
+        LOG.write_text("")
         cases = Cases()
         for case in self.cases():
             cases.holds(*case)

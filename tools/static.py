@@ -87,8 +87,3 @@ def link(library, architecture, made, program, does):
     own = digest_of(Path(made).read_bytes())
     return builds(library, architecture, program, SHIMS, first=[made], does=does,
                   options=["--wrap=main", f"--build-id=0x{own}"])
-
-
-def has_object(program, made):
-    """Whether a program was linked of the object with this digest, as it says itself."""
-    return bytes.fromhex(made) in program

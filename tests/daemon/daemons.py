@@ -333,6 +333,17 @@ def read(folder):
     return found
 
 
+def counting(truth, groups):
+    """The files of an agent of these groups, by the files of the root's folder."""
+    files = {}
+    for key in {name.partition("@")[0] for name in truth}:
+        names = [*(f"{key}@{group}" for group in groups), key]
+        value = next((truth[name] for name in names if name in truth), None)
+        if value is not None:
+            files[key] = value
+    return files
+
+
 class Tree:
     """Agents on this machine, to which these acts are done before they start. As a context it ends
     them and removes their folders; and no agent may have panicked."""
@@ -397,10 +408,16 @@ class Tree:
     def truth(self):
         return read(self.root.truth)
 
-    def wrong(self, agents=None):
-        """The agents whose settings differ from those of the root's folder."""
-        truth = self.truth()
-        return [agent.name for agent in (agents or self) if agent.files() != truth]
+    def wrong(self, agents=None, truth=None):
+        """The agents whose settings differ from those of the root's folder, or from these."""
+        truth = self.truth() if truth is None else truth
+        return [agent.name for agent in (agents or self)
+                if agent.files() != counting(truth, agent.top.get("groups", []))]
+
+    def goes_on(self, truth, agents=None):
+        """Asserts that all have these settings as long as three rounds of half a second take."""
+        time.sleep(1.5)
+        sure(not self.wrong(agents, truth), self.wrong(agents, truth))
 
     def right(self, seconds=USUAL, agents=None):
         """Whether all agents come to have the settings of the root's folder."""

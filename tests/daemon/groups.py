@@ -2,29 +2,12 @@
 """
 import shutil
 
-from daemons import becomes, of_tree, patient, read, root_has
+from daemons import of_tree, patient, read, root_has
 from operating import digest, holders
 from runner import sure
 
 OF = {"root": [], "left": ["canary", "eu"], "leaf": [], "right": ["eu"]}
 SHAPE = {"left": "root", "leaf": "left", "right": "root"}
-
-
-def counting(truth, groups):
-    """The files of an agent of these groups, by the files of the root's folder."""
-    files = {}
-    for key in {name.partition("@")[0] for name in truth}:
-        names = [*(f"{key}@{group}" for group in groups), key]
-        value = next((truth[name] for name in names if name in truth), None)
-        if value is not None:
-            files[key] = value
-    return files
-
-
-def wrong(tree):
-    truth = tree.truth()
-    return {agent.name: agent.files() for agent in tree
-            if agent.files() != counting(truth, agent.top.get("groups", []))}
 
 
 def notes_changes(tree):
@@ -48,7 +31,7 @@ def here(tree, *words):
     """Has a change made, and come to be everywhere."""
     tree.root.ask(*words)
     tree.wait()
-    sure(not wrong(tree), *words, wrong(tree))
+    sure(not tree.wrong(), *words, tree.wrong())
 
 
 @of_tree(SHAPE, notes_changes, patient, root_has(round="1h"), runs=False)
@@ -56,7 +39,7 @@ def a_group_has_its_own_value_until_it_is_that_of_all(tree, root, left, leaf, ri
 
     def is_right():
         tree.is_ready()
-        becomes(lambda: wrong(tree), {})
+        tree.settles()
 
     for name, value in (("colour", "green"), ("size@eu", 1), ("size@us", 2), ("other", 3)):
         tree.write(name, value)
@@ -124,11 +107,11 @@ def a_group_has_its_own_value_until_it_is_that_of_all(tree, root, left, leaf, ri
     # (a file by hand, and new groups of an agent, from the next round on)
     tree.write("colour@canary", "red")
     tree.wait()
-    sure(not wrong(tree) and left.files()["colour"] == b"red", wrong(tree))
+    sure(not tree.wrong() and left.files()["colour"] == b"red", tree.wrong())
     sure(read(left.settings / ".groups").keys() == {"colour", "colour..canary", "colour..us",
                                                     "size..us"}, left.settings)
     left.top["groups"] = ["us"]
     left.reload()
     root.ask("round")
     tree.wait()
-    sure(not wrong(tree), wrong(tree))
+    sure(not tree.wrong(), tree.wrong())

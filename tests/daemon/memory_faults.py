@@ -27,8 +27,7 @@ import struct
 import sys
 import time
 
-from daemons import Tree, of_tree, root_has
-from groups import counting
+from daemons import Tree, counting, of_tree, root_has
 from memory import stopped, writable
 from runner import options, sure, test
 from trial import KEY

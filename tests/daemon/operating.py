@@ -135,20 +135,13 @@ def mount(tree, files):
     tree.mount(new, old, lambda: (old / "key7").unlink(missing_ok=True))
 
 
-def goes_on(tree, files):
-    """Asserts that this is what all have, also after two rounds would have been published."""
-    time.sleep(1)
-    there = {agent.name: agent.files() for agent in tree if agent.files() != files}
-    sure(not there, there)
-
-
 @of_tree({"left": "root", "leaf": "left"}, counted, root_has(round="500ms"))
 def a_half_mounted_folder_empties_nobody(tree, root, left, leaf):
     whole = tree.truth()
     half = {key: whole[key] for key in ("key0", "key1", "key2")}
     mount(tree, half)
     root.becomes(held=5)
-    goes_on(tree, whole)
+    tree.goes_on(whole)
     why = "5 of 8 settings would be unset: held until"
     diff = root.ask("diff")
     gone = [{"key": f"key{at}", "bytes": None} for at in range(3, 8)]
@@ -173,7 +166,7 @@ def a_half_mounted_folder_empties_nobody(tree, root, left, leaf):
     for agent in tree:
         agent.restart()
     sure(until(lambda: root.ask("diff", check=False).get("held")), root.text())
-    goes_on(tree, whole)
+    tree.goes_on(whole)
     root.becomes(held=6)
     # it takes the change that was seen
     digest = root.ask("diff")["digest"]

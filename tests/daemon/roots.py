@@ -31,15 +31,14 @@ def begin(tree):
     tree.settles()
 
 
-def wrong(tree, truth, agents=None):
-    """Who has not what this folder has, of those that run."""
-    there = [agent for agent in (agents or tree) if agent.alive()]
-    return [agent.name for agent in there if agent.files() != truth]
+def alive(tree):
+    return [agent for agent in tree if agent.alive()]
 
 
 def follow(agent, *agents):
     """Asserts that all that run, or these agents, come to have what this root's folder has."""
-    becomes(lambda: wrong(agent.tree, read(agent.truth), agents), [], "these do not have all:")
+    becomes(lambda: agent.tree.wrong(agents or alive(agent.tree), read(agent.truth)), [],
+            "these do not have all:")
 
 
 def is_now(agent, what, other=""):
@@ -47,14 +46,8 @@ def is_now(agent, what, other=""):
     agent.becomes(standby=what, other_root=other)
 
 
-def goes_on(tree, truth, agents=None):
-    """Asserts that all have this as long as three rounds of a root take."""
-    time.sleep(1.5)
-    sure(not wrong(tree, truth, agents), wrong(tree, truth, agents))
-
-
 def strays(tree):
-    return {agent.name: agent.status().get("strays") for agent in tree if agent.alive()}
+    return {agent.name: agent.status().get("strays") for agent in alive(tree)}
 
 
 @of_tree({"second": "root", "left": "root", "right": "root", "leaf": "left", "deep": "leaf"}, two,
@@ -67,7 +60,7 @@ def an_agent_that_is_promoted_goes_on_and_the_old_root_stands_by(tree, root, sec
     second.write("stale", "1")
     second.restart()
     is_now(second, "below")
-    goes_on(tree, tree.truth())
+    tree.goes_on(tree.truth())
     second.refuses("not the root", "publish", "key0", "x")
     left.refuses("no `standby`", "promote")
     seen = {it["name"]: it["standby"] for it in root.ask("tree")}
@@ -117,7 +110,7 @@ def an_agent_that_is_promoted_goes_on_and_the_old_root_stands_by(tree, root, sec
     begun = root.said("this is the root now")
     root.start()
     is_now(root, "stands-by", "second")
-    goes_on(tree, truth, [agent for agent in tree if agent is not root])
+    tree.goes_on(truth, [agent for agent in tree if agent is not root])
     follow(second)
     root.says("second is another root: this one stands by")
     sure(root.said("this is the root now") == begun, root.text())
@@ -129,7 +122,7 @@ def an_agent_that_is_promoted_goes_on_and_the_old_root_stands_by(tree, root, sec
     second.kill()
     root.restart()
     is_now(root, "stands-by")
-    goes_on(tree, truth)
+    tree.goes_on(truth, alive(tree))
     root.becomes(parent=None)
     second.start()
     is_now(second, "root")
@@ -215,7 +208,7 @@ def a_spoiled_mark_of_a_root_is_harmless_or_refused(tree):
     root.start()
     is_now(root, "stands-by")
     root.says(".root is no plain file")
-    goes_on(tree, before)
+    tree.goes_on(before)
     mark.rmdir()
     root.ask("promote", "--as-is")
     is_now(root, "root")

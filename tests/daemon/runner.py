@@ -1,5 +1,4 @@
 """Runs the tests of trees of agents."""
-import argparse
 import concurrent.futures
 import functools
 import os
@@ -13,6 +12,8 @@ sys.dont_write_bytecode = True
 
 HERE = pathlib.Path(__file__).resolve().parent
 sys.path.append(str(HERE.parents[1] / "tools"))
+from programs import options, sum_up  # noqa: E402
+
 TESTS = []
 
 
@@ -42,26 +43,6 @@ def run(function, name=None):
         result = "FAILED\n" + traceback.format_exc()
     print(f"{name or function.__name__}: {result} ({time.monotonic() - started:.1f} s)", flush=True)
     return result == "ok"
-
-
-def options(*names, **usual):
-    """What the command line says for a script: words of some names, and options, each with what is
-    usual, which is nothing, a number or a text."""
-    words = argparse.ArgumentParser(description=sys.modules["__main__"].__doc__,
-                                    formatter_class=argparse.RawDescriptionHelpFormatter)
-    for name in names:
-        words.add_argument(name, metavar=name.upper(), nargs="*")
-    for name, value in usual.items():
-        how = {"action": "store_true"} if value is False else {"type": type(value)}
-        words.add_argument(f"--{name}", default=value, **how)
-    return words.parse_args()
-
-
-def sum_up(results):
-    """Says how many of these are well: the status of a script."""
-    results = list(results)
-    print(f"{results.count(True)} passed, {results.count(False)} failed")
-    return 0 if all(results) else 1
 
 
 def run_seeds(chosen, act):

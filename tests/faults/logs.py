@@ -34,13 +34,6 @@ def sums(parents, capacities, hold, node):
     return (strays, *most_missing([capacities[w] for w in path]))
 
 
-def fault_at(received, counted, strays, without, most):
-    """What is wrong with what a node received: "strays", "missing" or nothing."""
-    if not follows(received, counted, strays):
-        return "strays"
-    return None if obeys_tree_law(strays, without, most, counted, received) else "missing"
-
-
 def follows(received, above, strays):
     """Whether a list is strays and then items of the one above it."""
     return any(is_subsequence(received[count:], above)
@@ -57,11 +50,10 @@ def text_of(names, parents, capacities, hold, items, received, places):
         strays, without, most = sums(parents, capacities, hold, node)
         counted = items[places[node]:] if places else items
         lists = line("published:", counted) + line("received:", received[node])
-        fault = fault_at(received[node], counted, strays, without, most)
-        if fault == "strays":
+        if not follows(received[node], counted, strays):
             return (f"{name}: it received more strays than C + E = {strays}, or published items "
                     f"out of order or twice\n{lists}")
-        if fault == "missing":
+        if not obeys_tree_law(strays, without, most, counted, received[node]):
             return (f"{name}: published items before its last one are missing, not only among the "
                     f"first {without} and one more for each stray, at most the first {most}\n"
                     f"{lists}")

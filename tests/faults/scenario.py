@@ -1,5 +1,6 @@
-"""scenario.py: what `rignolda scenario` has to print, in plain Python, from man/rignolda.1 and
-from the rules of reference.py beside it, and random scenarios, for tests/check_scenarios.py.
+"""scenario.py: what `rignolda scenario` has to print, and the run that `rignolda draw` has to draw,
+in plain Python, from man/rignolda.1, docs/USING.md and the rules of reference.py beside it; and
+random scenarios, for tests/check_scenarios.py.
 
 It is an independent program: nothing of it is made from the crates. It takes scenarios that are
 well formed; what is refused is in the tables of tests/check_tables.py."""
@@ -14,28 +15,52 @@ WORDS = ["publish", "strike", "restart", "rounds", "reading_rounds", "offer", "a
 
 UNUSED = 65535
 
+LINE = "{:<5} {:<9} {:<19} {:<7} {:<5} {:<5} {:<5} {:<11} {:<7} {:<9} {}"
+HEAD = "step link event effect label holds acked frames acks remembers delivers"
+
+
+def listed(entries):
+    return ",".join(map(str, entries)) or "-"
+
 
 class Scenario:
+    """What becomes of a tree, and a line for all that happens, the starts of its links first."""
+
     def __init__(s, job):
         s.tree, s.names, _ = tree_of(json.dumps(job).encode())
         begin(s.tree, ["tree"])
-        s.since, s.counts = [0] * len(s.names), {0: s.count()}
+        s.since, s.counts = [0] * len(s.names), {0: Count(s.tree)}
+        s.number, s.out = 0, [LINE.format(*HEAD.split())]
+        for child, link in enumerate(s.tree.links):
+            if link:
+                s.draw(child, "start")
         for number, step in enumerate(job["steps"], 1):
             s.step(number, step)
 
-    def count(s):
-        """What is counted from now on."""
-        return Count(s.tree)
+    def draw(s, child, event, effect="-", delivers="-"):
+        """The line of a link as it is now."""
+        link = s.tree.links[child]
+        holds = link.offered[link.acked:] or ["-"]
+        frames = listed(f"{label}={item}" for label, item in link.frames)
+        s.out.append(LINE.format(s.number, s.names[child], event, effect, link.send, holds[0],
+                                 link.acked, frames, listed(link.acks), link.recv, delivers))
+
+    def mark(s, node, event, items=None):
+        """The line of a node, or of all links."""
+        if items is not None:
+            event = " ".join([f"{event:<19}", "items:", *map(str, items)])
+        s.out.append(f"{s.number:<5} {'-' if node is None else s.names[node]:<9} {event}")
 
     def take(s, child, act, place=0):
         """The link into a node takes an act."""
-        s.tree.act(child, act, place)
-
-    def mark(s, node, event, items=None):
-        """A run that is drawn has a line for what happens to a node, or to all links."""
-
-    def draw(s, child, event, effect="-", delivers="-"):
-        """And one for what happens to a link."""
+        link, above = s.tree.links[child], s.tree.list_of(s.tree.parents[child])
+        word = json.dumps(act)
+        if act.startswith("lose"):
+            word = f'["{act}",{place}]'
+        if act == "offer" and len(link.offered) < len(above):
+            word = f'["offer",{above[len(link.offered)]}]'
+        effect = s.tree.act(child, act, place)
+        s.draw(child, word, effect, link.delivered[-1] if effect == "Fresh" else "-")
 
     def step(s, number, step):
         """A step is told by its last value, since a node may be called like a step."""
@@ -68,7 +93,7 @@ class Scenario:
 
     def hit(s, number, place):
         """A fault at this node, or at the link into it, hits it and all nodes beneath."""
-        s.counts[number] = s.count()
+        s.counts[number] = Count(s.tree)
         for node in range(len(s.names)):
             at = node
             while at is not None and at != place:
@@ -93,6 +118,10 @@ class Scenario:
 
 def text_of(job):
     return "".join(line + "\n" for line in Scenario(job).lines())
+
+
+def drawn_text(job):
+    return "".join(line + "\n" for line in Scenario(job).out)
 
 
 # ---- random scenarios

@@ -14,11 +14,11 @@ reports. And `rignolda explain` must say of the job of a link or tree what `stab
 line is that fault, or `accepted`; a fault has a finding with a place; and the status is 0 where
 there is nothing to find.
 
-A job that fails is kept in tests/hostile/build/, as NAME.json, beside NAME.txt with the words and
-what was seen. The last line is 'N passed, M failed'. Run it by hand: the gate does not. It runs the
-programs of ./stab and ./rignolda, or those that PROGRAM_STAB and PROGRAM_RIGNOLDA name.
+A job that fails is kept in tests/hostile/build/, or where --keep says, as NAME.json, beside
+NAME.txt with the words and what was seen; --lanes says how many programs run at a time. Run it by
+hand: the gate does not. It runs the programs of ./stab and ./rignolda, or those that PROGRAM_STAB
+and PROGRAM_RIGNOLDA name.
 """
-import argparse
 import collections
 import concurrent.futures
 import functools
@@ -35,7 +35,7 @@ TOP = HERE.parent.parent
 sys.dont_write_bytecode = True
 sys.path[:0] = [str(TOP / "tools"), str(TOP / "tests")]
 from examples import DATA, words_of  # noqa: E402
-from programs import answered, built  # noqa: E402
+from programs import answered, built, options, sum_up  # noqa: E402
 from tables.reader import EVENTS, LETTERS, row  # noqa: E402
 
 # How many bytes a job may have.
@@ -268,14 +268,8 @@ def tried(programs, keep_in, seed, number):
 
 
 def main():
-    parser = argparse.ArgumentParser(description=__doc__.splitlines()[0])
-    parser.add_argument("--cases", type=int, default=100_000)
-    parser.add_argument("--first", type=int, default=0, help="the number of the first case")
-    parser.add_argument("--seed", default="1")
-    parser.add_argument("--lanes", type=int, default=4, help="how many programs run at a time")
-    parser.add_argument("--keep", type=Path, default=HERE / "build", help="where failing jobs go")
-    given = parser.parse_args()
-    counts, failed = collections.Counter(), 0
+    given = options(cases=100_000, first=0, seed="1", lanes=4, keep=HERE / "build")
+    counts, results = collections.Counter(), []
     numbers = range(given.first, given.first + given.cases)
     with tempfile.TemporaryDirectory(prefix="stab-fuzz-") as folder:
         programs = {name: built(name, folder) for name in ("stab", "rignolda")}
@@ -283,13 +277,12 @@ def main():
         with concurrent.futures.ProcessPoolExecutor(given.lanes) as lanes:
             for number, (wrong, said) in zip(numbers, lanes.map(tries, numbers, chunksize=500)):
                 counts[said] += 1
-                failed += bool(wrong)
+                results.append(not wrong)
                 if wrong:
                     print(f"OTHER  case {number}: {wrong[:1000]}", flush=True)
     for line, count in counts.most_common():
         print(f"{count:7}  {line}")
-    print(f"{given.cases - failed} passed, {failed} failed")
-    return 1 if failed else 0
+    return sum_up(results)
 
 
 if __name__ == "__main__":

@@ -1,28 +1,15 @@
-#!/usr/bin/env -S python3 -B
 """Tests how agents/run_tree counts from the last fault on the path of each agent, by logs that were
 written by hand, and the tree law of agents/check_report.py, by lists at its bounds. (More of its
-laws are in tests/check_reports.py and tests/check_logs.py.) The last line is 'N passed, M failed'.
-"""
-import importlib.machinery
-import importlib.util
+laws are in tests/check_reports.py and tests/check_logs.py.)"""
 import os
+import runpy
 import sys
 import tempfile
+from types import SimpleNamespace
 
 TOP = os.path.dirname(os.path.dirname(os.path.dirname(os.path.realpath(__file__))))
-sys.path[:0] = [f"{TOP}/agents", f"{TOP}/tools"]
+sys.path.insert(0, f"{TOP}/agents")
 import check_report  # noqa: E402
-from programs import counted  # noqa: E402
-
-
-class Queue:
-    """A line that contains these messages."""
-
-    def __init__(self, messages):
-        self.messages = messages
-
-    def contents(self):
-        return self.messages
 
 
 # What the logs have when b is killed alone, and what comes then: r is the root, a its child, and b
@@ -52,17 +39,17 @@ def write(logs, mode):
 
 def counts():
     """The paths that run_tree judges after these logs: jobs and reports."""
-    loader = importlib.machinery.SourceFileLoader("run_tree", os.path.join(TOP, "agents/run_tree"))
-    run_tree = importlib.util.module_from_spec(importlib.util.spec_from_loader("run_tree", loader))
-    loader.exec_module(run_tree)
+    run_tree = SimpleNamespace(**runpy.run_path(f"{TOP}/agents/run_tree"))
     tree = object.__new__(run_tree.Tree)
-    tree.options = type("Options", (), {"capacity": 1, "labels": 4})
+    tree.options = SimpleNamespace(capacity=1, labels=4)
     r = run_tree.Agent("r", None)
     a = run_tree.Agent("a", r)
     b, c = run_tree.Agent("b", a), run_tree.Agent("c", a)
     tree.agents = [r, a, b, c]
     for agent in tree.agents[1:]:
-        agent.frames, agent.acks = Queue([[2, 66]] if agent is b else []), Queue([])
+        frames = [[2, 66]] if agent is b else []
+        agent.frames = SimpleNamespace(contents=lambda frames=frames: frames)
+        agent.acks = SimpleNamespace(contents=list)
     write({name: lines[:lines.index("item 7")] if "item 7" in lines else lines
            for name, lines in LOGS.items()}, "w")
     first = {agent: run_tree.Found(agent) for agent in tree.agents}
@@ -108,12 +95,10 @@ def lists():
                else bool(fault) and fault.startswith("b: the tree law is broken"))
 
 
-def main():
+def wrong():
+    """The names of the cases that do not hold."""
     with tempfile.TemporaryDirectory() as folder:
         os.chdir(folder)
         cases = [*lists(), ("each path from the last fault on it, by hand", counts_from_faults())]
-    return counted((name, None if holds else "it does not hold") for name, holds in cases)
-
-
-if __name__ == "__main__":
-    sys.exit(main())
+        os.chdir(TOP)
+    return [name for name, holds in cases if not holds]

@@ -14,16 +14,15 @@ It builds refuse.c, an object for LD_PRELOAD, by the kit's own clang, and runs u
   (d) rignolda on some command lines, as stab in (b): what it does undisturbed, or the line
       `rignolda: out of memory` with status 3 and nothing else.
 
-The programs are those that rt ci, or rt run, left in out/ of their crates. Nothing of the
-repository is touched. Each (program, job, way of refusing) is one case, and the last line is
+The programs are those that rt ci, or rt run, left in out/ of their crates, or that options name.
+With --only those cases alone are tried that have this in their names. Nothing of the repository is
+touched. Each (program, job, way of refusing) is one case, and the last line is
 'N passed, M failed'. It needs Python 3.8, which rt needs as well, and glibc.
 """
-import argparse
 import concurrent.futures
 import itertools
 import json
 import os
-import shutil
 import struct
 import subprocess
 import sys
@@ -35,7 +34,7 @@ sys.path[:0] = [f"{TOP}/tools", f"{TOP}/agents", f"{TOP}/tests"]
 import check_report  # noqa: E402
 import examples  # noqa: E402
 from crates import clang  # noqa: E402
-from programs import Cases  # noqa: E402
+from programs import Cases, options  # noqa: E402
 
 # A program that has not ended after this many seconds hangs.
 SECONDS = 60.0
@@ -146,23 +145,13 @@ class Ended:
 
 
 class Room:
-    """A folder for the object, the jobs and the programs of one check."""
+    """A folder for the jobs of one check, and for the object, which the clang of the kit builds."""
 
     def __init__(self, folder, seconds):
         self.folder, self.seconds = folder, seconds
         self.object = f"{folder}/refuse.so"
-
-    def build_object(self):
-        """Builds the object by the clang of the kit."""
-        words = ["-ffreestanding", f"{HERE}/refuse.c", "-o", self.object]
-        subprocess.run(clang(*words, is_program=False), check=True)
-
-    def copy(self, program):
-        """A copy of a program, which no later build changes."""
-        to = f"{self.folder}/{os.path.basename(program)}"
-        shutil.copyfile(program, to)
-        os.chmod(to, 0o755)
-        return to
+        subprocess.run(clang("-ffreestanding", f"{HERE}/refuse.c", "-o", self.object,
+                             is_program=False), check=True)
 
     def write(self, name, job):
         """Writes a job, or its text, and answers its file."""
@@ -199,11 +188,6 @@ class Check(Cases):
         super().__init__()
         self.room, self.lanes, self.only, self.runs = room, lanes, only, 0
 
-    def tell(self, name, faults, note=""):
-        """Says whether a case holds: it does where there is no fault."""
-        shown = faults[:3] + [f"and {len(faults) - 3} more"] * (len(faults) > 3)
-        self.holds(name if faults else name + note, not faults, "\n".join(map(str, shown)))
-
     def run(self, *given, **named):
         self.runs += 1
         return self.room.run(*given, **named)
@@ -225,9 +209,9 @@ class Check(Cases):
         """Whether a run that is refused nothing is right, and its allocations are counted."""
         ended = self.run(command, input)
         if ended.refused != 0 or not ended.allocations:
-            self.tell(name, [f"the object counted no allocations: {ended}"])
+            self.holds(name, False, f"the object counted no allocations: {ended}")
         elif not is_right(ended):
-            self.tell(name, [f"undisturbed: {ended}"])
+            self.holds(name, False, f"undisturbed: {ended}")
         else:
             return True
         return False
@@ -249,7 +233,7 @@ class Check(Cases):
                     last = number
             if refused == 0:
                 faults.append("no refusal was answered by out of memory")
-            self.tell(f"{name}, refused {way}", faults, f": {refused} of {last} refusals end it")
+            self.has_none(f"{name}, refused {way}: {refused} of {last} refusals end it", faults)
 
     def refused(self, program, calls):
         """Part (a): the program that makes every call again."""
@@ -257,7 +241,7 @@ class Check(Cases):
             return
         with open(f"{os.path.dirname(os.path.dirname(program))}/stdout", "rb") as it:
             right = (0, it.read())
-        command = [self.room.copy(program)]
+        command = [program]
         with open(calls) as it:
             wanted = {line.strip() for line in it if line.strip() and not line.startswith("#")}
         is_right = lambda ended: (ended.status, ended.out) == right
@@ -275,10 +259,10 @@ class Check(Cases):
             seen |= names
             if ended.refused:
                 last = max(last, number)
-        self.tell("gate_checks, refused once", faults, f": {last} refusals")
+        self.has_none(f"gate_checks, refused once: {last} refusals", faults)
         for name in sorted(wanted):
             faults = [] if name in seen else ["no allocation of this call was ever refused"]
-            self.tell(f"gate_checks, {name} is refused", faults)
+            self.has_none(f"gate_checks, {name} is refused", faults)
 
     def threads(self, name, command, input, is_right, nodes):
         """Part (c): the start of each thread is refused in its turn."""
@@ -292,7 +276,7 @@ class Check(Cases):
         for number, ended in enumerate(self.lanes.map(one, range(1, nodes + 1)), 1):
             if ended.refused != 1 or ended.seen != NOT_STARTED:
                 faults.append(f"thread {number} of {nodes}: {ended}")
-        self.tell(f"{name}, each thread refused", faults)
+        self.has_none(f"{name}, each thread refused", faults)
 
 
 def first_difference(right, ended):
@@ -322,7 +306,6 @@ def is_report_of(job):
 
 def check_stab(check, room, program):
     """Parts (b) and (c)."""
-    program = room.copy(program)
     for name in JOBS:
         words, input, right = of_example(name)
         is_right = lambda ended: ended.seen == right
@@ -350,7 +333,6 @@ def check_stab(check, room, program):
 
 def check_rignolda(check, room, program):
     """Part (d)."""
-    program = room.copy(program)
     cases = [(f"rignolda {line}".strip(), status, line.split()) for status, line in LINES]
     for status, logs in LOGS:
         name = f"rignolda judge of logs with status {status}"
@@ -372,17 +354,10 @@ def built(crate):
 
 
 def main():
-    parser = argparse.ArgumentParser(description="refuses memory and threads to the built programs")
-    parser.add_argument("--stab", default=built("stab_cli"))
-    parser.add_argument("--rignolda", default=built("rignolda"))
-    parser.add_argument("--checks", default=f"{TOP}/crates/gate_checks/out/gate_checks")
-    parser.add_argument("--only", default="", help="the cases that have this in their names")
-    parser.add_argument("--calls", default=f"{HERE}/calls", help="the calls of gate_checks")
-    parser.add_argument("--seconds", type=float, default=SECONDS, help="how long one may run")
-    given = parser.parse_args()
+    given = options(stab=built("stab_cli"), rignolda=built("rignolda"), only="", seconds=SECONDS,
+                    checks=f"{TOP}/crates/gate_checks/out/gate_checks", calls=f"{HERE}/calls")
     with tempfile.TemporaryDirectory(prefix="stab-refused-") as folder:
         room = Room(folder, given.seconds)
-        room.build_object()
         with concurrent.futures.ThreadPoolExecutor(LANES) as lanes:
             check = Check(room, lanes, given.only)
             for program, part in (
@@ -391,9 +366,9 @@ def main():
                 (given.rignolda, lambda it: check_rignolda(check, room, it)),
             ):
                 if os.path.isfile(program):
-                    part(program)
+                    part(os.path.abspath(program))
                 else:
-                    check.tell(program, ["the program is not built: rt ci, or rt run in its crate"])
+                    check.holds(program, False, "the program is not built: rt ci, or rt run in it")
     print(f"{check.runs} runs")
     return check.sum_up() or not check.passed
 

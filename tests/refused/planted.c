@@ -17,7 +17,7 @@ extern void *malloc(size_t);
 extern void *realloc(void *, size_t);
 extern int posix_memalign(void **, size_t, size_t);
 extern void free(void *);
-extern int printf(const char *, ...);
+extern int snprintf(char *, size_t, const char *, ...);
 extern int dprintf(int, const char *, ...);
 extern int fflush(void *);
 extern int pthread_create(unsigned long *, const void *, void *(*)(void *), void *);
@@ -67,7 +67,7 @@ static void *work(void *given) {
 
 /* The report of a lone root whose items are written in its job. */
 static int stab(void) {
-    char job[4096], text[256], items[128], *found, *to = items, *end = text;
+    char job[4096], text[256], items[128], *found, *to = items;
     unsigned long thread;
     void *first, *second, *third = 0;
     long count = 0, length = read(0, job, sizeof job - 1);
@@ -102,15 +102,8 @@ static int stab(void) {
         pthread_join(thread, 0);
     if (posix_memalign(&third, 64, 64) != 0)
         return no_memory();
-    for (const char *from = "r depth 0 received "; *from;)
-        *end++ = *from++;
-    *end++ = (char)('0' + count);
-    for (const char *from = " acked - ended upstream\nitems:"; *from;)
-        *end++ = *from++;
-    for (const char *from = items; *from;)
-        *end++ = *from++;
-    *end++ = '\n';
-    *end = 0;
+    snprintf(text, sizeof text, "r depth 0 received %ld acked - ended upstream\nitems:%s\n", count,
+             items);
     print(text);
     return 0;
 }
@@ -134,7 +127,7 @@ static int calls(void) {
     }
     held++;
     print(held == 2 ? "List::push: 2 entries\n" : "List::push: 3 entries\n");
-    return BUG == 13 && !list;
+    return 0;
 }
 
 int main(int count, char **words) {

@@ -48,9 +48,8 @@ static void memory(void) {
         memset(block.at, (int)size, size);
         struct tried more = rattle_realloc(block.at, size, 3 * size, 16);
         bool is_same = more.ok && (uintptr_t)more.at % 16 == 0;
-        for (size_t at = 0; at < size; at++) {
+        for (size_t at = 0; at < size; at++)
             is_same = is_same && more.at[at] == (unsigned char)size;
-        }
         holds("a block that grows keeps its bytes", is_same);
         struct tried failed = rattle_realloc(more.at, size, TOO_MUCH, 16);
         holds("where it cannot grow, nothing has changed",
@@ -74,9 +73,8 @@ static struct {
 
 static bool is_whole(int place) {
     for (size_t at = 0; at < blocks[place].size; at++) {
-        if (blocks[place].at[at] != (unsigned char)place) {
+        if (blocks[place].at[at] != (unsigned char)place)
             return false;
-        }
     }
     return true;
 }
@@ -96,9 +94,8 @@ static void *changes_blocks(void *unused) {
             blocks[place].size = least;
             are_whole = are_whole && is_whole(place);
         } else {
-            if (blocks[place].at) {
+            if (blocks[place].at)
                 rattle_dealloc(blocks[place].at);
-            }
             blocks[place].at = rattle_alloc(size, 8).at;
         }
         are_aligned = are_aligned && (uintptr_t)blocks[place].at % 16 == 0;
@@ -149,8 +146,7 @@ static void refusals(void) {
           setrlimit(RLIMIT_AS, &before) == 0 && rattle_alloc(1000, 8).ok);
 }
 #else
-static void refusals(void) {
-}
+static void refusals(void) {}
 #endif
 
 static void words(void) {
@@ -213,12 +209,10 @@ static void leaves(void) {
                              [20] = "sse4_2", [22] = "movbe", [23] = "popcnt", [25] = "aes"};
     const char *more[32] = {[0] = "lahf_lm", [5] = "abm", [8] = "3dnowprefetch"};
     for (int bit = 0; bit < 32; bit++) {
-        if (names[bit] && first[2] >> bit & 1) {
+        if (names[bit] && first[2] >> bit & 1)
             puts(names[bit]);
-        }
-        if (more[bit] && last[2] >> bit & 1) {
+        if (more[bit] && last[2] >> bit & 1)
             puts(more[bit]);
-        }
     }
     for (unsigned index = 3; index < 40; index++) {
         for (int at = 0; at < 4; at++) {
@@ -228,8 +222,7 @@ static void leaves(void) {
     }
 }
 #else
-static void leaves(void) {
-}
+static void leaves(void) {}
 #endif
 
 #ifdef __aarch64__
@@ -266,9 +259,8 @@ static void *adds(void *unused) {
     for (int it = 0; it < 20000; it++) {
         __aarch64_ldadd8_acq_rel(1, &counts[0]);
         uint64_t was = 0, seen;
-        while ((seen = __aarch64_cas8_acq_rel(was, was + 1, &counts[1])) != was) {
+        while ((seen = __aarch64_cas8_acq_rel(was, was + 1, &counts[1])) != was)
             was = seen;
-        }
     }
     return NULL;
 }
@@ -279,17 +271,14 @@ static void steps(void) {
     try_uint16_t();
     try_uint32_t();
     try_uint64_t();
-    for (int it = 0; it < 4; it++) {
+    for (int it = 0; it < 4; it++)
         pthread_create(&threads[it], NULL, adds, NULL);
-    }
-    for (int it = 0; it < 4; it++) {
+    for (int it = 0; it < 4; it++)
         pthread_join(threads[it], NULL);
-    }
     holds("threads that add at once lose nothing", counts[0] == 80000 && counts[1] == 80000);
 }
 #else
-static void steps(void) {
-}
+static void steps(void) {}
 #endif
 
 int main(int argc, char **argv) {

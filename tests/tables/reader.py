@@ -48,11 +48,6 @@ def number(text):
     return int(text) if text.isdigit() and int(text) <= MOST_64 else NotWhole()
 
 
-def constant(text):
-    """Python's own words for numbers are no JSON."""
-    raise ValueError(text)
-
-
 def checked(value, level=1):
     """Passes over a value, and refuses more levels and halves of surrogate pairs."""
     if isinstance(value, str):
@@ -71,8 +66,9 @@ def checked(value, level=1):
 def value_of(data):
     """The value that these bytes are as JSON: objects are `Pairs`."""
     try:
+        # (Python's own words for numbers are no JSON, and int takes none of them)
         value = json.loads(data.decode(), parse_int=number, parse_float=number,
-                           parse_constant=constant, object_pairs_hook=Pairs)
+                           parse_constant=int, object_pairs_hook=Pairs)
         checked(value)
     except (ValueError, RecursionError):
         raise Refused("job: not JSON") from None
@@ -170,12 +166,6 @@ def script_of(value):
     length, *rates = [member(value, name) for name in ("length", "loss", "repeat")]
     must(all(whole(of, MOST_64) for of in (length, *rates)))
     return length, max(rates)
-
-
-def check_script(acts, rate):
-    """The last two checks of a script."""
-    must(acts <= 100_000, "job: script too long")
-    must(rate <= 1000, "job: rate out of range")
 
 
 def parents_of(value):
@@ -277,8 +267,9 @@ def tree_of(data):
     must(len(schedule) <= 1_000_000, "job: too many events")
     must(starts is False or len(starts) == len(children), "job: wrong number of starts")
     must(scripts is False or len(scripts) == len(children), "job: wrong number of scripts")
-    for script in scripts or []:
-        check_script(*script)
+    for acts, rate in scripts or []:
+        must(acts <= 100_000, "job: script too long")
+        must(rate <= 1000, "job: rate out of range")
     must(1 <= turns <= 1_000_000, "job: turns out of range")
     must(all(map(is_step, schedule)), "job: bad event")
     must(all(name in parents for name, *_ in schedule), "job: unknown node")

@@ -47,64 +47,59 @@ rignolda explain"
 NO_TREE = "not a report: line 1 is not as a report of this tree has it; the job is one of a tree: \
 see rignolda explain"
 
-# In all tables: a part of a text, what is there instead, the status, and what is said: a verdict,
-# which ends its line, or a fault. LAW is for all that is said where the law of a link is broken.
+# In all tables: a part of a text, what is there instead, and what is said: a verdict, which ends
+# its line, or a fault; or the number of the line that is not as it has to be. LAW is for all that
+# is said where the law of a link is broken.
 
 REPORTS = [
-    ("", "", 0, "obeys\n"),
-    ("acked 7 ended upstream", "acked 7 ended turns", 0, "obeys\n"),
-    ("items: 10 11", "items: 11 10", 1, """\
+    ("", "", "obeys\n"),
+    ("acked 7 ended upstream", "acked 7 ended turns", "obeys\n"),
+    ("items: 10 11", "items: 11 10", """\
 r: its items are not the published ones
 published: 10 11 12 13 14 15 16
 items of r: 11 10 12 13 14 15 16
 """),
-    ("acked -", "acked 7", 1,
+    ("acked -", "acked 7",
      "r: it has a count of acknowledged items, and no link leads into the root\n"),
-    ("acked 7", "acked -", 1, "a: it has no count of acknowledged items\n"),
-    ("items: 50 99", "items: 99 50", 1, """\
+    ("acked 7", "acked -", "a: it has no count of acknowledged items\n"),
+    ("items: 50 99", "items: 99 50", """\
 a: its items do not begin with its opening
 opening: 50
 items of a: 99 50 13 14 15 16
 """),
-    ("99 13 14", "99 14 13", 1, "a: LAW"),
+    ("99 13 14", "99 14 13", "a: LAW"),
     ("received 6 acked 7 ended upstream\nitems: 50 99",
-     "received 5 acked 7 ended upstream\nitems: 99", 1, """\
+     "received 5 acked 7 ended upstream\nitems: 99", """\
 a: its items do not begin with its opening
 opening: 50
 items of a: 99 13 14 15 16
 """),
     ("received 6 acked 7 ended upstream\nitems: 50 99 13",
-     "received 5 acked 7 ended upstream\nitems: 50 99", 1, "a: LAW"),
+     "received 5 acked 7 ended upstream\nitems: 50 99", "a: LAW"),
     ("received 4 acked 6 ended upstream\nitems: 98 14 15",
-     "received 3 acked 6 ended upstream\nitems: 98 14", 1, "b: LAW"),
-    ("acked 6", "acked 5", 1, "b: a ended upstream with 6 items, and 5 of them are acknowledged\n"),
-    ("a depth 1", "c depth 1", 1, "not a report: line 3 is not as a report of this tree has it"),
-    ("items: 98 14", "items: 98 014", 1,
-     "not a report: line 6 is not as a report of this tree has it"),
-    ("items: 10 11", "items: 10 011", 1,
-     "not a report: line 2 is not as a report of this tree has it"),
-    ("received 6", "received 7", 1, "not a report: line 3 is not as a report of this tree has it"),
-    ("98 14 15 16\n", "98 14 15 16\n\n", 1,
-     "not a report: line 7 is not as a report of this tree has it"),
-    (REPORT, "", 1, NO_TREE),
+     "received 3 acked 6 ended upstream\nitems: 98 14", "b: LAW"),
+    ("acked 6", "acked 5", "b: a ended upstream with 6 items, and 5 of them are acknowledged\n"),
+    ("a depth 1", "c depth 1", 3),
+    ("items: 98 14", "items: 98 014", 6),
+    ("items: 10 11", "items: 10 011", 2),
+    ("received 6", "received 7", 3),
+    ("98 14 15 16\n", "98 14 15 16\n\n", 7),
+    (REPORT, "", NO_TREE),
 ]
 
 TREES = [
-    ("", "", 0, "obeys\n"),
-    ("acked 6", "acked 5", 0, "obeys\n"),
-    ("items: 98 14 15 16", "items: 98 14 15 15", 1, "b: LAW"),
-    ("acked 6", "acked 6 ended turns", 1,
-     "not a report: line 5 is not as a report of this tree has it"),
-    ("98 14 15 16\n", "98 14 15 16\n\n", 1,
-     "not a report: line 7 is not as a report of this tree has it"),
-    ("98 14 15 16\n", "98 14 15 16\nc depth 3 received 0 acked 0\nitems:\n", 1,
-     "not a report: line 7 is not as a report of this tree has it"),
+    ("", "", "obeys\n"),
+    ("acked 6", "acked 5", "obeys\n"),
+    ("items: 98 14 15 16", "items: 98 14 15 15", "b: LAW"),
+    ("acked 6", "acked 6 ended turns", 5),
+    ("98 14 15 16\n", "98 14 15 16\n\n", 7),
+    ("98 14 15 16\n", "98 14 15 16\nc depth 3 received 0 acked 0\nitems:\n", 7),
 ]
 
 JOBS = [
-    ('"labels":4', '"labels":3', 1, "job: too few labels"),
-    ("[[2,99]]", "[[2,99],[2,97]]", 3, "start: too many frames"),
-    ("{", "", 1, "job: not JSON"),
+    ('"labels":4', '"labels":3', "job: too few labels"),
+    ("[[2,99]]", "[[2,99],[2,97]]", "start: too many frames"),
+    ("{", "", "job: not JSON"),
 ]
 
 # The worst start of capacity 1.
@@ -118,30 +113,28 @@ LINK_JOB = """\
 LINK = WORST_TEXT
 
 LINKS = [
-    ("", "", 0, "obeys\n"),
+    ("", "", "obeys\n"),
     ("label: 3\nrecv label: 3\nframes:\nacks:\nclosed: no",
-     "label: 7\nrecv label: 65535\nframes: 2=4294967295 3=0\nacks: 1 0\nclosed: yes", 0,
+     "label: 7\nrecv label: 65535\nframes: 2=4294967295 3=0\nacks: 1 0\nclosed: yes",
      "obeys\n"),
-    ("acked: 3", "acked: 4", 0, "obeys\n"),
-    ("10 11 12 13\nacked: 3", "10 12\nacked: 2", 1, "LAW"),
-    ("10 11 12 13", "11 10 12 13", 1, """\
+    ("acked: 3", "acked: 4", "obeys\n"),
+    ("10 11 12 13\nacked: 3", "10 12\nacked: 2", "LAW"),
+    ("10 11 12 13", "11 10 12 13", """\
 the offered items are not among those that the job offers, in its order
 the job offers: 10 11 12 13
 offered: 11 10 12 13
 """),
-    ("99 13", "98 13", 1, "LAW"),
+    ("99 13", "98 13", "LAW"),
     # (without a stray only the first two may be missing)
-    (" 99 13", "", 1, "LAW"),
-    (" 99 13\noffered: 10 11 12 13\nacked: 3", "\noffered: 10 11 12 13\nacked: 4", 1, "LAW"),
-    ("acked: 3", "acked: 2", 1, "LAW"),
-    ("delivered", "given", 1, NO_LINK),
-    ("acked: 3", "acked: 03", 1, "not a report: line 3 is not as the text of a link has it"),
-    ("send label: 3", "send label: 65536", 1,
-     "not a report: line 4 is not as the text of a link has it"),
-    ("frames:", "frames: 2", 1, "not a report: line 6 is not as the text of a link has it"),
-    ("closed: no\n", "closed: no", 1, "not a report: line 8 is not as the text of a link has it"),
-    ("closed: no\n", "closed: no\norigins: s0 i3\n", 1,
-     "not a report: line 9 is not as the text of a link has it"),
+    (" 99 13", "", "LAW"),
+    (" 99 13\noffered: 10 11 12 13\nacked: 3", "\noffered: 10 11 12 13\nacked: 4", "LAW"),
+    ("acked: 3", "acked: 2", "LAW"),
+    ("delivered", "given", NO_LINK),
+    ("acked: 3", "acked: 03", 3),
+    ("send label: 3", "send label: 65536", 4),
+    ("frames:", "frames: 2", 6),
+    ("closed: no\n", "closed: no", 8),
+    ("closed: no\n", "closed: no\norigins: s0 i3\n", 9),
 ]
 
 # Reports of nodes that made all their turns: then not all that a node has need be acknowledged.
@@ -152,15 +145,15 @@ OF_TURNS = [TURNS, TURNS.replace("acked 6", "acked 5")]
 LONE_JOB = '{"version":1,"capacity":1,"labels":4,"tree":[{"name":"r"}],"items":[7,8],"starts":[]}'
 
 LONE_REPORTS = [
-    ("r depth 0 received 2 acked - ended upstream\nitems: 7 8\n", 0, "obeys\n"),
-    ("r depth 0 received 2 acked - ended turns\nitems: 7 8\n", 0, "obeys\n"),
-    ("r depth 0 received 2 acked -\nitems: 7 8\n", 0, "obeys\n"),
-    ("r depth 0 received 1 acked -\nitems: 7\n", 1, """\
+    ("r depth 0 received 2 acked - ended upstream\nitems: 7 8\n", "obeys\n"),
+    ("r depth 0 received 2 acked - ended turns\nitems: 7 8\n", "obeys\n"),
+    ("r depth 0 received 2 acked -\nitems: 7 8\n", "obeys\n"),
+    ("r depth 0 received 1 acked -\nitems: 7\n", """\
 r: its items are not the published ones
 published: 7 8
 items of r: 7
 """),
-    ("r depth 0 received 3 acked -\nitems: 7 8\n", 1, NO_TREE),
+    ("r depth 0 received 3 acked -\nitems: 7 8\n", NO_TREE),
 ]
 
 # Many items, as a job, an offer for each and lines have them; the texts have some 70,000 bytes.
@@ -196,8 +189,9 @@ closed: no
 """
 
 
-def said_of(name, words, files, status, said):
+def said_of(name, words, files, said):
     """A row whose files are beside the program: a verdict is printed, or a fault."""
+    status = 0 if said == "obeys\n" else 3 if said.startswith("start:") else 1
     is_fault = not said.endswith("\n")
     return Row(name, words, files=files, status=status, out="" if is_fault else said,
                err=f"rignolda: {said}\n" if is_fault else "")
@@ -224,11 +218,14 @@ def broken_law(name, job, report):
             + items[name].replace("items", f"\nitems of {name}") + "\n")
 
 
-def checked(name, job, report, status, said):
+def checked(name, job, report, said):
     """A row that checks a report of a job."""
-    if said.endswith("LAW"):
+    if isinstance(said, int):
+        what = "a report of this tree" if '"tree"' in job else "the text of a link"
+        said = f"not a report: line {said} is not as {what} has it"
+    elif said.endswith("LAW"):
         said = broken_law(said[:-5], job, report)
-    return said_of(name, ["check", "job", "report"], {"job": job, "report": report}, status, said)
+    return said_of(name, ["check", "job", "report"], {"job": job, "report": report}, said)
 
 
 # What is said of the bounds of a link job, and of a job that has neither shape.
@@ -255,9 +252,9 @@ KINDS = [
 ]
 
 ROWS = [
-    checked("names the kind of a link job", LINK_JOB, REPORT, 1, NO_LINK),
-    checked("names the kind of a link job beside the text of a tree", LINK_JOB, TREE, 1, NO_LINK),
-    checked("names the kind of a job of a tree", JOB, LINK, 1, NO_TREE),
+    checked("names the kind of a link job", LINK_JOB, REPORT, NO_LINK),
+    checked("names the kind of a link job beside the text of a tree", LINK_JOB, TREE, NO_LINK),
+    checked("names the kind of a job of a tree", JOB, LINK, NO_TREE),
     Row("writes the bounds of each node", ["bounds", "job"], files={"job": JOB}, out=BOUNDS),
     Row("reads a job for its bounds", ["bounds"], JOB, out=BOUNDS),
     Row("reads a report", ["check", "job", "-"], REPORT, files={"job": JOB}, out="obeys\n"),
@@ -265,42 +262,41 @@ ROWS = [
 ]
 ROWS += [
     checked(f"names the part of a {kind} that is broken: {part!r}, {instead!r}", job,
-            replaced(text, part, instead), status, said)
+            replaced(text, part, instead), said)
     for kind, job, text, table in [
         ("report", JOB, REPORT, REPORTS),
         ("tree", JOB, TREE, TREES),
         ("link", LINK_JOB, LINK, LINKS),
     ]
-    for part, instead, status, said in table
+    for part, instead, said in table
 ]
 ROWS += [
     checked(f"refuses a job as stab does: {instead or 'no ' + part}", replaced(JOB, part, instead),
-            REPORT, status, said)
-    for part, instead, status, said in JOBS
+            REPORT, said)
+    for part, instead, said in JOBS
 ]
 ROWS += [
     said_of(f"has no bounds of a job that is refused: {instead or 'no ' + part}",
-            ["bounds", "job"], {"job": replaced(JOB, part, instead)}, status, said)
-    for part, instead, status, said in JOBS
+            ["bounds", "job"], {"job": replaced(JOB, part, instead)}, said)
+    for part, instead, said in JOBS
 ]
 ROWS += [
-    checked(f"reads a report of a lone root: {report.splitlines()[0]}", LONE_JOB, report, status,
-            said)
-    for report, status, said in LONE_REPORTS
+    checked(f"reads a report of a lone root: {report.splitlines()[0]}", LONE_JOB, report, said)
+    for report, said in LONE_REPORTS
 ]
 ROWS += [
-    checked(f"obeys where all made their turns, {place}", JOB, report, 0, "obeys\n")
+    checked(f"obeys where all made their turns, {place}", JOB, report, "obeys\n")
     for place, report in enumerate(OF_TURNS)
 ]
 ROWS += [
-    checked("reads a long report", LONG_JOB, LONG_REPORT, 0, "obeys\n"),
-    checked("reads a long text of a tree", LONG_JOB, LONG_REPORT.replace(" ended upstream", ""), 0,
+    checked("reads a long report", LONG_JOB, LONG_REPORT, "obeys\n"),
+    checked("reads a long text of a tree", LONG_JOB, LONG_REPORT.replace(" ended upstream", ""),
             "obeys\n"),
-    checked("reads a long text of a link", LONG_LINK_JOB, LONG_LINK, 0, "obeys\n"),
+    checked("reads a long text of a link", LONG_LINK_JOB, LONG_LINK, "obeys\n"),
 ]
 ROWS += [
     said_of(f"{command} says which shape a job has to have: {job[:40]}, {place}",
-            [command, "job"] + ["report"] * (command == "check"), {"job": job, "report": REPORT}, 1,
+            [command, "job", *["report"] * (command == "check")], {"job": job, "report": REPORT},
             said)
     for place, (command, job, said) in enumerate(KINDS)
 ]

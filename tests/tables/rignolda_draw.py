@@ -1,6 +1,6 @@
 """The runs that `rignolda draw` draws, as text and as pictures.
 
-The runs of the example scenarios are those of tests/faults/drawn.py, and one is worked out by
+The runs of the example scenarios are those of tests/faults/scenario.py, and one is worked out by
 hand."""
 
 import json
@@ -10,7 +10,7 @@ import sys
 from tables.rows import Like, Row, TOP
 
 sys.path.insert(0, str(TOP / "tests/faults"))
-from drawn import drawn_text
+from scenario import drawn_text
 
 PROGRAM = "rignolda"
 

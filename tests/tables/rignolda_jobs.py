@@ -2,7 +2,7 @@
 
 import json
 
-from tables.rows import Like, Other, Printed, Row, Same
+from tables.rows import Like, Printed, Row, Same
 
 PROGRAM = "rignolda"
 
@@ -122,7 +122,7 @@ ROWS += [
 ROWS += [
     Row("draws the same job again", random(seed=7, **SMALL), out=Same(random(seed=7, **SMALL))),
     Row("draws another job of another seed", random(seed=8, **SMALL),
-        out=Other(random(seed=7, **SMALL))),
+        out=Same(random(seed=7, **SMALL), is_same=False)),
     Row("draws no long line", random(seed=7, **SMALL), out=Like(width=100)),
     Row("has these options where they are left out", ["random", "--seed", "7", "--labels=9"],
         out=Same(random(seed=7, labels=9, **LEFT_OUT))),

@@ -86,25 +86,16 @@ class Like:
 
 @dataclass
 class Same:
-    """What a run with other words prints."""
+    """What a run with other words prints, or another text than that."""
 
     words: list
+    is_same: bool = True
 
     def fault(self, text, printed):
         """What is wrong with a text, or None, where `printed` gives what a run prints."""
-        other = printed(self.words)
-        return None if text == other else f"{' '.join(self.words)} prints another text"
-
-
-@dataclass
-class Other:
-    """Another text than what a run with other words prints."""
-
-    words: list
-
-    def fault(self, text, printed):
-        """What is wrong with a text, or None, where `printed` gives what a run prints."""
-        return f"{' '.join(self.words)} prints the same" if text == printed(self.words) else None
+        is_same = text == printed(self.words)
+        return None if is_same == self.is_same else (
+            f"{' '.join(self.words)} prints {'the same' if is_same else 'another text'}")
 
 
 def replaced(text, part, instead):
