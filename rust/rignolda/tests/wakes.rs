@@ -691,8 +691,8 @@ fn an_end_that_comes_with_the_last_bytes_is_seen() {
     }
 }
 
-/// Of a line that is like a socket the agent's caller is told where it waits for something else than
-/// before, and once a second in any case.
+/// Of a line that is like a socket the caller is told where it waits for something else than
+/// before, and at each look in any case.
 #[test]
 fn a_line_is_named_again_where_it_waits_for_something_else() {
     let (clock, now, mut said) = (Rc::default(), Instant::now(), Said::default());

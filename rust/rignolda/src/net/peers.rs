@@ -52,8 +52,8 @@ pub struct Peers<L, A> {
     conns: BTreeMap<u64, Conn<L>>,
     made: u64,
     /// Those of which more may be read at once, those that have something new to write, and those
-    /// that were made, read or written since the caller asked for them. (Each knows whether it is in
-    /// the last two.)
+    /// that were made, read or written since the caller asked for them. (Each knows whether it is
+    /// in the last two.)
     again: Vec<u64>,
     unsent: Vec<u64>,
     touched: Vec<u64>,
