@@ -98,6 +98,15 @@ def files_that_differ_are_seen(tree, root, left, leaf, relay):
     tree.settles(root, left, leaf)
 
 
+@of_tree({"leaf": "root"}, root_has(round="1h"))
+def what_is_nothing_of_settings_is_named_between_changes(tree, root, leaf):
+    """It is looked for once a second, and not for each change: also after the last one."""
+    tree.wait(root.ask("publish", "colour", "red")["sequence"])
+    (leaf.settings / "somebodys").mkdir()
+    tree.wait(root.ask("publish", "colour", "blue")["sequence"])
+    leaf.says("1 in the folder are none of settings, as somebodys")
+
+
 @of_tree({"left": "root", "leaf": "left"}, root_has(round="1h"))
 def a_file_that_was_moved_in_is_waited_for(tree):
     script = ('printf %s "$1" >"$2/.new"; mv "$2/.new" "$2/key"; shift 2; '

@@ -691,6 +691,50 @@ fn an_end_that_comes_with_the_last_bytes_is_seen() {
     }
 }
 
+/// Of a line that is like a socket the caller is told where it waits for something else than
+/// before, and at each look in any case.
+#[test]
+fn a_line_is_named_again_where_it_waits_for_something_else() {
+    let (clock, now, mut said) = (Rc::default(), Instant::now(), Said::default());
+    let (mut here, mut there) = line(&clock, [0, 0]);
+    there.is_socket = true;
+    let to_here = Rc::clone(&there.to);
+    to_here.borrow_mut().bytes = VecDeque::from(vec![(0, 0); ROOM]);
+    let (from, to) = ("a".into(), String::new());
+    let hello = Hello {
+        version: OLD,
+        life: 9,
+        label: 255,
+        from,
+        to,
+    };
+    here.write_all(&hello.bytes()).unwrap();
+    let setup = Net::new(1, (0, 0)).setup("root");
+    let mut root: Peers<End, String> = Peers::new(setup, 1, 16, now);
+    let named = |root: &mut Peers<End, String>| -> Vec<bool> {
+        root.touched().map(|(.., has_output)| has_output).collect()
+    };
+    root.accept(there, now, &mut said);
+    assert_eq!(named(&mut root), [false], "it is new");
+    for expected in [&[true][..], &[]] {
+        root.read([1], now, &mut said);
+        assert_eq!(
+            named(&mut root),
+            expected,
+            "there is no room for the answer"
+        );
+    }
+    to_here.borrow_mut().bytes.clear();
+    root.read([1], now, &mut said);
+    assert_eq!(named(&mut root), [false], "the answer is written");
+    root.publish(&Arc::new(Body::of(vec![b'H'; 9])), now, &mut said);
+    root.write(now, &mut said);
+    assert!(to_here.borrow().bytes.len() > 9, "the frame is written");
+    assert_eq!(named(&mut root), [], "the frame is written at once");
+    root.check(false, now, &mut said).unwrap();
+    assert_eq!(named(&mut root), [false], "all are looked at");
+}
+
 #[test]
 fn children_that_come_at_once_do_not_drive_each_other_out() {
     let name = |at: usize| format!("n{at}");

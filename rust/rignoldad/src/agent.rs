@@ -43,8 +43,8 @@ const CLOCK: Duration = Duration::from_secs(10);
 
 /// After how long the state is looked at as a whole again, once each second: where something came
 /// meanwhile, and at the latest. (A parent says its way every two seconds, so mostly an idle agent
-/// is woken once for both.)
-const CHECKS: [Duration; 2] = [Duration::from_millis(900), Duration::from_millis(1_100)];
+/// is woken once for both: the two together are less than that.)
+const CHECKS: [Duration; 2] = [Duration::from_millis(900), Duration::from_millis(1_050)];
 /// For how long nobody is accepted where no descriptor was left.
 const FULL: Duration = Duration::from_millis(100);
 /// How many faults of the root's folder its status names.

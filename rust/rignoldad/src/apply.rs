@@ -32,7 +32,7 @@ use std::io;
 use std::path::PathBuf;
 use std::sync::{Arc, Condvar, Mutex, MutexGuard, PoisonError};
 use std::thread::{self, JoinHandle};
-use std::time::Duration;
+use std::time::{Duration, Instant};
 
 /// The folder of values as they were published, of keys that have one for some group; and their
 /// mode.
@@ -40,6 +40,9 @@ pub const GROUPS: &str = ".groups";
 const GROUPS_MODE: u32 = 0o600;
 /// The file that says that a folder is an agent's, and up to which number its files are.
 const MARKER: &str = ".rignolda";
+/// How soon after a look at all that is in the folder the next one is, unless a table looks: where
+/// changes come faster than that, none of them waits for it.
+const LISTS: Duration = Duration::from_secs(1);
 /// How long the file of a key waits at most while its hook's mark is going.
 const UNMARKS: Duration = Duration::from_secs(5);
 /// How many hooks run at once at most.
@@ -409,12 +412,30 @@ impl Shared {
 
     /// Takes what there is to do, and waits for it where there is nothing. Nothing at the end.
     fn next<T>(&self, on: &Condvar, take: fn(&mut State) -> Option<T>) -> Option<T> {
+        self.next_within(on, None, take).flatten()
+    }
+
+    /// The same, and nothing inside where there is nothing to do for so long.
+    fn next_within<T>(
+        &self,
+        on: &Condvar,
+        most: Option<Duration>,
+        take: fn(&mut State) -> Option<T>,
+    ) -> Option<Option<T>> {
+        let until = most.map(|most| Instant::now() + most);
         let mut state = self.lock();
         while !state.closed {
-            match take(&mut state) {
-                Some(work) => return Some(work),
-                None => state = on.wait(state).unwrap_or_else(PoisonError::into_inner),
+            if let Some(work) = take(&mut state) {
+                return Some(Some(work));
             }
+            let left = until.map(|until| until.saturating_duration_since(Instant::now()));
+            state = match left {
+                None => on.wait(state).unwrap_or_else(PoisonError::into_inner),
+                Some(Duration::ZERO) => return Some(None),
+                Some(left) => {
+                    on.wait_timeout(state, left).unwrap_or_else(PoisonError::into_inner).0
+                }
+            };
         }
         None
     }
@@ -441,12 +462,16 @@ fn keep_files(shared: &Shared) {
         let looks = std::mem::take(&mut state.looks) || !files.is_whole();
         Some((files, due, looks, state.floor, state.config.clone()))
     };
-    let (mut folder, mut others) = (Folder::new(shared.folder.clone()), Vec::new());
+    let (mut folder, mut others) = (Folder::new(shared.folder.clone()), Others::default());
     let mut grouped = Folder::new(shared.folder.join(GROUPS));
     let (mut is_taken, mut digest, mut groups) = (false, None, Vec::new());
     // (whether its files were never looked at with this mode)
     let (mut is_first, mut mode) = (true, 0);
-    while let Some((mut files, due, looks, floor, config)) = shared.next(&shared.files, take) {
+    while let Some(work) = shared.next_within(&shared.files, others.waits(), take) {
+        let Some((mut files, due, looks, floor, config)) = work else {
+            others.say(&folder);
+            continue;
+        };
         if folder.path() != config.folder {
             // (the memory is spoiled)
             folder = Folder::new(config.folder.clone());
@@ -487,7 +512,7 @@ fn keep_files(shared: &Shared) {
                 mode = config.mode;
             }
         }
-        let mut mended = Vec::new();
+        let (mut mended, is_whole) = (Vec::new(), files.is_whole());
         for (key, change) in files.in_order() {
             let value = change.value.as_deref();
             let put = value.map_or(!folder.knows(&key), |value| folder.had(&key, value));
@@ -509,7 +534,7 @@ fn keep_files(shared: &Shared) {
         }
         keep_grouped(shared, &mut grouped, all, looks);
         if looks {
-            say_others(&folder, &mut others);
+            others.may_say(&folder, is_whole);
         }
         if let [first, ..] = &mended[..] {
             fact!("mended", "{} files were not as they were put, as {first}", mended.len());
@@ -564,16 +589,42 @@ fn mark(folder: &Folder, floor: u64, is_whole: bool) -> Outcome {
     marked.map_or_else(|error| Outcome::File(error.to_string()), |()| Outcome::Done)
 }
 
-/// Names once what is in the folder and is nothing of the agent's, and not removed either.
-fn say_others(folder: &Folder, before: &mut Vec<String>) {
-    let mut others = folder.others();
-    others.retain(|name| ![MARKER, PENDING, GROUPS].contains(&&**name) && !name.starts_with(INPUT));
-    others.sort();
-    if others != *before && !others.is_empty() {
-        let (count, first) = (others.len(), others[..others.len().min(3)].join(" "));
-        fact!("settings", "{count} in the folder are none of settings, as {first}");
+/// What is in the folder and is nothing of the agent's, and not removed either.
+#[derive(Default)]
+struct Others {
+    said: Vec<String>,
+    /// When it was looked for, and whether it is to be looked for since then.
+    at: Option<Instant>,
+    is_due: bool,
+}
+
+impl Others {
+    /// For how long to wait for something else before it is looked for.
+    fn waits(&self) -> Option<Duration> {
+        self.is_due.then_some(LISTS)
     }
-    *before = others;
+
+    /// Looks for it now, or a little later: all that is in the folder is listed for it.
+    fn may_say(&mut self, folder: &Folder, is_whole: bool) {
+        match is_whole || self.at.is_none_or(|at| at.elapsed() >= LISTS) {
+            true => self.say(folder),
+            false => self.is_due = true,
+        }
+    }
+
+    /// Names it once.
+    fn say(&mut self, folder: &Folder) {
+        let mut all = folder.others();
+        all.retain(|name| {
+            ![MARKER, PENDING, GROUPS].contains(&&**name) && !name.starts_with(INPUT)
+        });
+        all.sort();
+        if all != self.said && !all.is_empty() {
+            let (count, first) = (all.len(), all[..all.len().min(3)].join(" "));
+            fact!("settings", "{count} in the folder are none of settings, as {first}");
+        }
+        *self = Others { said: all, at: Some(Instant::now()), is_due: false };
+    }
 }
 
 /// Takes up what the file of a key is now that it was written, or could not be.

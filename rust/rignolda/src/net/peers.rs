@@ -52,8 +52,8 @@ pub struct Peers<L, A> {
     conns: BTreeMap<u64, Conn<L>>,
     made: u64,
     /// Those of which more may be read at once, those that have something new to write, and those
-    /// that were made, read or written since the caller asked for them. (Each knows whether it is in
-    /// the last two.)
+    /// that were made, read or written since the caller asked for them. (Each knows whether it is
+    /// in the last two.)
     again: Vec<u64>,
     unsent: Vec<u64>,
     touched: Vec<u64>,
@@ -85,8 +85,9 @@ pub struct Peers<L, A> {
     says_again: bool,
     /// The digest of the last whole table, once it was asked for.
     digest: Option<(Arc<Body>, [u8; 32])>,
-    /// Where what is read comes first.
+    /// Where what is read comes first; and the address of that, with each bit turned.
     space: Box<[u8]>,
+    not_at: usize,
 }
 
 /// What it is set up with, and how many connections there are.
@@ -139,10 +140,18 @@ impl<L: Line, A: Clone + PartialEq + fmt::Display> Peers<L, A> {
             beat: now + BEAT,
             says_again: false,
             digest: None,
-            space: vec![0; READ_BYTES].into_boxed_slice(),
+            space: Box::default(),
+            not_at: 0,
         };
+        peers.make_space();
         peers.dial_all(now);
         peers
+    }
+
+    /// Makes new space for what is read.
+    fn make_space(&mut self) {
+        self.space = vec![0; READ_BYTES].into_boxed_slice();
+        self.not_at = !(self.space.as_ptr() as usize);
     }
 
     /// Takes another set-up: those that are no longer in it are left. The name stays.
@@ -323,13 +332,12 @@ impl<L: Line, A: Clone + PartialEq + fmt::Display> Peers<L, A> {
         Some((&conn.line, conn.has_output()))
     }
 
-    /// Those of [`Peers::lines`] that were made, read or written since this was asked last: of all
+    /// Those of [`Peers::lines`] that were made, read or written since this was asked last, without
+    /// those [sockets](Line::is_socket) that have as before something to write or nothing: of all
     /// others the same is waited for as before. After [`Peers::check`] they are all.
     pub fn touched(&mut self) -> impl Iterator<Item = (u64, &L, bool)> {
-        let all = mem::take(&mut self.touched);
-        for id in &all {
-            self.conn_with(*id, |conn| conn.is_touched = false);
-        }
+        let (mut all, conns) = (mem::take(&mut self.touched), &mut self.conns);
+        all.retain(|id| conns.get_mut(id).map_or(false, Conn::tells));
         all.into_iter().filter_map(|id| {
             self.line(id)
                 .map(|(line, has_output)| (id, line, has_output))

@@ -90,6 +90,26 @@ pub struct Relay {
     quickest: Cell<Option<Option<u64>>>,
 }
 
+/// What is to be sent to a child now.
+pub(super) struct Polled {
+    pub(super) label: u16,
+    pub(super) body: Arc<Body>,
+    /// How often its frame was given to be sent, this time with it.
+    pub(super) times: u64,
+    /// How long an answer of the child took, and how often it was late, as its link says.
+    pub(super) took: Duration,
+    pub(super) late: u32,
+}
+
+/// What a step of a link to a child needs of the rest of the relay.
+struct List<'a> {
+    node: &'a Node,
+    bodies: &'a VecDeque<Arc<Body>>,
+    moved: &'a mut bool,
+    front: &'a mut usize,
+    quickest: &'a Cell<Option<Option<u64>>>,
+}
+
 /// The link to a child.
 pub struct Link {
     session: Session<Child>,
@@ -504,56 +524,76 @@ impl Relay {
     /// left behind, to set for it in a store.
     #[must_use = "the turn is given away by it"]
     pub fn poll(&mut self, name: &str, now: Instant) -> Option<(u16, Arc<Body>)> {
-        let (link, node) = (self.children.get_mut(name)?, self.above.node());
-        let session = &mut link.session;
-        let before = session.offered();
-        let frame = session.poll(node);
-        let is_word = frame.is_none() && !link.left;
-        let frame = frame.or_else(|| session.poll_word(node).filter(|_| is_word))?;
-        if session.offered() != before {
-            if before == node.forgotten() {
-                self.front = self.front.saturating_sub(1);
-                self.moved |= self.front == 0;
-            }
-            let place = (before - node.forgotten()) as usize;
-            (link.held, link.sent) = (self.bodies.get(place).cloned(), None);
-            link.times = 0;
-        }
-        link.times = link.times.saturating_add(1);
-        link.sent = link.sent.or(Some(now));
-        let body = link.held.clone()?;
-        debug_assert_eq!(body.item, frame.item);
-        Some((frame.label, body))
+        let polled = self.polled(name, now)?;
+        Some((polled.label, polled.body))
+    }
+
+    /// The same, with what is known of the child's answers.
+    pub(super) fn polled(&mut self, name: &str, now: Instant) -> Option<Polled> {
+        let (children, mut list) = self.parts();
+        list.poll(children.get_mut(name)?, now)
+    }
+
+    /// The same of each of these children, which have connections, with what is beside its name.
+    /// (Mostly few of them have answered.)
+    pub(super) fn polled_all<T: Copy>(
+        &mut self,
+        all: &BTreeMap<String, T>,
+        now: Instant,
+    ) -> Vec<(T, Polled)> {
+        let (children, mut list) = self.parts();
+        let mut links = children.iter_mut();
+        let polled = all.iter().filter_map(|(name, it)| {
+            let (_, link) = links.find(|(of, _)| *of == name)?;
+            let may_send = link.session.is_in_turn();
+            Some((*it, may_send.then(|| list.poll(link, now))??))
+        });
+        polled.collect()
+    }
+
+    /// The links to the children, and what their steps need.
+    fn parts(&mut self) -> (&mut BTreeMap<String, Link>, List<'_>) {
+        let list = List {
+            node: self.above.node(),
+            bodies: &self.bodies,
+            moved: &mut self.moved,
+            front: &mut self.front,
+            quickest: &self.quickest,
+        };
+        (&mut self.children, list)
     }
 
     /// Takes an acknowledgement of a child that came by this connection, or, by none, that its word
     /// in a store shows: whether it is that of the sender's item.
     pub fn on_ack(&mut self, name: &str, by: Option<Connection>, label: u16, now: Instant) -> bool {
-        let link = match self.children.get_mut(name) {
+        let (children, mut list) = self.parts();
+        let link = match children.get_mut(name) {
             Some(link) => link,
             None => return false,
         };
-        let taken = match by {
-            Some(connection) => link.session.on_ack(connection, label),
-            None => !link.left && link.session.on_word(label),
-        };
-        if taken {
-            link.held = None;
-            let node = self.above.node();
-            let place = node
-                .length()
-                .saturating_sub(node.backlog(link.session.end()));
-            let quickest = self.quickest.get().map(|it| it.max(Some(place)));
-            self.quickest.set(quickest.filter(|_| link.is_connected()));
-        }
-        // (the first one on a connection may be no answer, and a word may show an old one)
-        if taken || by.is_some() {
-            link.answered(now);
-        }
+        let taken = list.on_ack(link, by, label, now);
         if self.moved {
             self.forget();
         }
         taken
+    }
+
+    /// The same, and then what is to be sent to the child.
+    pub(super) fn acknowledged(
+        &mut self,
+        name: &str,
+        by: Connection,
+        label: u16,
+        now: Instant,
+    ) -> Option<Polled> {
+        let (children, mut list) = self.parts();
+        let link = children.get_mut(name)?;
+        list.on_ack(link, Some(by), label, now);
+        if *list.moved {
+            self.forget();
+            return self.polled(name, now);
+        }
+        list.poll(link, now)
     }
 
     // ---- Links below that lie in a store
@@ -654,5 +694,60 @@ impl Relay {
         let quickest = quickest.unwrap_or_else(|| links().map(place).max());
         self.quickest.set(Some(quickest));
         quickest.map(|place| length.saturating_sub(place))
+    }
+}
+
+impl List<'_> {
+    fn poll(&mut self, link: &mut Link, now: Instant) -> Option<Polled> {
+        let (session, node) = (&mut link.session, self.node);
+        let before = session.offered();
+        let frame = session.poll(node);
+        let is_word = frame.is_none() && !link.left;
+        let frame = frame.or_else(|| session.poll_word(node).filter(|_| is_word))?;
+        if session.offered() != before {
+            if before == node.forgotten() {
+                *self.front = self.front.saturating_sub(1);
+                *self.moved |= *self.front == 0;
+            }
+            let place = (before - node.forgotten()) as usize;
+            (link.held, link.sent) = (self.bodies.get(place).cloned(), None);
+            link.times = 0;
+        }
+        link.times = link.times.saturating_add(1);
+        link.sent = link.sent.or(Some(now));
+        let body = link.held.clone()?;
+        debug_assert_eq!(body.item, frame.item);
+        Some(Polled {
+            label: frame.label,
+            body,
+            times: link.times,
+            took: link.took,
+            late: link.late,
+        })
+    }
+
+    fn on_ack(
+        &mut self,
+        link: &mut Link,
+        by: Option<Connection>,
+        label: u16,
+        now: Instant,
+    ) -> bool {
+        let taken = match by {
+            Some(connection) => link.session.on_ack(connection, label),
+            None => !link.left && link.session.on_word(label),
+        };
+        if taken {
+            link.held = None;
+            let backlog = self.node.backlog(link.session.end());
+            let place = self.node.length().saturating_sub(backlog);
+            let quickest = self.quickest.get().map(|it| it.max(Some(place)));
+            self.quickest.set(quickest.filter(|_| link.is_connected()));
+        }
+        // (the first one on a connection may be no answer, and a word may show an old one)
+        if taken || by.is_some() {
+            link.answered(now);
+        }
+        taken
     }
 }

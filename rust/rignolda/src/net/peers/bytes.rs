@@ -1,9 +1,10 @@
 //! What is read from connections, and written to them.
 use super::connection::{Chunk, Conn, Line};
 use super::{Context, Handler, Peers, Result};
-use crate::net::wire::Expect;
+use crate::net::wire::{self, Expect};
 use std::collections::BTreeSet;
-use std::io::{ErrorKind, IoSlice};
+use std::io::ErrorKind;
+use std::sync::Arc;
 use std::time::Instant;
 use std::{fmt, mem};
 
@@ -24,10 +25,26 @@ impl<L: Line, A: Clone + PartialEq + fmt::Display> Peers<L, A> {
 
     /// This is to be written behind all that is to be written already.
     pub(super) fn push(&mut self, id: u64, chunk: Chunk) {
+        self.push_by(id, |conn| conn.output.push_back(chunk));
+    }
+
+    /// The same of what this puts there.
+    pub(super) fn push_by(&mut self, id: u64, put: impl FnOnce(&mut Conn<L>)) {
         if let Some(conn) = self.conns.get_mut(&id) {
-            conn.output.push_back(chunk);
+            put(conn);
             list(&mut self.unsent, id, &mut conn.is_unsent);
             list(&mut self.touched, id, &mut conn.is_touched);
+        }
+    }
+
+    /// Says the own way on each connection of which this holds.
+    pub(super) fn say_ways(&mut self, to: impl Fn(&Conn<L>) -> bool) {
+        let mut way: Option<Arc<[u8]>> = None;
+        for (id, conn) in self.conns.iter_mut().filter(|(_, conn)| to(conn)) {
+            let way = way.get_or_insert_with(|| wire::way(self.parents.says()).into());
+            conn.says_way(way.clone());
+            list(&mut self.unsent, *id, &mut conn.is_unsent);
+            list(&mut self.touched, *id, &mut conn.is_touched);
         }
     }
 
@@ -110,33 +127,21 @@ impl<L: Line, A: Clone + PartialEq + fmt::Display> Peers<L, A> {
     pub fn write(&mut self, now: Instant, to: &mut dyn Handler) {
         let cx = &mut Context { now, to };
         for id in mem::take(&mut self.unsent) {
-            self.conn_with(id, |conn| conn.is_unsent = false);
-            self.write_one(id, cx);
+            if let Some(conn) = self.conns.get_mut(&id) {
+                conn.is_unsent = false;
+                // (what was read may have been answered at once)
+                if conn.has_output() {
+                    self.write_one(id, cx);
+                }
+            }
         }
     }
 
     pub(super) fn write_one(&mut self, id: u64, cx: &mut Context<'_>) {
-        let conn = match self.conns.get_mut(&id) {
-            Some(conn) => conn,
-            None => return,
-        };
-        list(&mut self.touched, id, &mut conn.is_touched);
-        while let Some(chunk) = conn.output.front() {
-            let done = match chunk.from(conn.written) {
-                [&[], &[]] => {
-                    conn.output.pop_front();
-                    conn.written = 0;
-                    continue;
-                }
-                [&[], left] | [left, &[]] => conn.line.write(left),
-                both => conn.line.write_vectored(&both.map(IoSlice::new)),
-            };
-            match done {
-                Ok(0) => return self.leave_line(id, "it takes nothing", cx),
-                Ok(count) => conn.written += count,
-                Err(e) if e.kind() == ErrorKind::WouldBlock => return,
-                Err(e) if e.kind() == ErrorKind::Interrupted => (),
-                Err(e) => return self.leave_line(id, &e.to_string(), cx),
+        if let Some(conn) = self.conns.get_mut(&id) {
+            list(&mut self.touched, id, &mut conn.is_touched);
+            if let Err(why) = conn.write() {
+                self.leave_line(id, &why, cx);
             }
         }
     }

@@ -1,11 +1,11 @@
 //! One connection: what it is for, what comes and what is to be written.
-use super::{Whom, READ_BYTES};
+use super::{Result, Whom, READ_BYTES};
 use crate::net::parents::SILENCE;
 use crate::net::wire::{self, Expect, Hello, Message, WireError, FIRST, FRAME_HEAD, OLD};
 use crate::net::Body;
 use crate::Connection;
 use std::collections::VecDeque;
-use std::io::{Read, Write};
+use std::io::{ErrorKind, IoSlice, Read, Write};
 use std::sync::Arc;
 use std::time::{Duration, Instant};
 
@@ -72,6 +72,8 @@ pub(super) struct Conn<L> {
     /// Whether it is in these lists of the agent.
     pub(super) is_unsent: bool,
     pub(super) is_touched: bool,
+    /// Whether it had something to write when the caller was told last, where it was.
+    pub(super) told: Option<bool>,
     /// Whether its end comes behind what can be read.
     pub(super) ends: bool,
     /// The name that its hello had, right or not, in words.
@@ -97,6 +99,7 @@ impl<L> Conn<L> {
             is_mute: false,
             is_unsent: false,
             is_touched: true,
+            told: None,
             ends: false,
             says: String::new(),
         }
@@ -133,6 +136,20 @@ impl<L> Conn<L> {
         }
     }
 
+    /// Whether a frame, or more of one, waits to be written, or what else answers the other end.
+    pub(super) fn waits_for_frame(&self) -> bool {
+        self.output.iter().any(|it| !matches!(it, Chunk::Way(_)))
+    }
+
+    /// Says this way, in place of one that is not written yet.
+    pub(super) fn says_way(&mut self, way: Arc<[u8]>) {
+        let is_unsent = self.output.len() > 1 || self.written == 0;
+        if is_unsent && matches!(self.output.back(), Some(Chunk::Way(_))) {
+            self.output.pop_back();
+        }
+        self.output.push_back(Chunk::Way(way));
+    }
+
     pub(super) fn expects(&self) -> Expect {
         match &self.state {
             State::Link(Whom::Child(_), _, Some(_)) => Expect::Acks,
@@ -158,6 +175,43 @@ impl<L> Conn<L> {
             let length = length.unwrap_or(0);
             self.until = Some(now + SILENCE + travels(length));
         }
+    }
+}
+
+impl<L: Line> Conn<L> {
+    /// Writes what can be written now.
+    ///
+    /// # Errors
+    ///
+    /// Why the connection is to be left.
+    pub(super) fn write(&mut self) -> Result {
+        while let Some(chunk) = self.output.front() {
+            let done = match chunk.from(self.written) {
+                [&[], &[]] => {
+                    self.output.pop_front();
+                    self.written = 0;
+                    continue;
+                }
+                [&[], left] | [left, &[]] => self.line.write(left),
+                both => self.line.write_vectored(&both.map(IoSlice::new)),
+            };
+            match done {
+                Ok(0) => return Err("it takes nothing".into()),
+                Ok(count) => self.written += count,
+                Err(e) if e.kind() == ErrorKind::WouldBlock => return Ok(()),
+                Err(e) if e.kind() == ErrorKind::Interrupted => (),
+                Err(e) => return Err(e.to_string()),
+            }
+        }
+        Ok(())
+    }
+
+    /// Whether something else may have to be waited for than what the caller was told last, which
+    /// it is told now. (Of what TLS waits for, the line alone knows.)
+    pub(super) fn tells(&mut self) -> bool {
+        self.is_touched = false;
+        let told = self.told.replace(self.has_output());
+        !self.line.is_socket() || told != self.told
     }
 }
 
@@ -210,7 +264,8 @@ pub(super) fn travels(length: usize) -> Duration {
 
 pub(super) enum Chunk {
     Bytes(Vec<u8>),
-    Way(Vec<u8>),
+    /// (All who are told it at once share its bytes.)
+    Way(Arc<[u8]>),
     /// A frame: what is before its body, and that.
     Frame([u8; FRAME_HEAD], Arc<Body>),
 }
@@ -219,7 +274,8 @@ impl Chunk {
     /// Its bytes from this place on, in two parts.
     pub(super) fn from(&self, place: usize) -> [&[u8]; 2] {
         match self {
-            Chunk::Bytes(bytes) | Chunk::Way(bytes) => [&[], &bytes[place..]],
+            Chunk::Bytes(bytes) => [&[], &bytes[place..]],
+            Chunk::Way(bytes) => [&[], &bytes[place..]],
             Chunk::Frame(head, body) => match place.checked_sub(FRAME_HEAD) {
                 Some(place) => [&[], &body.bytes[place..]],
                 None => [&head[place..], &body.bytes],

@@ -74,6 +74,7 @@ impl<L: Line, A: Clone + PartialEq + fmt::Display> Peers<L, A> {
         let mut called = BTreeSet::new();
         for conn in self.conns.values_mut() {
             (conn.is_touched, conn.is_unsent) = (true, conn.has_output());
+            conn.told = None;
             let waits = conn.greeted().is_none().then_some(most);
             conn.until = conn.until.or(waits).map(|at| at.min(most));
             match &conn.state {
@@ -96,7 +97,9 @@ impl<L: Line, A: Clone + PartialEq + fmt::Display> Peers<L, A> {
         let is_parent = |conn: &Conn<L>| matches!(conn.state, State::Link(Whom::Parent, ..));
         self.above = self.all_that(is_parent).first().copied();
         // (into a spoiled one nothing could be read)
-        self.space = vec![0; READ_BYTES].into_boxed_slice();
+        if (self.space.len(), self.space.as_ptr() as usize) != (READ_BYTES, !self.not_at) {
+            self.make_space();
+        }
         self.beat = self.beat.min(now + BEAT);
         self.late = self.late.min(LATER);
         self.parents.say();

@@ -1,5 +1,5 @@
 //! What each end says first, and of its way: who it is, and whether it is taken.
-use super::connection::{Chunk, Conn, Line, State};
+use super::connection::{Conn, Line, State};
 use super::dials::LOOKED;
 use super::{fact, Children, Context, Parent, Peers, Result, Whom, BEAT, NONE};
 use crate::net::wire::{self, Expect, Hello, FIRST, OLD, VERSION};
@@ -45,13 +45,9 @@ impl<L: Line, A: Clone + PartialEq + fmt::Display> Peers<L, A> {
 
     /// Says the own way, if the other end knows what that is.
     pub(super) fn say_way(&mut self, id: u64) {
-        if let Some(conn) = self.conns.get_mut(&id).filter(|conn| !conn.is_old()) {
-            let is_unsent = conn.output.len() > 1 || conn.written == 0;
-            if is_unsent && matches!(conn.output.back(), Some(Chunk::Way(_))) {
-                conn.output.pop_back();
-            }
-            let way = wire::way(self.parents.says());
-            self.push(id, Chunk::Way(way));
+        if self.conns.get(&id).map_or(false, |conn| !conn.is_old()) {
+            let way = wire::way(self.parents.says()).into();
+            self.push_by(id, |conn| conn.says_way(way));
         }
     }
 
@@ -63,10 +59,9 @@ impl<L: Line, A: Clone + PartialEq + fmt::Display> Peers<L, A> {
             self.beat = now + BEAT;
         }
         if has_news || is_beat {
-            let waits = |it: &Conn<L>| !has_news && !it.output.is_empty();
-            for id in self.all_that(|it| it.expects() == Expect::Acks && !waits(it)) {
-                self.say_way(id);
-            }
+            let waits = |it: &Conn<L>| !has_news && it.has_output();
+            let is_told = |it: &Conn<L>| it.expects() == Expect::Acks && !it.is_old();
+            self.say_ways(|it| is_told(it) && !waits(it));
         }
         if has_news && self.parents.says().cost >= NONE {
             for (whom, dial) in &mut self.dials {

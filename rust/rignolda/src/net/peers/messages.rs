@@ -1,7 +1,7 @@
 //! What travels over links: frames, acknowledgements, reports and ways.
-use super::connection::{travels, Chunk, Line};
+use super::connection::{travels, Chunk, Line, State};
 use super::{fact, Context, Handler, Peers, Result, Whom, LATER};
-use crate::net::relay::Came;
+use crate::net::relay::{Came, Polled};
 use crate::net::wire::{self, Message, Reference, FIRST, HEAD_BYTES, REFERS};
 use crate::net::Body;
 use crate::Connection;
@@ -19,14 +19,14 @@ const JOINED: [usize; 2] = [64, 16 << 10];
 
 impl<L: Line, A: Clone + PartialEq + fmt::Display> Peers<L, A> {
     pub(super) fn message(&mut self, id: u64, message: Message, cx: &mut Context<'_>) -> Result {
+        if let Message::Ack(label) = message {
+            return self.acknowledged(id, label, cx);
+        }
         let conn = self.conns.get_mut(&id).ok_or("it is gone")?;
-        if !matches!(
-            message,
-            Message::Frame(..) | Message::Ack(_) | Message::Report(_)
-        ) {
+        if !matches!(message, Message::Frame(..) | Message::Report(_)) {
             self.due.set(None);
         }
-        let waits = conn.output.iter().any(|it| !matches!(it, Chunk::Way(_)));
+        let waits = conn.waits_for_frame();
         let refers = conn.version >= REFERS;
         match (conn.link(), message) {
             (_, Message::Hello(hello)) => return self.greets(id, hello, false, cx),
@@ -52,22 +52,16 @@ impl<L: Line, A: Clone + PartialEq + fmt::Display> Peers<L, A> {
                     None => self.send(id, wire::lacks(label)),
                 }
             }
-            // (else whoever acknowledges or asks without end would be sent to without end)
-            (Some((Whom::Child(name), number)), Message::Ack(label)) => {
-                conn.refers = false;
-                if conn.until.take().is_none() || waits {
-                    return Err("it acknowledges what was not sent".into());
-                }
-                self.relay.on_ack(&name, Some(number), label, cx.now);
-                self.poll_by(id, &name, cx);
-            }
+            // (else whoever asks without end would be sent to without end)
             (Some((Whom::Child(name), _)), Message::Lacks(label)) => {
                 let asks = mem::take(&mut conn.refers) && !waits;
                 let held = self.relay.under_way(&name).filter(|it| it.0 == label);
                 let (_, body, _) = held
                     .filter(|_| asks)
                     .ok_or("it asks for what was not sent")?;
-                self.send_whole(id, &name, label, body.clone(), cx.now);
+                let body = body.clone();
+                let patience = self.patience(&name);
+                self.send_whole(id, patience, label, body, cx.now);
             }
             (Some((Whom::Child(name), _)), Message::Report(bytes)) => {
                 if !cx.to.on_report(&name, &bytes, cx.now) {
@@ -81,6 +75,25 @@ impl<L: Line, A: Clone + PartialEq + fmt::Display> Peers<L, A> {
             }
             _ => return Err("it is no message".into()),
         }
+        Ok(())
+    }
+
+    /// A child acknowledges what was sent to it, and is sent what comes next.
+    fn acknowledged(&mut self, id: u64, label: u16, cx: &mut Context<'_>) -> Result {
+        let conn = self.conns.get_mut(&id).ok_or("it is gone")?;
+        let (name, number) = match &conn.state {
+            State::Link(Whom::Child(name), number, _) => (name, *number),
+            _ => return Err("it is no message".into()),
+        };
+        conn.refers = false;
+        // (else whoever acknowledges without end would be sent to without end)
+        if conn.until.take().is_none() || conn.waits_for_frame() {
+            return Err("it acknowledges what was not sent".into());
+        }
+        let polled = self.relay.acknowledged(name, number, label, cx.now);
+        polled
+            .into_iter()
+            .for_each(|it| self.send_polled(id, it, cx));
         Ok(())
     }
 
@@ -137,8 +150,8 @@ impl<L: Line, A: Clone + PartialEq + fmt::Display> Peers<L, A> {
         }
         // (what is sent changes none of them)
         let children = mem::take(&mut self.children);
-        for (name, id) in &children {
-            self.poll_by(*id, name, cx);
+        for (id, polled) in self.relay.polled_all(&children, cx.now) {
+            self.send_polled(id, polled, cx);
         }
         self.children = children;
     }
@@ -173,38 +186,37 @@ impl<L: Line, A: Clone + PartialEq + fmt::Display> Peers<L, A> {
 
     /// Sends a child what is to be sent to it now.
     pub(super) fn poll(&mut self, name: &str, cx: &mut Context<'_>) {
-        let id = self.children.get(name).copied();
-        id.into_iter().for_each(|id| self.poll_by(id, name, cx));
+        if let Some(id) = self.children.get(name).copied() {
+            let polled = self.relay.polled(name, cx.now);
+            polled
+                .into_iter()
+                .for_each(|it| self.send_polled(id, it, cx));
+        }
     }
 
-    /// The same for one that has this connection.
-    fn poll_by(&mut self, id: u64, name: &str, cx: &mut Context<'_>) {
-        if let Some((label, body)) = self.relay.poll(name, cx.now) {
-            match self.reference(id, name, &body, cx) {
-                Some(it) => {
-                    self.answers(id, name, travels(body.bytes.len()) / MAKES, cx.now);
-                    self.conn_with(id, |conn| conn.refers = true);
-                    self.send(id, wire::reference(label, &it));
-                }
-                None => self.send_whole(id, name, label, body, cx.now),
+    /// Sends this to the child that has this connection.
+    fn send_polled(&mut self, id: u64, polled: Polled, cx: &mut Context<'_>) {
+        let patience = self.later(polled.took, polled.late);
+        match self.reference(id, &polled, cx) {
+            Some(it) => {
+                let takes = travels(polled.body.bytes.len()) / MAKES;
+                self.answers(id, patience + takes, cx.now);
+                self.conn_with(id, |conn| conn.refers = true);
+                self.send(id, wire::reference(polled.label, &it));
             }
+            None => self.send_whole(id, patience, polled.label, polled.body, cx.now),
         }
     }
 
     /// What stands for this body where a child may have all that is in it: the last whole table. It
     /// does so once for each frame, which goes whole from then on: so it need not be right.
-    fn reference(
-        &mut self,
-        id: u64,
-        name: &str,
-        body: &Arc<Body>,
-        cx: &mut Context<'_>,
-    ) -> Option<Reference> {
+    fn reference(&mut self, id: u64, polled: &Polled, cx: &mut Context<'_>) -> Option<Reference> {
+        let body = &polled.body;
         let is_table = |table: &Arc<Body>| Arc::ptr_eq(table, body);
         if !self.relay.since_last_table().next().map_or(false, is_table) {
             return None;
         }
-        let may = self.conns.get(&id)?.version >= REFERS && self.relay.under_way(name)?.2 == 1;
+        let may = self.conns.get(&id)?.version >= REFERS && polled.times == 1;
         let head = body.bytes.get(..HEAD_BYTES);
         let head = head.filter(|_| may && body.bytes.len() > SHORT_TABLE)?;
         let head = head.try_into().ok()?;
@@ -220,19 +232,28 @@ impl<L: Line, A: Clone + PartialEq + fmt::Display> Peers<L, A> {
     }
 
     /// Sends a child a frame with its body.
-    fn send_whole(&mut self, id: u64, name: &str, label: u16, body: Arc<Body>, now: Instant) {
-        self.answers(id, name, travels(body.bytes.len()), now);
-        let is_socket = self.line(id).map_or(false, |(line, _)| line.is_socket());
-        let frame = match body.bytes.len() > JOINED[usize::from(!is_socket)] {
-            true => Chunk::Frame(wire::frame_head(label, &body), body),
-            false => Chunk::Bytes([&wire::frame_head(label, &body), &*body.bytes].concat()),
-        };
-        self.push(id, frame);
+    fn send_whole(
+        &mut self,
+        id: u64,
+        patience: Duration,
+        label: u16,
+        body: Arc<Body>,
+        now: Instant,
+    ) {
+        self.answers(id, patience + travels(body.bytes.len()), now);
+        self.push_by(id, |conn| {
+            let most = JOINED[usize::from(!conn.line.is_socket())];
+            let frame = match body.bytes.len() > most {
+                true => Chunk::Frame(wire::frame_head(label, &body), body),
+                false => Chunk::Bytes([&wire::frame_head(label, &body), &*body.bytes].concat()),
+            };
+            conn.output.push_back(frame);
+        });
     }
 
-    /// A child is to answer what is sent now, which takes so much longer than others.
-    pub(super) fn answers(&mut self, id: u64, name: &str, takes: Duration, now: Instant) {
-        let until = Some(now + self.patience(name) + takes);
+    /// A child is to answer what is sent now within this time.
+    fn answers(&mut self, id: u64, within: Duration, now: Instant) {
+        let until = Some(now + within);
         self.conn_with(id, |conn| (conn.until, conn.refers) = (until, false));
         self.comes_until(until);
     }
