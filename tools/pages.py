@@ -125,7 +125,7 @@ class Function:
 def says_why(text):
     """Whether a clause says of each refusal which one it is, and not only what it leaves, or which
     ones there are. Where they are all of memory or of writing, that is enough."""
-    if re.search(r"\.new\b|\bKeeps\b", text):
+    if re.search(r"\.new\b|\b(Keeps|IsFaultOf)\b", text):
         return False
     # (also of whatever value the answer is about)
     of = r"(\(\w+ : \w+\) → [^→]+ → )?"

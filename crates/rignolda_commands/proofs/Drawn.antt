@@ -9,8 +9,8 @@ use Rattle.stab_task.specs.declared.file.LoadFault.{LoadFault}
 use Rattle.stab_task.specs.declared.file.LoadFault.TheVariants as load
 use Rattle.rignolda_draw.specs.Written.{Begun}
 use Rattle.rignolda_commands.specs.Drawn.{IsDrawn, IsUndrawn, IsUndrawnBy, IsUndrawnJob, has_steps}
-use Rattle.rignolda_commands.specs.declared.scenario.StepsFault.{StepsFault}
-use Rattle.rignolda_commands.specs.declared.scenario.StepsFault.TheVariants.{Job}
+use Rattle.rignolda_commands.specs.declared.fault.CommandFault.{CommandFault}
+use Rattle.rignolda_commands.specs.declared.fault.CommandFault.TheVariants.{Job}
 use Rattle.rignolda_draw.proofs.ForCallers.{kept_bytes}
 use Rattle.rignolda_commands.proofs.Told.{by_load}
 
@@ -40,17 +40,17 @@ memory_of_any None = tt
 memory_of_any (Some input) = memory_is_refused (has_steps (value_of input)) input
 
 -- where a run is not written to its end, and writing did not fail, memory was refused
-is_memory : (refusal : CliFault) (fault : StepsFault) → fault ≡ Job refusal → (refusal ≢ Write → refusal ≡ Memory) → fault ≢ Job Write → fault ≡ Job Memory
+is_memory : (refusal : CliFault) (fault : CommandFault) → fault ≡ Job refusal → (refusal ≢ Write → refusal ≡ Memory) → fault ≢ Job Write → fault ≡ Job Memory
 is_memory refusal fault is only other = is ∙ ap Job (only (λ failed. other (is ∙ ap Job failed)))
 
 -- which may be refused for any bytes
-pub unwritten : (had : Option (List ℕ)) (refusal : CliFault) (fault : StepsFault) → fault ≡ Job refusal → (refusal ≢ Write → refusal ≡ Memory)
+pub unwritten : (had : Option (List ℕ)) (refusal : CliFault) (fault : CommandFault) → fault ≡ Job refusal → (refusal ≢ Write → refusal ≡ Memory)
     → fault ≢ Job Write → IfSome had (λ input. IsUndrawn input fault)
 unwritten had refusal fault is only other =
     subst (λ its_fault. IfSome had (λ input. IsUndrawn input its_fault)) (sym (is_memory refusal fault is only other)) (memory_of_any had)
 
 -- so nothing was written for another fault
-pub nothing_else : (old new : Option (List ℕ)) (refusal : CliFault) (fault : StepsFault) → fault ≡ Job refusal → (refusal ≢ Write → refusal ≡ Memory)
+pub nothing_else : (old new : Option (List ℕ)) (refusal : CliFault) (fault : CommandFault) → fault ≡ Job refusal → (refusal ≢ Write → refusal ≡ Memory)
     → fault ≢ Job Write → fault ≢ Job Memory → Keeps old new
 nothing_else old new refusal fault is only other no_memory = absurd (no_memory (is_memory refusal fault is only other))
 
@@ -61,7 +61,7 @@ begun_of_any None old new is_picture text is begun = tt
 begun_of_any (Some input) old new is_picture text is begun = (text, is, begun)
 
 -- and only the beginning of the run was
-pub begun_then : (had old new : Option (List ℕ)) (is_picture : Bool) (text : List ℕ) (refusal : CliFault) (fault : StepsFault)
+pub begun_then : (had old new : Option (List ℕ)) (is_picture : Bool) (text : List ℕ) (refusal : CliFault) (fault : CommandFault)
     → IfSome had (λ input. IsDrawn is_picture input text) → fault ≡ Job refusal → (refusal ≢ Write → Begun old new text) → fault ≢ Job Write
     → Keeps old new ⊎ IfSome had (λ input. (whole : List ℕ) × IsDrawn is_picture input whole × Begun old new whole)
 begun_then had old new is_picture text refusal fault drawn is begun other =

@@ -6,3 +6,4 @@ pub mod Drawn
 pub mod ReadAs
 pub mod Unread
 pub mod UnscheduledLogs
+pub mod Among

@@ -33,8 +33,8 @@ use Rattle.rignolda_scenario.specs.declared.step.Step.{Step}
 use Rattle.rignolda_commands.specs.Checked.{IsChecked, IsCheckedAs, IsCheckedLink, IsCheckedTree, IsUnchecked, IsUncheckedAs, IsUncheckedLink, IsUncheckedTree}
 use Rattle.rignolda_commands.specs.Drawn.{IsDrawn, IsDrawnAs, IsDrawnBy, IsDrawnLink, IsUndrawn, IsUndrawnBy, has_steps, task_of}
 use Rattle.rignolda_commands.specs.Told.{steps_refused}
-use Rattle.rignolda_commands.specs.declared.fault.CheckFault.{CheckFault}
-use Rattle.rignolda_commands.specs.declared.scenario.StepsFault.TheVariants.{Job}
+use Rattle.rignolda_commands.specs.declared.fault.CommandFault.{CommandFault}
+use Rattle.rignolda_commands.specs.declared.fault.CommandFault.TheVariants.{Job}
 use Rattle.rignolda_commands.proofs.Told.{unread, unrun}
 
 -- ---- what a job and a scenario name
@@ -100,7 +100,7 @@ pub checked_as_a_tree : (input text : List ℕ) (its_job : JobValue) (obeys : Bo
 checked_as_a_tree input text its_job obeys answer (whole, read, same) is =
     subst (λ k. IsCheckedAs k input text obeys answer) (sym (job_is_a_tree input whole read)) is
 
-pub unchecked_as_a_tree : (input : List ℕ) (had : Option (List ℕ)) (its_job : JobValue) (fault : CheckFault) → IsUnscheduled (job input) its_job
+pub unchecked_as_a_tree : (input : List ℕ) (had : Option (List ℕ)) (its_job : JobValue) (fault : CommandFault) → IsUnscheduled (job input) its_job
     → IsUncheckedTree input had fault → IsUnchecked input had fault
 unchecked_as_a_tree input had its_job fault (whole, read, same) why =
     subst (λ k. IsUncheckedAs k input had fault) (sym (job_is_a_tree input whole read)) why
@@ -111,7 +111,7 @@ pub checked_as_a_link : (input text : List ℕ) (obeys : Bool) (answer : List �
 checked_as_a_link input text obeys answer none is =
     subst (λ k. IsCheckedAs k input text obeys answer) (sym (read_as_a_link (value_of input) none)) is
 
-pub unchecked_as_a_link : (input : List ℕ) (had : Option (List ℕ)) (fault : CheckFault) → IfSome (value_of input) HasNoOthers
+pub unchecked_as_a_link : (input : List ℕ) (had : Option (List ℕ)) (fault : CommandFault) → IfSome (value_of input) HasNoOthers
     → IsUncheckedLink input had fault → IsUnchecked input had fault
 unchecked_as_a_link input had fault none why =
     subst (λ k. IsUncheckedAs k input had fault) (sym (read_as_a_link (value_of input) none)) why

@@ -12,7 +12,7 @@ use Rattle.stab_task.specs.declared.fault.CliFault.TheVariants as task
 use Rattle.stab_task.specs.declared.file.LoadFault.{LoadFault}
 use Rattle.stab_task.specs.declared.file.LoadFault.TheVariants as load
 use Rattle.rignolda_commands.specs.Told.{IsUntold, steps_refused}
-use Rattle.rignolda_commands.specs.declared.scenario.StepsFault.TheVariants.{Job}
+use Rattle.rignolda_commands.specs.declared.fault.CommandFault.TheVariants.{Job}
 
 -- bytes that are no scenario
 pub unread : (input : List ℕ) (refusal : ScenarioFault) → (refusal ≢ fault.Memory → scenario input ≡ Err refusal)

@@ -5,8 +5,8 @@ use Rattle.rignolda_findings.specs.declared.refusal.Kind.TheVariants as kind
 use Rattle.rignolda_explain.specs.Kinds.{chosen}
 use Rattle.stab_json.specs.Values.{value_of}
 use Rattle.rignolda_commands.specs.Checked.{IsUnchecked, IsUncheckedAs, IsUnloadedReport}
-use Rattle.rignolda_commands.specs.declared.fault.CheckFault.{CheckFault}
-use Rattle.rignolda_commands.specs.declared.fault.CheckFault.TheVariants.{Job, Backlogs, Unloaded, Line, LinkLine}
+use Rattle.rignolda_commands.specs.declared.fault.CommandFault.{CommandFault}
+use Rattle.rignolda_commands.specs.declared.fault.CommandFault.TheVariants.{Job, Backlogs, Unloaded, Line, LinkLine}
 use Rattle.stab_task.specs.Loading.{IsLoadFault, IsUnloaded}
 use Rattle.stab_task.specs.declared.file.LoadFault.{LoadFault}
 use Rattle.stab_task.specs.declared.file.LoadFault.TheVariants as load
@@ -37,22 +37,23 @@ report_untold : (text : List ℕ) (fault : CliFault) → IsUnloadedReport (Some 
 report_untold text fault (other, why) = (other, fault_untold text fault why)
 
 -- why there is no verdict on a text is why there is none where it is not told what the text is
-untold : (its_kind : Kind) (input text : List ℕ) (fault : CheckFault) → IsUncheckedAs its_kind input (Some text) fault
+untold : (its_kind : Kind) (input text : List ℕ) (fault : CommandFault) → IsUncheckedAs its_kind input (Some text) fault
     → IsUncheckedAs its_kind input None fault
 untold its_kind input text (Job fault) why = why
 untold its_kind input text (Backlogs refusal) why = why
 untold its_kind input text (Unloaded fault) why = report_untold text fault why
 untold its_kind input text (Line line) (is, its_job, begun, none) = (is, its_job, begun, tt)
 untold its_kind input text (LinkLine line) (is, begun, none) = (is, begun, tt)
+untold its_kind input text other why = absurd why
 
 -- and where it is told, it is that text
-told_as : (its_kind : Kind) (input text : List ℕ) (had : Option (List ℕ)) (fault : CheckFault) → IfSome had (λ it. text ≡ it)
+told_as : (its_kind : Kind) (input text : List ℕ) (had : Option (List ℕ)) (fault : CommandFault) → IfSome had (λ it. text ≡ it)
     → IsUncheckedAs its_kind input (Some text) fault → IsUncheckedAs its_kind input had fault
 told_as its_kind input text None fault same why = untold its_kind input text fault why
 told_as its_kind input text (Some it) fault same why = subst (λ told. IsUncheckedAs its_kind input (Some told) fault) same why
 
 -- so it is of the job as well, and of bytes that are lent as a list
-pub as_told : (asked had : Option (List ℕ)) (bytes text lent lent_text : List ℕ) (fault : CheckFault) → lent ≡ bytes → lent_text ≡ text
+pub as_told : (asked had : Option (List ℕ)) (bytes text lent lent_text : List ℕ) (fault : CommandFault) → lent ≡ bytes → lent_text ≡ text
     → IfSome asked (λ it. bytes ≡ it) → IfSome had (λ it. text ≡ it) → IsUnchecked lent (Some lent_text) fault
     → IfSome asked (λ input. IsUnchecked input had fault)
 as_told None had bytes text lent lent_text fault same_bytes same_text same_job same why = tt

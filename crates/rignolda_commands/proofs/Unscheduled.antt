@@ -22,9 +22,8 @@ use Rattle.rignolda_since.specs.Backlogs.{backlogs}
 use Rattle.rignolda_since.specs.declared.backlogs.BacklogFault.{BacklogFault}
 use Rattle.rignolda_verdict.specs.BoundsTexts.{bounds_text}
 use Rattle.rignolda_commands.specs.Begun.{AreBounds, HasNoBounds, IsBegunUnscheduled}
-use Rattle.rignolda_commands.specs.declared.bounds.BoundsFault.TheVariants as bounds
 use Rattle.rignolda_commands.specs.Checked.{IsCheckedTree, IsJudgedBy, IsUncheckedTree, given_backlogs}
-use Rattle.rignolda_commands.specs.declared.fault.CheckFault.TheVariants.{Backlogs, Line}
+use Rattle.rignolda_commands.specs.declared.fault.CommandFault.TheVariants.{Backlogs, Job, Line}
 
 -- it can begin
 pub begun_unscheduled : (input : List ℕ) (its_job : JobValue) → IsUnscheduled (job input) its_job → IsNetwork (network its_job) → IsBegunUnscheduled input its_job
@@ -41,7 +40,7 @@ unbegun input its_job fault (whole, read, same) why =
     (whole, read, subst (λ j. IsScheduleReason j.params j.starts (network j) whole.schedule fault) same (why whole.schedule))
 
 -- why it has no bounds, where its links cannot begin: it has the shape of a job of a tree
-pub no_bounds : (input : List ℕ) (its_job : JobValue) (fault : CliFault) → IsUnscheduled (job input) its_job → IsUnanswered Tree input fault → HasNoBounds input (bounds.Job fault)
+pub no_bounds : (input : List ℕ) (its_job : JobValue) (fault : CliFault) → IsUnscheduled (job input) its_job → IsUnanswered Tree input fault → HasNoBounds input (Job fault)
 no_bounds input its_job fault (whole, read, same) why = (
   why,
   λ is shaped. let refused : IsUnanswered Tree input (task.Job tree.Shape) = subst (IsUnanswered Tree input) is why in

@@ -8,7 +8,7 @@ use Rattle.rignolda_since.specs.LogTexts.{SaysLogs}
 use Rattle.rignolda_since.specs.ObeysLogs.{ObeysLogs}
 use Rattle.rignolda_since.specs.declared.logs.LogsFault.{LogsFault}
 use Rattle.rignolda_commands.specs.Judged.{IsJudged, IsUnjudged, IsUnscheduledJob, logs_in}
-use Rattle.rignolda_commands.specs.declared.judge_fault.JudgeFault.TheVariants.{Logs}
+use Rattle.rignolda_commands.specs.declared.fault.CommandFault.TheVariants.{Logs}
 
 -- logs of it that are judged
 pub judged_by_whole : (input : List ℕ) (its_job : JobValue) (its_logs : LogsValue) (obeys : Bool) (answer : List ℕ) → IsUnscheduledJob input its_job → logs_in its_job (value_of input) ≡ Ok its_logs

@@ -24,8 +24,8 @@ use Rattle.stab_task.specs.declared.fault.CliFault.TheVariants as task
 use Rattle.rignolda_explain.specs.Kinds.{chosen}
 use Rattle.rignolda_findings.specs.declared.refusal.Kind.TheVariants.{LinkJob as OfLink}
 use Rattle.rignolda_verdict.specs.BoundsTexts.{bounds_text}
-use Rattle.rignolda_commands.specs.declared.bounds.BoundsFault.{BoundsFault}
-use Rattle.rignolda_commands.specs.declared.bounds.BoundsFault.TheVariants as bounds
+use Rattle.rignolda_commands.specs.declared.fault.CommandFault.{CommandFault}
+use Rattle.rignolda_commands.specs.declared.fault.CommandFault.TheVariants as its
 
 -- these bytes are this job, and each of its links can begin
 pub record IsBegun (input : List ℕ) (its_job : JobValue) : Type 0 where
@@ -58,12 +58,13 @@ IsForLinks input = (chosen None (value_of input) ≡ OfLink) × HasLinkShape inp
 
 -- why these bytes have no bounds: what keeps a job from its answer by `stab tree`, but where they
 -- are a link job, which has neither the shape nor the version of a job of a tree
-abbrev pub HasNoBounds : List ℕ → BoundsFault → Type 0
-HasNoBounds input (bounds.Job fault) =
+abbrev pub HasNoBounds : List ℕ → CommandFault → Type 0
+HasNoBounds input (its.Job fault) =
     IsUnbegun input fault × (fault ≡ task.Job tree.Shape → ¬ IsForLinks input)
     × (fault ≡ task.Job tree.Version → ¬ IsForLinks input)
-HasNoBounds input bounds.LinkJob =
+HasNoBounds input its.LinkJob =
     ((job input ≡ Err tree.Shape) ⊎ (job input ≡ Err tree.Version)) × IsForLinks input
+HasNoBounds input fault = ⊥
 
 -- the text is that of the bounds of the nodes of the job that these bytes are
 pub record AreBounds (input text : List ℕ) : Type 0 where

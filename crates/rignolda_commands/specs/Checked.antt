@@ -36,9 +36,9 @@ use Rattle.rignolda_verdict.specs.LinkVerdicts.{ObeysLink, SaysLinkVerdict}
 use Rattle.rignolda_verdict.specs.Verdicts.{SaysVerdict}
 use Rattle.rignolda_commands.specs.Begun.{IsBegun, IsBegunLink}
 use Rattle.rignolda_commands.specs.Drawn.{task_of}
-use Rattle.rignolda_commands.specs.declared.fault.CheckFault.{CheckFault}
-use Rattle.rignolda_commands.specs.declared.fault.CheckFault.TheVariants.{Job, Backlogs, Unloaded, Line}
-use Rattle.rignolda_commands.specs.declared.fault.CheckFault.TheVariants.{LinkLine}
+use Rattle.rignolda_commands.specs.declared.fault.CommandFault.{CommandFault}
+use Rattle.rignolda_commands.specs.declared.fault.CommandFault.TheVariants.{Job, Backlogs, Unloaded}
+use Rattle.rignolda_commands.specs.declared.fault.CommandFault.TheVariants.{Line, LinkLine}
 
 -- This text is that of a report of this job. It is answered that it obeys exactly if it obeys the
 -- laws of the job's network, and the answer says so, or which part is broken.
@@ -110,7 +110,7 @@ IsUnloadedReport had fault = (fault ≢ Memory) × IsUnloaded had fault
 -- why there is no verdict on bytes of this kind and the text that is checked, where its reader
 -- tells it: the job is refused, as `stab` does it, or its backlogs are; or the text is not loaded,
 -- or it is that of no report of the job, or of no link
-abbrev pub IsUncheckedAs : Kind → List ℕ → Option (List ℕ) → CheckFault → Type 0
+abbrev pub IsUncheckedAs : Kind → List ℕ → Option (List ℕ) → CommandFault → Type 0
 IsUncheckedAs its_kind input had (Job fault) = IsUnanswered (task_of its_kind) input fault
 IsUncheckedAs its_kind input had (Unloaded fault) = IsUnloadedReport had fault
 IsUncheckedAs its_kind input had (Backlogs refusal) =
@@ -123,14 +123,15 @@ IsUncheckedAs its_kind input had (Line line) =
 IsUncheckedAs its_kind input had (LinkLine line) =
     (its_kind ≡ kind.LinkJob) × ((its_job : LinkJob) × IsBegunLink input its_job)
     × IfSome had IsNoLink
+IsUncheckedAs its_kind input had fault = ⊥
 
 -- the same of a job of a tree, and of a link job
-abbrev pub IsUncheckedTree : List ℕ → Option (List ℕ) → CheckFault → Type 0
+abbrev pub IsUncheckedTree : List ℕ → Option (List ℕ) → CommandFault → Type 0
 IsUncheckedTree input had fault = IsUncheckedAs kind.Job input had fault
 
-abbrev pub IsUncheckedLink : List ℕ → Option (List ℕ) → CheckFault → Type 0
+abbrev pub IsUncheckedLink : List ℕ → Option (List ℕ) → CommandFault → Type 0
 IsUncheckedLink input had fault = IsUncheckedAs kind.LinkJob input had fault
 
 -- why there is no verdict on these bytes and this text
-abbrev pub IsUnchecked : List ℕ → Option (List ℕ) → CheckFault → Type 0
+abbrev pub IsUnchecked : List ℕ → Option (List ℕ) → CommandFault → Type 0
 IsUnchecked input had fault = IsUncheckedAs (chosen None (value_of input)) input had fault

@@ -35,8 +35,8 @@ use Rattle.stab_treecore.specs.Refusals.{NamesLink}
 use Rattle.rignolda_commands.specs.Told.{IsUntold}
 use Rattle.rignolda_commands.specs.declared.run.Drawing.{Drawing}
 use Rattle.rignolda_commands.specs.declared.run.Drawing.TheVariants as drawing
-use Rattle.rignolda_commands.specs.declared.scenario.StepsFault.{StepsFault}
-use Rattle.rignolda_commands.specs.declared.scenario.StepsFault.TheVariants as steps
+use Rattle.rignolda_commands.specs.declared.fault.CommandFault.{CommandFault}
+use Rattle.rignolda_commands.specs.declared.fault.CommandFault.TheVariants as its
 
 -- these bytes are a link job with a lawful start, and this is the text of its run, unless it is
 -- drawn as a picture
@@ -91,17 +91,17 @@ IsDrawnBy true is_picture input text = IsDrawnScenario is_picture input text
 IsDrawnBy false is_picture input text = IsDrawnJob is_picture input text
 
 -- why such bytes have no run
-abbrev pub IsUndrawnBy : Bool → List ℕ → StepsFault → Type 0
+abbrev pub IsUndrawnBy : Bool → List ℕ → CommandFault → Type 0
 IsUndrawnBy true input its_fault = IsUntold input its_fault
 IsUndrawnBy false input its_fault =
-    (refusal : CliFault) × (its_fault ≡ steps.Job refusal) × IsUndrawnJob input refusal
+    (refusal : CliFault) × (its_fault ≡ its.Job refusal) × IsUndrawnJob input refusal
 
 -- the run of these bytes
 abbrev pub IsDrawn : Bool → List ℕ → List ℕ → Type 0
 IsDrawn is_picture input text = IsDrawnBy (has_steps (value_of input)) is_picture input text
 
 -- why these bytes have no run
-abbrev pub IsUndrawn : List ℕ → StepsFault → Type 0
+abbrev pub IsUndrawn : List ℕ → CommandFault → Type 0
 IsUndrawn input its_fault = IsUndrawnBy (has_steps (value_of input)) input its_fault
 
 -- the text that is drawn of a run, or the whole drawing

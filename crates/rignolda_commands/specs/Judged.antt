@@ -16,10 +16,9 @@ use Rattle.rignolda_since.specs.ObeysLogs.{ObeysLogs}
 use Rattle.rignolda_since.specs.declared.logs.LogsFault.{LogsFault}
 use Rattle.rignolda_since.specs.declared.logs.LogsFault.TheVariants as fault
 use Rattle.rignolda_commands.specs.Unanswered.{IsUnanswered}
-use Rattle.stab_task.specs.Statuses.{status_of}
 use Rattle.stab_task.specs.declared.command.Task.TheVariants.{Tree}
-use Rattle.rignolda_commands.specs.declared.judge_fault.JudgeFault.{JudgeFault}
-use Rattle.rignolda_commands.specs.declared.judge_fault.JudgeFault.TheVariants.{Job, Logs}
+use Rattle.rignolda_commands.specs.declared.fault.CommandFault.{CommandFault}
+use Rattle.rignolda_commands.specs.declared.fault.CommandFault.TheVariants.{Job, Logs}
 
 -- these bytes are this job
 abbrev pub IsJob : List ℕ → JobValue → Type 0
@@ -46,13 +45,9 @@ pub record IsJudged (input : List ℕ) (obeys : Bool) (answer : List ℕ) : Type
   pub says : SaysLogs (network its_job) its_logs obeys answer
 
 -- why these bytes are not judged: the job is refused, as `stab tree` does it, or its logs are
-abbrev pub IsUnjudged : List ℕ → JudgeFault → Type 0
+abbrev pub IsUnjudged : List ℕ → CommandFault → Type 0
 IsUnjudged input (Job refusal) = IsUnanswered Tree input refusal
 IsUnjudged input (Logs refusal) =
     (its_job : JobValue) × IsJob input its_job
     × (logs_in its_job (value_of input) ≡ Err refusal)
-
--- the status that `stab` has for this fault, and 1 for logs that are refused
-abbrev pub judge_status : JudgeFault → ℕ
-judge_status (Job refusal) = status_of refusal
-judge_status (Logs refusal) = 1
+IsUnjudged input its_fault = ⊥

@@ -1,5 +1,6 @@
 pub mod Begun
 pub mod Checked
+pub mod Commands
 pub mod Drawn
 pub mod Explained
 pub mod Statuses

@@ -14,23 +14,17 @@ use Rattle.rignolda_scenario.specs.declared.fault.ScenarioFault.{ScenarioFault}
 use Rattle.rignolda_scenario.specs.declared.fault.ScenarioFault.TheVariants as fault
 use Rattle.rignolda_scenario.specs.declared.read.Scenario.{Scenario}
 use Rattle.stab_task.specs.Loading.{most_bytes}
-use Rattle.stab_task.specs.Statuses.{status_of}
 use Rattle.stab_task.specs.declared.fault.CliFault.{CliFault}
 use Rattle.stab_task.specs.declared.fault.CliFault.TheVariants as task
-use Rattle.rignolda_commands.specs.declared.scenario.StepsFault.{StepsFault}
-use Rattle.rignolda_commands.specs.declared.scenario.StepsFault.TheVariants.{Job, Steps}
+use Rattle.rignolda_commands.specs.declared.fault.CommandFault.{CommandFault}
+use Rattle.rignolda_commands.specs.declared.fault.CommandFault.TheVariants.{Job, Steps}
 
 -- the fault of a command that is of this refusal
-abbrev pub steps_refused : ScenarioFault → StepsFault
+abbrev pub steps_refused : ScenarioFault → CommandFault
 steps_refused fault.Memory = Job task.Memory
 steps_refused (fault.Job refusal) = Job (task.Job refusal)
 steps_refused (fault.Run (change.Begin refusal)) = Job (task.Tree refusal)
 steps_refused refusal = Steps refusal
-
--- the status that `stab` has for this fault, and 1 for steps that are refused
-abbrev pub steps_status : StepsFault → ℕ
-steps_status (Job fault) = status_of fault
-steps_status (Steps refusal) = 1
 
 -- the text is that of the scenario that these bytes are
 pub record IsTold (input text : List ℕ) : Type 0 where
@@ -50,14 +44,14 @@ IsRefused input refusal =
     (refusal ≢ fault.Memory → scenario input ≡ Err refusal) ⊎ IsUnrunnable input refusal
 
 -- these bytes cannot be loaded; a reader may fail, and memory may be refused, at any bytes
-abbrev pub IsUnreadable : List ℕ → StepsFault → Type 0
+abbrev pub IsUnreadable : List ℕ → CommandFault → Type 0
 IsUnreadable input (Job task.Read) = Unit {0}
 IsUnreadable input (Job task.TooLong) = most_bytes < length input
 IsUnreadable input (Job task.Memory) = Unit {0}
 IsUnreadable input _ = ⊥
 
 -- why these bytes have no text: they cannot be loaded, or are refused
-abbrev pub IsUntold : List ℕ → StepsFault → Type 0
+abbrev pub IsUntold : List ℕ → CommandFault → Type 0
 IsUntold input its_fault =
     IsUnreadable input its_fault
     ⊎ ((refusal : ScenarioFault) × (its_fault ≡ steps_refused refusal) × IsRefused input refusal)

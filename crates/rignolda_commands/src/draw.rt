@@ -3,6 +3,7 @@ ghost use Rattle.std.specs.Prelude.{IfErr, IfOk, IfSome, OnOk, option_map};
 ghost use Rattle.std.specs.Io.KnownBytes.{Appends, Keeps};
 ghost use Rattle.serde_json.specs.Data.{Data};
 ghost use Rattle.serde_json.specs.View.{view};
+ghost use Rattle.rignolda_commands.specs.Commands.{IsFaultOf, Steps};
 ghost use Rattle.rignolda_commands.specs.Drawn.{IsDrawn, IsDrawnAs, IsDrawnBy, IsDrawnLink};
 ghost use Rattle.rignolda_commands.specs.Drawn.{IsDrawnScenario, IsDrawnTree, IsUndrawn, IsUndrawnBy};
 ghost use Rattle.rignolda_commands.specs.Drawn.{IsReplayed, drawn_text, has_steps, task_of};
@@ -13,19 +14,16 @@ ghost use Rattle.stab_job.specs.Jobs.{job};
 ghost use Rattle.stab_job.specs.Parts.{SameMembers};
 ghost use Rattle.stab_job.specs.Unscheduled.{IsUnscheduled};
 ghost use Rattle.stab_json.specs.Values.{value_of};
-ghost use Rattle.rignolda_scenario.specs.Scenarios.{scenario};
 ghost use Rattle.stab_script.specs.LinkJobs.{link_job};
-ghost use Rattle.stab_script.specs.Members.{HasNoOthers};
 ghost use Rattle.rignolda_commands.specs.Unanswered.{IsUnanswered};
 ghost use Rattle.stab_task.specs.declared.command.Task.TheVariants.{Link, Tree};
 
+use crate::fault::CommandFault;
 use crate::job::{job_of, link_job_of, scenario_beside, scenario_of};
 use crate::kind::has_steps;
 use crate::run::{Drawing, link_run, scenario_run, tree_run, write_drawing};
-use crate::scenario::StepsFault;
 use rignolda_explain::kind_of;
 use rignolda_findings::{Kind, seems_a_link_job, seems_to_have_steps};
-use rignolda_scenario::Scenario;
 use serde_json::Value;
 use stab_job::{Job, read_plain_job};
 use stab_json::read_value;
@@ -47,16 +45,17 @@ pub fn act_draw<R: Read, W: Write>(
     is_picture: bool,
     reader: &mut R,
     writer: &mut W,
-) -> Result<(), StepsFault>
+) -> Result<(), CommandFault>
     ensures written { OnOk result (IfSome (R.remaining reader.old) (λ input.
         (text : List ℕ) × IsDrawn is_picture input text
         × Appends (W.contents writer.old) (W.contents writer.new) text)) }
-    ensures fault { IfErr result (λ fault. fault ≢ StepsFault.Job CliFault.Write
+    ensures fault { IfErr result (λ fault. fault ≢ CommandFault.Job CliFault.Write
         → IfSome (R.remaining reader.old) (λ input. IsUndrawn input fault)) }
-    ensures nothing { IfErr result (λ fault. fault ≢ StepsFault.Job CliFault.Write
-        → fault ≢ StepsFault.Job CliFault.Memory
+    ensures among { IfErr result (IsFaultOf Steps) }
+    ensures nothing { IfErr result (λ fault. fault ≢ CommandFault.Job CliFault.Write
+        → fault ≢ CommandFault.Job CliFault.Memory
         → Keeps (W.contents writer.old) (W.contents writer.new)) }
-    ensures begun { IfErr result (λ fault. fault ≢ StepsFault.Job CliFault.Write
+    ensures begun { IfErr result (λ fault. fault ≢ CommandFault.Job CliFault.Write
         → Keeps (W.contents writer.old) (W.contents writer.new)
         ⊎ IfSome (R.remaining reader.old) (λ input.
         (text : List ℕ) × IsDrawn is_picture input text
@@ -68,17 +67,18 @@ pub fn act_draw<R: Read, W: Write>(
 }
 
 /// The run of the job that the reader gives.
-#[tactic(auto, using(crate::proofs::Drawn::unloaded))]
+#[tactic(auto, using(crate::proofs::Drawn::unloaded, crate::proofs::Among::of_draw))]
 fn draw_input<R: Read>(
     alloc: Global,
     is_picture: bool,
     reader: &mut R,
-) -> Result<Drawing, StepsFault>
+) -> Result<Drawing, CommandFault>
     ensures drawn { IfOk result (λ drawing. IfSome (R.remaining reader.old)
         (λ input. IsDrawn is_picture input (drawn_text drawing))) }
     ensures replayed { IfOk result IsReplayed }
     ensures fault { IfErr result (λ fault.
         IfSome (R.remaining reader.old) (λ input. IsUndrawn input fault)) }
+    ensures among { IfErr result (IsFaultOf Steps) }
 {
     let bytes = load(alloc, reader)?;
     let drawing = draw_bytes(alloc, is_picture, &bytes)?;
@@ -87,7 +87,7 @@ fn draw_input<R: Read>(
 
 /// The run of the job that these bytes are, or of its steps. The job is read off the text, as one of
 /// the kind that it seems to be; and where that fails, all that is said comes from its value.
-fn draw_bytes(alloc: Global, is_picture: bool, bytes: &[u8]) -> Result<Drawing, StepsFault>
+fn draw_bytes(alloc: Global, is_picture: bool, bytes: &[u8]) -> Result<Drawing, CommandFault>
     ensures drawn { IfOk result (λ drawing.
         IsDrawn is_picture bytes.now (drawn_text drawing)) }
     ensures replayed { IfOk result IsReplayed }
@@ -102,42 +102,23 @@ fn draw_bytes(alloc: Global, is_picture: bool, bytes: &[u8]) -> Result<Drawing, 
     }
 }
 
-/// The same, where the bytes are read as a link job first.
-#[tactic(auto, using(crate::proofs::Drawn::memory_is_refused))]
-fn draw_link_first(alloc: Global, is_picture: bool, bytes: &[u8]) -> Result<Drawing, StepsFault>
+/// The same, where the bytes are read as a link job first, which has no other members.
+#[tactic(auto, using(crate::proofs::Drawn::memory_is_refused, crate::proofs::ReadAs::drawn_as_a_link, crate::proofs::ReadAs::undrawn_as_a_link))]
+fn draw_link_first(alloc: Global, is_picture: bool, bytes: &[u8]) -> Result<Drawing, CommandFault>
     ensures drawn { IfOk result (λ drawing.
         IsDrawn is_picture bytes.now (drawn_text drawing)) }
     ensures replayed { IfOk result IsReplayed }
     ensures fault { IfErr result (IsUndrawn bytes.now) }
 {
     match read_plain_link_job(alloc, bytes)? {
-        Some(job) => draw_plain_link(alloc, is_picture, bytes, job),
+        Some(job) => Ok(draw_link_job(alloc, is_picture, bytes, job)?),
         None => draw_by_value(alloc, is_picture, bytes),
     }
 }
 
-/// The run of the link job that these bytes are, which have no other members.
-#[tactic(auto, using(crate::proofs::ReadAs::drawn_as_a_link, crate::proofs::ReadAs::undrawn_as_a_link))]
-fn draw_plain_link(
-    alloc: Global,
-    is_picture: bool,
-    bytes: &[u8],
-    job: LinkJob,
-) -> Result<Drawing, StepsFault>
-    requires job { link_job bytes.now ≡ Ok job }
-    requires others { IfSome (value_of bytes.now) HasNoOthers }
-    ensures drawn { IfOk result (λ drawing.
-        IsDrawn is_picture bytes.now (drawn_text drawing)) }
-    ensures replayed { IfOk result IsReplayed }
-    ensures fault { IfErr result (IsUndrawn bytes.now) }
-{
-    let drawing = draw_link_job(alloc, is_picture, bytes, job)?;
-    Ok(drawing)
-}
-
 /// The same, where the bytes are read as a scenario first.
 #[tactic(auto, using(crate::proofs::Drawn::memory_is_refused))]
-fn draw_steps_first(alloc: Global, is_picture: bool, bytes: &[u8]) -> Result<Drawing, StepsFault>
+fn draw_steps_first(alloc: Global, is_picture: bool, bytes: &[u8]) -> Result<Drawing, CommandFault>
     ensures drawn { IfOk result (λ drawing.
         IsDrawn is_picture bytes.now (drawn_text drawing)) }
     ensures replayed { IfOk result IsReplayed }
@@ -151,14 +132,14 @@ fn draw_steps_first(alloc: Global, is_picture: bool, bytes: &[u8]) -> Result<Dra
 
 /// The run of the steps of the job that these bytes are, where there are some among the members that
 /// were read beside it. Otherwise its schedule is drawn, which was not kept.
-#[tactic(auto, using(crate::proofs::ReadAs::with_their_steps, crate::proofs::ReadAs::undrawn_unread))]
+#[tactic(auto, using(crate::proofs::ReadAs::with_their_steps, crate::proofs::ReadAs::undrawn_unread, crate::proofs::ReadAs::drawn_with_steps, crate::proofs::ReadAs::undrawn_with_steps))]
 fn draw_plain_steps(
     alloc: Global,
     is_picture: bool,
     bytes: &[u8],
     its_job: Job,
     members: &Value,
-) -> Result<Drawing, StepsFault>
+) -> Result<Drawing, CommandFault>
     requires job { IsUnscheduled (job bytes.now) its_job }
     requires members { (d : Data) × (value_of bytes.now ≡ Some d) × SameMembers d (view members.now) }
     ensures drawn { IfOk result (λ drawing.
@@ -170,30 +151,17 @@ fn draw_plain_steps(
         return draw_by_value(alloc, is_picture, bytes);
     }
     let scenario = scenario_beside(alloc, bytes, its_job, members)?;
-    draw_steps(alloc, is_picture, bytes, &scenario)
-}
-
-/// The run of the scenario that these bytes are.
-#[tactic(auto, using(crate::proofs::ReadAs::drawn_with_steps, crate::proofs::ReadAs::undrawn_with_steps))]
-fn draw_steps(
-    alloc: Global,
-    is_picture: bool,
-    bytes: &[u8],
-    its_scenario: &Scenario,
-) -> Result<Drawing, StepsFault>
-    requires { scenario bytes.now ≡ Ok its_scenario.now }
-    ensures drawn { IfOk result (λ drawing.
-        IsDrawn is_picture bytes.now (drawn_text drawing)) }
-    ensures replayed { IfOk result IsReplayed }
-    ensures fault { IfErr result (IsUndrawn bytes.now) }
-{
-    let drawing = scenario_run(alloc, is_picture, its_scenario)?;
+    let drawing = scenario_run(alloc, is_picture, &scenario)?;
     Ok(drawing)
 }
 
 /// The same, where the bytes are read as a job with its schedule first.
 #[tactic(auto, using(crate::proofs::Drawn::memory_is_refused))]
-fn draw_schedule_first(alloc: Global, is_picture: bool, bytes: &[u8]) -> Result<Drawing, StepsFault>
+fn draw_schedule_first(
+    alloc: Global,
+    is_picture: bool,
+    bytes: &[u8],
+) -> Result<Drawing, CommandFault>
     ensures drawn { IfOk result (λ drawing.
         IsDrawn is_picture bytes.now (drawn_text drawing)) }
     ensures replayed { IfOk result IsReplayed }
@@ -214,7 +182,7 @@ fn draw_job(
     bytes: &[u8],
     its_job: Job,
     members: &Value,
-) -> Result<Drawing, StepsFault>
+) -> Result<Drawing, CommandFault>
     requires job { job bytes.now ≡ Ok its_job }
     requires members { (d : Data) × (value_of bytes.now ≡ Some d) × SameMembers d (view members.now) }
     ensures drawn { IfOk result (λ drawing.
@@ -243,7 +211,7 @@ fn draw_schedule(
     ensures drawn { IfOk result (λ drawing.
         IsDrawn is_picture bytes.now (drawn_text drawing)) }
     ensures replayed { IfOk result IsReplayed }
-    ensures fault { IfErr result (λ fault. IsUndrawn bytes.now (StepsFault.Job fault)) }
+    ensures fault { IfErr result (λ fault. IsUndrawn bytes.now (CommandFault.Job fault)) }
 {
     let drawing = tree_run(alloc, is_picture, its_job)?;
     Ok(drawing)
@@ -251,7 +219,7 @@ fn draw_schedule(
 
 /// The run of the job that these bytes are, or of its steps, by their value.
 #[tactic(auto, using(crate::proofs::Drawn::memory_is_refused))]
-fn draw_by_value(alloc: Global, is_picture: bool, bytes: &[u8]) -> Result<Drawing, StepsFault>
+fn draw_by_value(alloc: Global, is_picture: bool, bytes: &[u8]) -> Result<Drawing, CommandFault>
     ensures drawn { IfOk result (λ drawing.
         IsDrawn is_picture bytes.now (drawn_text drawing)) }
     ensures replayed { IfOk result IsReplayed }
@@ -272,7 +240,7 @@ fn draw_by(
     value: Option<Value>,
     is_picture: bool,
     bytes: &[u8],
-) -> Result<Drawing, StepsFault>
+) -> Result<Drawing, CommandFault>
     requires kind { kind ≡ chosen None (value_of bytes.now) }
     requires value { option_map view value ≡ value_of bytes.now }
     ensures drawn { IfOk result (λ drawing.
@@ -295,7 +263,7 @@ fn draw_scenario(
     value: Option<Value>,
     is_picture: bool,
     bytes: &[u8],
-) -> Result<Drawing, StepsFault>
+) -> Result<Drawing, CommandFault>
     requires { option_map view value ≡ value_of bytes.now }
     ensures drawn { IfOk result (λ drawing.
         IsDrawnScenario is_picture bytes.now (drawn_text drawing)) }

@@ -3,6 +3,7 @@
 ghost use Rattle.std.specs.Prelude.{◌≡◌, ◌≢◌, ℕ, List, string_bytes, Ok, IfErr, IfOk, IfSome, OnOk};
 ghost use Rattle.std.specs.Prelude.{Some, length};
 ghost use Rattle.std.specs.Io.KnownBytes.{Appends, Keeps};
+ghost use Rattle.rignolda_commands.specs.Commands.{IsFaultOf, Judge};
 ghost use Rattle.rignolda_commands.specs.Judged.{IsJudged, IsUnjudged, IsUnscheduledJob, logs_in};
 ghost use Rattle.serde_json.specs.Data.{Data};
 ghost use Rattle.serde_json.specs.View.{view};
@@ -11,7 +12,7 @@ ghost use Rattle.rignolda_since.specs.Logs.{HasLogs};
 ghost use Rattle.rignolda_commands.specs.Unanswered.{IsUnanswered};
 ghost use Rattle.stab_task.specs.declared.command.Task.{Task};
 
-use crate::judge_fault::JudgeFault;
+use crate::fault::CommandFault;
 use rignolda_since::{Logs, LogsFault, Received, read_logs, verdict_of_logs};
 use serde_json::Value;
 use stab_frames::{Item, Sequence};
@@ -27,13 +28,14 @@ pub fn act_judge<R: Read, W: Write>(
     alloc: Global,
     reader: &mut R,
     writer: &mut W,
-) -> Result<bool, JudgeFault>
+) -> Result<bool, CommandFault>
     ensures verdict { IfOk result (λ obeys. IfSome (R.remaining reader.old) (λ input.
         (answer : List ℕ) × IsJudged input obeys answer
         × Appends (W.contents writer.old) (W.contents writer.new) answer)) }
-    ensures fault { IfErr result (λ fault. fault ≢ JudgeFault.Job CliFault.Write
+    ensures fault { IfErr result (λ fault. fault ≢ CommandFault.Job CliFault.Write
         → IfSome (R.remaining reader.old) (λ input. IsUnjudged input fault)) }
-    ensures nothing { IfErr result (λ fault. fault ≢ JudgeFault.Job CliFault.Write
+    ensures among { IfErr result (IsFaultOf Judge) }
+    ensures nothing { IfErr result (λ fault. fault ≢ CommandFault.Job CliFault.Write
         → Keeps (W.contents writer.old) (W.contents writer.new)) }
 {
     let (text, obeys) = judge_input(alloc, reader)?;
@@ -42,11 +44,13 @@ pub fn act_judge<R: Read, W: Write>(
 }
 
 /// What is said of the logs of the job that the reader gives, and whether they obey.
-fn judge_input<R: Read>(alloc: Global, reader: &mut R) -> Result<(String, bool), JudgeFault>
+#[tactic(auto, using(crate::proofs::Among::of_judge))]
+fn judge_input<R: Read>(alloc: Global, reader: &mut R) -> Result<(String, bool), CommandFault>
     ensures judged { IfOk result (λ said. IfSome (R.remaining reader.old) (λ input.
         IsJudged input said.1 (string_bytes said.0))) }
     ensures fault { IfErr result (λ fault.
         IfSome (R.remaining reader.old) (λ input. IsUnjudged input fault)) }
+    ensures among { IfErr result (IsFaultOf Judge) }
 {
     let bytes = load(alloc, reader)?;
     let said = judge_bytes(alloc, &bytes)?;
@@ -55,7 +59,7 @@ fn judge_input<R: Read>(alloc: Global, reader: &mut R) -> Result<(String, bool),
 
 /// The same of the job that these bytes are.
 #[tactic(auto, using(crate::proofs::UnscheduledLogs::judged_by_whole))]
-fn judge_bytes(alloc: Global, bytes: &[u8]) -> Result<(String, bool), JudgeFault>
+fn judge_bytes(alloc: Global, bytes: &[u8]) -> Result<(String, bool), CommandFault>
     ensures judged { IfOk result (λ said. IsJudged bytes.now said.1 (string_bytes said.0)) }
     ensures fault { IfErr result (IsUnjudged bytes.now) }
 {
@@ -87,7 +91,7 @@ fn logs_of(
     job: &Job,
     members: &Value,
     received: Option<Sequence<Sequence<Item>>>,
-) -> Result<Logs, JudgeFault>
+) -> Result<Logs, CommandFault>
     ensures has { IfOk result (λ its. (d : Data) → HasLogs d (view members.now) received
         → logs_in job.now (Some d) ≡ Ok its) }
     ensures per_node { IfOk result (λ its. length its.received ≡ length job.now.tree.parents) }
@@ -97,7 +101,7 @@ fn logs_of(
 {
     match read_logs(alloc, job.tree(), job.items(), members, received) {
         Ok(logs) => Ok(logs),
-        Err(LogsFault::Memory) => Err(JudgeFault::Job(CliFault::Memory)),
-        Err(fault) => Err(JudgeFault::Logs(fault)),
+        Err(LogsFault::Memory) => Err(CommandFault::Job(CliFault::Memory)),
+        Err(fault) => Err(CommandFault::Logs(fault)),
     }
 }

@@ -11,7 +11,7 @@ ghost use Rattle.rignolda_commands.specs.Checked.{IsJudgedSince, IsUncheckedLink
 ghost use Rattle.rignolda_commands.specs.Checked.{given_backlogs};
 ghost use Rattle.rignolda_since.specs.Backlogs.{backlogs};
 
-use crate::fault::{CheckFault, unread, unread_link};
+use crate::fault::{CommandFault, unread, unread_link};
 use rignolda_since::{BacklogFault, read_backlogs, verdict_since};
 use rignolda_verdict::{link_verdict, read_link_report, verdict};
 use serde_json::Value;
@@ -27,7 +27,7 @@ pub(crate) fn check_link_text(
     alloc: Global,
     job: &LinkJob,
     text: &[u8],
-) -> Result<(String, bool), CheckFault>
+) -> Result<(String, bool), CommandFault>
     ensures checked { IfOk result (λ said.
         IsJudgedLink job.now text.now said.1 (string_bytes said.0)) }
     ensures fault { IfErr result (λ fault. (input : List ℕ) → IsBegunLink input job.now
@@ -49,7 +49,7 @@ pub(crate) fn check_job(
     members: &Value,
     bytes: &[u8],
     text: &[u8],
-) -> Result<(String, bool), CheckFault>
+) -> Result<(String, bool), CommandFault>
     requires begun { IsBegunUnscheduled bytes.now job.now }
     requires backlogs { given_backlogs (value_of bytes.now)
         ≡ get (codes "backlogs") (view members.now) }
@@ -70,7 +70,7 @@ fn check_since(
     bytes: &[u8],
     given: &Value,
     text: &[u8],
-) -> Result<(String, bool), CheckFault>
+) -> Result<(String, bool), CommandFault>
     requires begun { IsBegunUnscheduled bytes.now job.now }
     requires given { given_backlogs (value_of bytes.now) ≡ Some (view given.now) }
     ensures checked { IfOk result (λ said. IsJudgedBy (Some (view given.now)) job.now
@@ -89,7 +89,7 @@ fn backlogs_of(
     job: &Job,
     bytes: &[u8],
     given: &Value,
-) -> Result<Sequence<Sequence<Item>>, CheckFault>
+) -> Result<Sequence<Sequence<Item>>, CommandFault>
     requires begun { IsBegunUnscheduled bytes.now job.now }
     requires given { given_backlogs (value_of bytes.now) ≡ Some (view given.now) }
     ensures read { IfOk result (λ lists. backlogs job.now.tree (view given.now) ≡ Ok lists) }
@@ -99,8 +99,8 @@ fn backlogs_of(
 {
     match read_backlogs(alloc, job.tree(), given) {
         Ok(lists) => Ok(lists),
-        Err(BacklogFault::Memory) => Err(CheckFault::Job(CliFault::Memory)),
-        Err(fault) => Err(CheckFault::Backlogs(fault)),
+        Err(BacklogFault::Memory) => Err(CommandFault::Job(CliFault::Memory)),
+        Err(fault) => Err(CommandFault::Backlogs(fault)),
     }
 }
 
@@ -110,7 +110,7 @@ fn check_text_since(
     job: &Job,
     lists: &[Sequence<Item>],
     text: &[u8],
-) -> Result<(String, bool), CheckFault>
+) -> Result<(String, bool), CommandFault>
     requires per_node { length lists.now ≡ length job.now.tree.parents }
     ensures checked { IfOk result (λ said. IsJudgedSince job.now lists.now
         text.now said.1 (string_bytes said.0)) }
@@ -126,7 +126,7 @@ fn check_text_since(
 }
 
 /// What is said of the report that this text is.
-fn check_text(alloc: Global, job: &Job, text: &[u8]) -> Result<(String, bool), CheckFault>
+fn check_text(alloc: Global, job: &Job, text: &[u8]) -> Result<(String, bool), CommandFault>
     ensures checked { IfOk result (λ said. IsJudged job.now text.now said.1 (string_bytes said.0)) }
     ensures fault { IfErr result (λ fault. (input : List ℕ) → IsBegunUnscheduled input job.now
         → IsUncheckedTree input (Some text.now) fault) }

@@ -1,11 +1,10 @@
 //! The command `check`: what its words ask for, and the files that it reads.
 
 use crate::command::{Request, mistake};
-use crate::hint::hint_of_check;
-use crate::program::{FOUND, say_that_it_reads, unopened};
+use crate::program::{say_that_it_reads, unopened};
 use clap::error::ErrorKind;
 use clap::{ArgMatches, Error};
-use rignolda_commands::{CheckFault, act_check};
+use rignolda_commands::{CommandFault, act_check};
 use stab_task::CliFault;
 use std::alloc::{AllocError, Global};
 use std::io::Read;
@@ -36,40 +35,23 @@ fn named_file(alloc: Global, path: Option<&str>) -> Result<Option<String>, Alloc
     }
 }
 
-/// Checks the report in one file against the job in another, either of which may be the standard
-/// input, and gives the status. A fault is printed.
-pub(crate) fn check_of<R: Files + Input + Print + Eprint + AllocGlobal>(
+/// Whether the report in one file obeys the job in another, which is printed; either may be the
+/// standard input.
+pub(crate) fn checked<R: Files + Input + Print + Eprint + AllocGlobal>(
     rt: &R,
     job: &Option<String>,
     report: &Option<String>,
     is_typed: bool,
-) -> u8 {
+) -> Result<bool, CommandFault> {
     if job.is_none() || report.is_none() {
         say_that_it_reads(rt, is_typed);
     }
-    match checked(rt, job, report) {
-        Ok(true) => 0,
-        Ok(false) => FOUND,
-        Err(fault) => {
-            let hint = hint_of_check(fault);
-            let _ = eprintln!(rt; "rignolda: {fault}{hint}");
-            fault.status()
-        }
-    }
-}
-
-/// Whether a report obeys, which is printed.
-fn checked<R: Files + Input + Print + AllocGlobal>(
-    rt: &R,
-    job: &Option<String>,
-    report: &Option<String>,
-) -> Result<bool, CheckFault> {
     let Some(path) = job else {
         return checked_with(rt, &mut rt.reader(), report);
     };
     match fs::open(rt, path) {
         Ok(mut file) => checked_with(rt, &mut file, report),
-        Err(error) => Err(CheckFault::Job(unopened(&error))),
+        Err(error) => Err(CommandFault::Job(unopened(&error))),
     }
 }
 
@@ -78,7 +60,7 @@ fn checked_with<R: Files + Input + Print + AllocGlobal, J: Read>(
     rt: &R,
     job: &mut J,
     report: &Option<String>,
-) -> Result<bool, CheckFault> {
+) -> Result<bool, CommandFault> {
     let Some(path) = report else {
         return act_check(rt.alloc(), job, &mut rt.reader(), &mut io::writer(rt));
     };
@@ -89,9 +71,9 @@ fn checked_with<R: Files + Input + Print + AllocGlobal, J: Read>(
 }
 
 /// The fault of a report that cannot be opened. Refused memory is reported as that alone.
-fn unopened_report(error: &io::Error) -> CheckFault {
+fn unopened_report(error: &io::Error) -> CommandFault {
     match unopened(error) {
-        CliFault::Memory => CheckFault::Job(CliFault::Memory),
-        fault => CheckFault::Unloaded(fault),
+        CliFault::Memory => CommandFault::Job(CliFault::Memory),
+        fault => CommandFault::Unloaded(fault),
     }
 }

@@ -18,29 +18,9 @@ pub enum Request {
     Random {
         options: DrawOptions,
     },
-    /// Draw the run of a job, which is read from standard input where no file is named: as a
-    /// picture, or as text.
-    Draw {
-        svg: bool,
-        file: Option<String>,
-    },
-    /// Say what is wrong with a job and where; it is read from standard input where no file is
-    /// named.
-    Explain {
-        file: Option<String>,
-    },
-    /// Print the bounds of the nodes of a job, which is read from standard input where no file is
-    /// named.
-    Bounds {
-        file: Option<String>,
-    },
-    /// Print what the steps of a scenario come to at each node; it is read from standard input
-    /// where no file is named.
-    Scenario {
-        file: Option<String>,
-    },
-    /// Say whether the logs of a job obey; it is read from standard input where no file is named.
-    Judge {
+    /// Do this with a job, which is read from standard input where no file is named.
+    Read {
+        reading: Reading,
         file: Option<String>,
     },
     /// Say whether a report of a job obeys; where no file is named, that one is on standard input.
@@ -48,6 +28,21 @@ pub enum Request {
         job: Option<String>,
         report: Option<String>,
     },
+}
+
+/// What the program is to do with a job that it reads.
+#[derive(Clone, Copy, Debug)]
+pub enum Reading {
+    /// Draw its run: as a picture, or as text.
+    Draw { svg: bool },
+    /// Say what is wrong with it and where.
+    Explain,
+    /// Print the bounds of its nodes.
+    Bounds,
+    /// Print what its steps come to at each node.
+    Scenario,
+    /// Say whether its logs obey.
+    Judge,
 }
 
 /// What the words of a command line ask for, the program's name first. Otherwise the text that
@@ -81,23 +76,28 @@ fn request_by(alloc: Global, word: Word, matches: &ArgMatches<'_>) -> Result<Req
         Word::Worst => worst_request(alloc, matches),
         Word::Random => random_request(alloc, matches),
         Word::Check => check_request(alloc, matches),
-        Word::Draw => Ok(Request::Draw {
-            svg: matches.get_flag("svg"),
-            file: file_of(alloc, matches)?,
-        }),
-        Word::Explain => Ok(Request::Explain {
-            file: file_of(alloc, matches)?,
-        }),
-        Word::Bounds => Ok(Request::Bounds {
-            file: file_of(alloc, matches)?,
-        }),
-        Word::Judge => Ok(Request::Judge {
-            file: file_of(alloc, matches)?,
-        }),
-        Word::Scenario => Ok(Request::Scenario {
-            file: file_of(alloc, matches)?,
-        }),
+        Word::Draw => {
+            let svg = matches.get_flag("svg");
+            read_request(alloc, Reading::Draw { svg }, matches)
+        }
+        Word::Explain => read_request(alloc, Reading::Explain, matches),
+        Word::Bounds => read_request(alloc, Reading::Bounds, matches),
+        Word::Judge => read_request(alloc, Reading::Judge, matches),
+        Word::Scenario => read_request(alloc, Reading::Scenario, matches),
     }
+}
+
+/// What to do with the job in the file that is named, or in standard input.
+fn read_request(
+    alloc: Global,
+    reading: Reading,
+    matches: &ArgMatches<'_>,
+) -> Result<Request, Error> {
+    let file = match matches.get_str("FILE") {
+        None => None,
+        Some(path) => Some(String::from_str(alloc, path)?),
+    };
+    Ok(Request::Read { reading, file })
 }
 
 /// The worst job of the capacity and the labels that are named.
@@ -131,12 +131,4 @@ pub(crate) fn mistake(alloc: Global, kind: ErrorKind, text: &str) -> Error {
 /// The mistake of this kind with this text.
 fn made_mistake(alloc: Global, kind: ErrorKind, text: &str) -> Result<Error, AllocError> {
     rignolda(alloc)?.error(kind, text)
-}
-
-/// The file that a command names.
-fn file_of(alloc: Global, matches: &ArgMatches<'_>) -> Result<Option<String>, AllocError> {
-    match matches.get_str("FILE") {
-        None => Ok(None),
-        Some(path) => Ok(Some(String::from_str(alloc, path)?)),
-    }
 }

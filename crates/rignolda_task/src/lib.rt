@@ -5,15 +5,12 @@
 //! `rignolda_commands`, and gives the status.
 #![tactic(auto)]
 
-mod bounds;
 mod check;
 mod command;
 mod hint;
-mod judge;
 mod line;
 mod program;
 mod random;
-mod scenario;
 
-pub use command::{Request, parse};
+pub use command::{Reading, Request, parse};
 pub use program::run;
