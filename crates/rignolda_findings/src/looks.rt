@@ -15,7 +15,7 @@ pub fn seems_to_have_steps(bytes: &[u8]) -> bool {
     has_text(bytes, b"\"steps\"")
 }
 
-/// Whether a text begins among the first of these bytes.
+/// Whether a text in quotes begins among the first of these bytes.
 fn has_text(bytes: &[u8], text: &[u8]) -> bool {
     let end = if bytes.len() < LOOKED_AT {
         bytes.len()
@@ -23,7 +23,8 @@ fn has_text(bytes: &[u8], text: &[u8]) -> bool {
         LOOKED_AT
     };
     for place in 0..end {
-        if bytes[place..].starts_with(text) {
+        // (mostly the first byte tells)
+        if bytes[place] == b'"' && bytes[place..].starts_with(text) {
             return true;
         }
     }
