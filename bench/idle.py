@@ -71,8 +71,9 @@ def main():
         for tree in trees:
             if not until(lambda it=tree: not it.wrong(), 60):
                 sys.exit(f"idle: {len(tree.wrong())} agents of {tree.bin} lack settings")
-        # (after a whole round nothing is done for the first time)
-        time.sleep(45)
+        # (after a whole round nothing is done for the first time, and after four a root knows how
+        # deep its tree was)
+        time.sleep(150)
         before = [[spent(agent.process.pid) for agent in tree] for tree in trees]
         began = time.monotonic()
         time.sleep(words.seconds)

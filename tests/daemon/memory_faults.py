@@ -246,7 +246,7 @@ class Trials:
 
     def make(self):
         """A new tree that is right."""
-        self.tree = Tree(SHAPE, root_has(round=f"{int(ROUND * 1_000)}ms", harmless=7))
+        self.tree = Tree(SHAPE, root_has(round=f"{int(ROUND * 1_000)}ms"))
         self.what, self.units = [], [Unit(agent) for agent in self.tree]
         for at in range(6):
             self.tree.write(f"key{at}", f"value {at}")

@@ -120,6 +120,22 @@ def a_round_of_what_is_right_sends_no_table(tree, _, hub, leaf):
     is_much_at_the_leaf()
 
 
+@of_tree(chain(3), root_has(round="200ms"))
+def a_round_has_what_the_depth_of_the_tree_needs(tree, root, _, low, leaf):
+    """What is enough for the deepest agent, there or away, until its parent knows none like it."""
+    root.becomes(harmless=9)
+    leaf.kill()
+    root.becomes(away=1)
+    tree.rounds(4)
+    sure(root.status()["harmless"] == 9, root.status())
+    low.ask("child", "remove", leaf.name)
+    root.becomes(harmless=7)
+    low.ask("child", "add", leaf.name)
+    leaf.start()
+    root.becomes(harmless=9)
+    tree.settles()
+
+
 @of_tree({"leaf": "root"}, very_patient, runs=False)
 def versions_that_do_not_meet_are_named_by_both_ends(tree, root, leaf):
     """The crates show how versions are chosen: here it is seen what an operator is told."""

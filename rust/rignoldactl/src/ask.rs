@@ -1,8 +1,8 @@
 //! The other end of the control socket: asks an agent, and makes text of what it says.
 use crate::files::{File, Holder};
 use crate::{
-    dotted, unix_now, ChildStatus, Compared, Diff, Difference, Request, Response, Seen, Standby,
-    Status,
+    dotted, harmless_for, unix_now, ChildStatus, Compared, Diff, Difference, Request, Response,
+    Seen, Standby, Status,
 };
 use rignolda::settings::is_newer;
 use serde::Serialize;
@@ -119,10 +119,9 @@ pub fn bounds(list: &[Seen]) -> Vec<Bounds> {
         .collect()
 }
 
-/// How many harmless items a round needs for these agents: the sharper bound of the deepest, one by
-/// which it is known to be a round, and one to spare.
+/// How many harmless items a round needs for these agents.
 pub fn harmless_needed(list: &[Seen]) -> u64 {
-    bounds(list).iter().map(|bounds| bounds.n).max().map_or(0, |most| most + 2)
+    depths(list).into_iter().max().map_or(0, |depth| harmless_for(depth as u32).into())
 }
 
 /// What is wrong with the number of harmless items that the root is set up with, if something is.
@@ -131,8 +130,8 @@ pub fn too_few_harmless(list: &[Seen]) -> Option<String> {
     let deepest = bounds(list).into_iter().max_by_key(|bounds| bounds.depth)?.name;
     (has < needs).then(|| {
         format!(
-            "root.harmless is {has}, and a tree so deep as at {deepest} needs {needs}: an agent \
-             that restarts can need more than one round"
+            "a round begins with {has} harmless items (root.harmless, link.backlog), and a tree \
+             so deep as at {deepest} needs {needs}: an agent that restarts can need more than one"
         )
     })
 }

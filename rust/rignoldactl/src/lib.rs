@@ -141,7 +141,7 @@ pub struct Status {
     pub draining: bool,
     /// At the root: of how many settings a change of the folder waits until it is confirmed.
     pub held: u64,
-    /// How many harmless items a round of this root begins with.
+    /// At the root: how many harmless items a round begins with now.
     pub harmless: u64,
     /// The limit of the backlog for each child.
     pub limit: u64,
@@ -246,6 +246,12 @@ impl Status {
             age: 0,
         }
     }
+}
+
+/// How many harmless items a round needs in a tree this deep: the sharper bound of the deepest
+/// agent, one by which it is known to be a round, and one to spare.
+pub fn harmless_for(depth: u32) -> u32 {
+    depth.saturating_mul(2).saturating_add(3)
 }
 
 /// An agent, as an agent above it knows it.

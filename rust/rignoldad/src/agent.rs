@@ -42,9 +42,11 @@ const SAYS_AGAIN: Duration = Duration::from_secs(30);
 const CLOCK: Duration = Duration::from_secs(10);
 
 /// After how long the state is looked at as a whole again, once each second: where something came
-/// meanwhile, and at the latest. (A parent says its way every two seconds, so mostly an idle agent
-/// is woken once for both: the two together are less than that.)
+/// meanwhile, and at the latest.
 const CHECKS: [Duration; 2] = [Duration::from_millis(900), Duration::from_millis(1_050)];
+/// The same of an agent without children, which counts no seconds for them. (Its parent says its way
+/// as often, so where it is idle it is woken once for both.)
+const CHECKS_OF_LEAF: [Duration; 2] = [Duration::from_millis(1_800), Duration::from_millis(2_100)];
 /// For how long nobody is accepted where no descriptor was left.
 const FULL: Duration = Duration::from_millis(100);
 /// How many faults of the root's folder its status names.
@@ -496,7 +498,7 @@ impl Agent {
         let expires = Some(now + Duration::from_secs(expires).min(CLOCK));
         let files = self.state.applying.map(|_| now + ASKS_AGAIN);
         let more = self.may_publish().then_some(now);
-        let (peers, checks) = (self.peers.deadline(now), Some(self.checked + CHECKS[1]));
+        let (peers, checks) = (self.peers.deadline(now), Some(self.checked + self.checks()[1]));
         let standby = self.state.standby.as_ref().and_then(Standby::deadline);
         let all = [peers, root, standby, report, served, full, files, more, expires, checks];
         all.into_iter().flatten().min().unwrap_or(now + CLOCK)
@@ -515,7 +517,7 @@ impl Agent {
                 if root.descriptor().is_some_and(|fd| fired.contains(&fd)) {
                     root.notified(now);
                 }
-                root.tick(now);
+                root.tick(now, self.state.below.depth());
             }
             self.state.applied(now);
             self.stand(now)?;
@@ -569,10 +571,17 @@ impl Agent {
         Ok(())
     }
 
-    /// Each second: brings back what has a bound, and says what else cannot be, as after a fault of
-    /// the machine's memory. What two places say must be the same.
+    fn checks(&self) -> [Duration; 2] {
+        match self.peers.relay().children().next() {
+            Some(_) => CHECKS,
+            None => CHECKS_OF_LEAF,
+        }
+    }
+
+    /// Each second or two: brings back what has a bound, and says what else cannot be, as after a
+    /// fault of the machine's memory. What two places say must be the same.
     fn check(&mut self, now: Instant) -> Result<(), &'static str> {
-        if self.checked <= now && now < self.checked + CHECKS[0] {
+        if self.checked <= now && now < self.checked + self.checks()[0] {
             return Ok(());
         }
         self.checked = now;
@@ -645,7 +654,7 @@ impl Agent {
                 let why = "a certificate, of it or of this agent, has expired";
                 self.peers.close(id, why, now, &mut self.state);
             }
-            // (of the others it is known within a second)
+            // (of the others it is known at the next look)
             self.expires = i64::MAX;
         }
     }
@@ -781,7 +790,7 @@ impl Agent {
             settings: table.keys.len() as u64,
             draining: self.root.as_ref().is_some_and(Root::is_draining),
             held: self.root.as_ref().map_or(0, Root::held),
-            harmless: self.config.root.as_ref().map_or(0, |root| root.harmless.into()),
+            harmless: self.root.as_ref().map_or(0, |root| root.harmless().into()),
             limit: self.config.backlog,
             received: self.state.received,
             strays: table.strays,

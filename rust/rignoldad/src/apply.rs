@@ -349,7 +349,7 @@ impl Applier {
         Some((before, digest))
     }
 
-    /// What of its state cannot be, where something cannot: to be asked once a second.
+    /// What of its state cannot be, where something cannot: to be asked each second or two.
     pub fn fault(&self, config: &Apply) -> Option<&'static str> {
         let mut state = self.shared.lock();
         let (files, hooks) = (state.files.first(), state.has_hooks());

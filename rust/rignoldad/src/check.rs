@@ -1,7 +1,9 @@
 //! What `--check` finds beyond the text of a configuration: what its user cannot use on this
 //! machine, and, of the files of a whole tree, which agents do not fit.
 use crate::apply::refusal;
-use crate::config::{hook_lines, leads, line_of, read_text, Address, Children, Config, Fault, Tls};
+use crate::config::{hook_lines, leads, line_of, read_text};
+use crate::config::{Address, Children, Config, Fault, Tls, ROUNDS};
+use rignoldactl::harmless_for;
 use std::collections::BTreeMap;
 use std::fs;
 use std::io::ErrorKind;
@@ -225,9 +227,14 @@ impl Check<'_> {
             let text = format!("no way leads to the root{name}: {}", way.join(", "));
             self.say(at, "parents", text);
         }
-        let least: u32 = 2 * depths.into_iter().flatten().max().unwrap_or(0) + 3;
-        if all[root].root.as_ref().is_some_and(|root| root.harmless < least) {
-            self.say(root, "root.harmless", format!("in this tree it is at least {least}"));
+        let depth = depths.into_iter().flatten().max().unwrap_or(0);
+        let (least, config) = (harmless_for(depth), all[root].root.as_ref());
+        if config.is_some_and(|it| it.harmless(depth) < least) {
+            let is_said = config.is_some_and(|it| it.harmless.is_some());
+            let room = ROUNDS * (u64::from(least) + 2);
+            let (key, least) =
+                if is_said { ("root.harmless", least.into()) } else { ("link.backlog", room) };
+            self.say(root, key, format!("in this tree it is at least {least}"));
         }
     }
 

@@ -9,7 +9,7 @@ pub use rignolda::settings::{is_group, is_key};
 pub use rignolda_redis::Login;
 use rignolda_tls::read_file;
 pub use rignolda_tls::Tls;
-use rignoldactl::milliseconds;
+use rignoldactl::{harmless_for, milliseconds};
 use std::collections::BTreeMap;
 use std::fmt;
 use std::io;
@@ -33,6 +33,10 @@ const HOOK_TIMES: RangeInclusive<u64> = 100..=3_600_000;
 const PRICE: u16 = 100;
 /// How much of a text is shown.
 const TEXT_CHARS: usize = 500;
+/// How deep a tree is taken to be while that is not known.
+pub const DEEP: u32 = 10;
+/// Of how many rounds a root's backlogs have room for the items.
+pub const ROUNDS: u64 = 4;
 
 /// What an agent is set up with.
 #[derive(Clone, Debug, PartialEq)]
@@ -60,8 +64,10 @@ pub struct Root {
     /// Whether it is an agent as any other until it is promoted.
     pub standby: bool,
     pub round: Duration,
-    /// How many harmless items a round begins with.
-    pub harmless: u32,
+    /// How many harmless items a round begins with: so many, or those that the tree needs, but no
+    /// more than the backlogs have room for.
+    pub harmless: Option<u32>,
+    pub most_harmless: u32,
     /// Whether each change of the folder waits until it is confirmed; and how many settings it may
     /// unset without that: half of them where there is no number.
     pub hold: bool,
@@ -81,6 +87,13 @@ pub struct Apply {
     pub hook_timeout: Duration,
     /// The hooks that have one run for many keys, in the order of the file.
     pub hooks: Vec<Hook>,
+}
+
+impl Root {
+    /// How many harmless items a round begins with in a tree this deep.
+    pub fn harmless(&self, depth: u32) -> u32 {
+        self.harmless.unwrap_or(harmless_for(depth).min(self.most_harmless))
+    }
 }
 
 impl Apply {
@@ -345,6 +358,7 @@ impl<'a> Check<'a> {
         let children = self.children(&name);
         let parents = self.texts("parents", ADDRESSES);
         let listen = self.texts("listen", ADDRESSES);
+        let backlog = self.number("link.backlog", 1_024, 8..=65_536);
         let config = Config {
             listen: listen.iter().filter_map(|text| self.address("listen", text)).collect(),
             peers: Setup {
@@ -356,12 +370,15 @@ impl<'a> Check<'a> {
                 name,
                 children,
             },
-            backlog: self.number("link.backlog", 1_024, 8..=65_536),
+            backlog,
             root: self.has("root").then(|| Root {
                 settings: self.needed("root.settings"),
                 standby: self.is_set("root.standby"),
                 round: self.time("root.round", 30_000, 100..=86_400_000),
-                harmless: self.number("root.harmless", 23, 1..=10_000) as u32,
+                harmless: self
+                    .get("root.harmless")
+                    .map(|_| self.number("root.harmless", 0, 1..=10_000) as u32),
+                most_harmless: (backlog / ROUNDS).saturating_sub(2) as u32,
                 hold: self.is_set("root.hold"),
                 unsets: self
                     .get("root.unsets")
@@ -429,7 +446,8 @@ impl<'a> Check<'a> {
             let text = "an agent without [root] has a parent";
             self.refuse("parents", !is_root && parents.is_empty(), text);
         }
-        let least = config.root.as_ref().map_or(0, |root| 4 * (u64::from(root.harmless) + 2));
+        let harmless = config.root.as_ref().map(|it| it.harmless.unwrap_or(harmless_for(DEEP)));
+        let least = harmless.map_or(0, |it| ROUNDS * (u64::from(it) + 2));
         let text = format!("at this root it is at least {least}, four rounds");
         self.refuse("link.backlog", config.backlog < least, text);
         let text = "an agent without [apply] keeps no settings";

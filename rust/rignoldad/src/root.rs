@@ -4,7 +4,7 @@
 //! is of what the folder had when it was asked for; where the disk does not answer in time, it is
 //! of what was known before.
 use crate::batch::Kept;
-use crate::config::Root as Config;
+use crate::config::{Root as Config, DEEP};
 use crate::disk::{self, Done, Empty, Job, Written};
 use crate::fact;
 use crate::hold;
@@ -61,6 +61,9 @@ pub struct Root<W> {
     /// Who asked for what is not published yet.
     diffing: Vec<W>,
     next_round: Instant,
+    /// How deep the tree was when each of the last rounds began, the last one first. An agent above
+    /// may forget for a while what is below it, as after a fault.
+    deepest: [u32; 4],
     next_scan: Option<Instant>,
     /// How often the disk was asked to read, and has not answered.
     reads: u32,
@@ -134,6 +137,7 @@ impl<W> Root<W> {
             confirmed: None,
             diffing: Vec::new(),
             next_round: now,
+            deepest: [DEEP; 4],
             next_scan: None,
             reads: 0,
             until: None,
@@ -284,8 +288,15 @@ impl<W> Root<W> {
         self.reads > 0 || self.writing.is_some()
     }
 
+    /// How many harmless items a round begins with now.
+    pub fn harmless(&self) -> u32 {
+        let depth = self.deepest.iter().fold(1, |most, it| most.max(*it));
+        self.config.harmless(depth)
+    }
+
     /// Takes up what the disk says, has the folder read and begins a round, where it is time.
-    pub fn tick(&mut self, now: Instant) {
+    /// `depth`: how deep the tree is, as far as it is known.
+    pub fn tick(&mut self, now: Instant, depth: u32) {
         self.mend(now);
         while let Some(done) = self.disk.done() {
             match done {
@@ -310,6 +321,8 @@ impl<W> Root<W> {
         }
         if now >= self.next_round {
             self.overdue = self.publisher.is_in_a_round();
+            self.deepest.rotate_right(1);
+            self.deepest[0] = depth;
             self.begin_round(now);
         }
     }
@@ -366,7 +379,7 @@ impl<W> Root<W> {
         self.until = None;
         self.fresh = std::mem::take(&mut self.for_table).then_some(now);
         if std::mem::take(&mut self.begins) && self.known && !self.draining {
-            self.publisher.begin_round(self.config.harmless);
+            self.publisher.begin_round(self.harmless());
             self.went_above = self.went_above.min(self.publisher.is_table_first().into());
         }
     }
@@ -415,7 +428,7 @@ impl<W> Root<W> {
         }
         if self.overdue && !self.publisher.is_in_a_round() {
             self.overdue = false;
-            self.publisher.begin_round(self.config.harmless);
+            self.publisher.begin_round(self.harmless());
         }
         Some(next)
     }

@@ -3,7 +3,7 @@
 //!
 //! Each agent sends its list up now and then, itself first and each agent after its parent, and its
 //! parent puts it behind its own.
-use crate::config::GROUPS;
+use crate::config::{DEEP, GROUPS};
 pub use rignolda::net::wire::REPORT_BYTES;
 use rignolda::settings::{furthest, is_group};
 use rignoldactl::{ChildStatus, Seen, Status};
@@ -13,21 +13,29 @@ use std::time::{Duration, Instant};
 
 /// The most agents in a report, and how deep they are below who sends it.
 const AGENTS: usize = 10_000;
-const DEPTH: usize = 64;
+const DEPTH: u32 = 64;
 /// The most agents that are known at a time.
 const KNOWN: usize = 1 << 16;
 /// How often a list is made or read at most: with this much time for each agent in it.
 pub const EACH: Duration = Duration::from_micros(250);
 
-/// The last list of each child; and whether it may say other groups than one before.
+/// What each child said last; and whether it may say other groups than before.
 #[derive(Debug, Default)]
-pub struct Below(BTreeMap<String, (Instant, Vec<Seen>)>, bool);
+pub struct Below(BTreeMap<String, Said>, bool);
+
+/// The list of a child: when it came, and how deep the deepest agent in it is below this one.
+#[derive(Debug)]
+struct Said {
+    at: Instant,
+    depth: u32,
+    list: Vec<Seen>,
+}
 
 /// The list that this child sent, if it is one, with the child first. Of the others it is what
 /// agents further below say, so what cannot be of a tree is left out, and the child is not blamed
 /// for it: a name that is none or is there before, an agent whose parent is not, and what is too
 /// deep.
-fn read(child: &str, bytes: &[u8]) -> Option<Vec<Seen>> {
+fn read(child: &str, bytes: &[u8], now: Instant) -> Option<Said> {
     // (a list of very many would take much more memory than its bytes)
     let many = bytes.iter().filter(|byte| **byte == b'{').count();
     let is_short = bytes.len() <= REPORT_BYTES && many <= AGENTS;
@@ -35,13 +43,19 @@ fn read(child: &str, bytes: &[u8]) -> Option<Vec<Seen>> {
     let mut list: Vec<Seen> = list.flatten()?;
     list.first_mut().filter(|first| first.name == child)?.parent.clear();
     let (mut depths, mut is_deeper) = (BTreeMap::from([(String::new(), 0)]), false);
+    let mut deepest = 0;
     list.retain(|seen| {
         let Some(depth) = depths.get(&seen.parent).map(|above| above + 1) else { return false };
         let is_new = crate::config::is_name(&seen.name) && !depths.contains_key(&seen.name);
         is_deeper |= is_new && depth > DEPTH;
         // (no other one is below nobody)
         depths.remove("");
-        is_new && depth <= DEPTH && depths.insert(seen.name.clone(), depth).is_none()
+        let is_taken = is_new && depth <= DEPTH;
+        if is_taken {
+            deepest = deepest.max(depth);
+            depths.insert(seen.name.clone(), depth);
+        }
+        is_taken
     });
     list[0].cut |= is_deeper;
     let is_list = |it: &[String]| it.len() <= GROUPS && it.iter().all(|it| is_group(it));
@@ -49,7 +63,9 @@ fn read(child: &str, bytes: &[u8]) -> Option<Vec<Seen>> {
     // (an agent of before says none, nor what those below it say)
     let all = list.iter().flat_map(|seen| [seen.sequence, seen.ahead]);
     list[0].ahead = furthest(list[0].sequence, all);
-    Some(list)
+    // (of those that are not in it nobody knows how deep they are)
+    let least = if list.iter().any(|it| it.cut) { DEEP } else { 0 };
+    Some(Said { at: now, depth: deepest.max(least), list })
 }
 
 impl Below {
@@ -58,13 +74,13 @@ impl Below {
     pub fn heard(&mut self, child: &str, bytes: &[u8], now: Instant) -> bool {
         let last = self.0.get(child);
         let is_soon = |at: Instant, many: usize| at <= now && now < at + EACH * many as u32 / 4;
-        if last.is_some_and(|(at, list)| is_soon(*at, list.len())) {
+        if last.is_some_and(|said| is_soon(said.at, said.list.len())) {
             return bytes.len() <= REPORT_BYTES;
         }
-        let Some(list) = read(child, bytes) else { return false };
-        let old = last.map_or(&[][..], |(_, list)| list);
-        self.1 |= !old.iter().map(|it| &it.groups).eq(list.iter().map(|it| &it.groups));
-        self.0.insert(child.into(), (now, list));
+        let Some(said) = read(child, bytes, now) else { return false };
+        let old = last.map_or(&[][..], |said| &said.list);
+        self.1 |= !old.iter().map(|it| &it.groups).eq(said.list.iter().map(|it| &it.groups));
+        self.0.insert(child.into(), said);
         true
     }
 
@@ -76,17 +92,22 @@ impl Below {
     /// The number of a child, and the one that is furthest ahead of that at it and below. (Where
     /// its own is wrong, it may count what is right as ahead.)
     pub fn numbers(&self, child: &str) -> [u64; 2] {
-        self.0.get(child).map_or([0; 2], |(_, list)| [list[0].sequence, list[0].ahead])
+        self.0.get(child).map_or([0; 2], |said| [said.list[0].sequence, said.list[0].ahead])
     }
 
     /// How many agents they have.
     pub fn agents(&self) -> u32 {
-        self.0.values().map(|(_, list)| list.len() as u32).sum()
+        self.0.values().map(|said| said.list.len() as u32).sum()
+    }
+
+    /// How deep the deepest agent that they name is below this one.
+    pub fn depth(&self) -> u32 {
+        self.0.values().map(|said| said.depth).max().unwrap_or(0)
     }
 
     /// Of which groups each of them is.
     pub fn groups(&self) -> impl Iterator<Item = &[String]> {
-        let all = self.0.values().flat_map(|(_, list)| list);
+        let all = self.0.values().flat_map(|said| &said.list);
         all.map(|seen| &seen.groups[..]).filter(|groups| !groups.is_empty())
     }
 
@@ -131,8 +152,9 @@ impl Below {
 
     /// What is known of a child and those below it.
     fn list(&self, child: &ChildStatus, parent: &str, now: Instant) -> Vec<Seen> {
-        let nothing = (now, vec![Seen { name: child.name.clone(), ..Seen::default() }]);
-        let (at, mut list) = self.0.get(&child.name).cloned().unwrap_or(nothing);
+        let nothing = || (now, vec![Seen { name: child.name.clone(), ..Seen::default() }]);
+        let said = self.0.get(&child.name).map(|said| (said.at, said.list.clone()));
+        let (at, mut list) = said.unwrap_or_else(nothing);
         let age = now.saturating_duration_since(at).as_millis() as u64;
         for seen in &mut list {
             seen.age = seen.age.saturating_add(age);

@@ -553,7 +553,7 @@ fn no_way_is_too_long() {
     let folder = Folder::new("deep");
     let paths: Vec<PathBuf> = (0..130).map(|at| folder.0.join(format!("{at}.toml"))).collect();
     for (at, path) in paths.iter().enumerate() {
-        let ends = "[root]\nsettings = \"/s\"\nharmless = 257\n[link]\nbacklog = 2000\n";
+        let ends = "[root]\nsettings = \"/s\"\n[link]\nbacklog = 1036\n";
         let parents = |up: usize| format!("parents = [\"a{up}@unix:/{up}\"]\n");
         let above = at.checked_sub(1).map_or(ends.into(), parents);
         let (name, child) = (format!("name = \"a{at}\"\n"), at + 1);
@@ -562,6 +562,11 @@ fn no_way_is_too_long() {
     }
     let said = |line| (line, "parents", "no way leads to the root", false);
     found(&paths, &[(128, said(4)), (129, said(2))]).unwrap();
+    // (the deepest one needs 257 harmless items, for which four rounds have room there)
+    let text = fs::read_to_string(&paths[0]).unwrap().replace("1036", "1035");
+    fs::write(&paths[0], text).unwrap();
+    let few = (7, "link.backlog", "at least 1036", false);
+    found(&paths, &[(0, few), (128, said(4)), (129, said(2))]).unwrap();
 }
 
 /// The status that it ends with, what it writes to its output, and to its errors.

@@ -70,6 +70,12 @@ fn reads_every_key() {
     };
     assert_eq!(root(""), (false, None));
     assert_eq!(root("hold = true\nunsets = 0"), (true, Some(0)));
+    let harmless = |more: &str, depth| {
+        let text = format!("name = \"a\"\n[root]\nsettings = \"/s\"\n{more}");
+        Config::parse(&text).unwrap().root.unwrap().harmless(depth)
+    };
+    assert_eq!(["", "harmless = 7"].map(|it| harmless(it, 10)), [23, 7]);
+    assert_eq!(["", "[link]\nbacklog = 103"].map(|it| harmless(it, u32::MAX)), [254, 23]);
 }
 
 #[test]
@@ -198,6 +204,12 @@ fn says_each_fault_with_its_line_and_key() {
             6,
             "link.backlog",
             "at least 408",
+        ),
+        (
+            "name = \"a\"\n[root]\nsettings = \"/s\"\n[link]\nbacklog = 99",
+            5,
+            "link.backlog",
+            "at least 100",
         ),
         (
             "name = \"a\"\nparents = [\"[::1]:1\"]\n[apply]\nfolder = \"/f/g\"\nmode = \"0240\"",

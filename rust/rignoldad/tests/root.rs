@@ -31,20 +31,22 @@ impl Drop for Folder {
 
 const ROUND: Duration = Duration::from_secs(3_600);
 
-/// A root, and what time it is there. Whatever it asks the disk for is waited for.
+/// A root, what time it is there, and how deep its tree is. Whatever it asks the disk for is waited
+/// for.
 struct Tried {
     /// Who asks is the key that is asked for.
     root: Root<String>,
     now: Instant,
+    depth: u32,
 }
 
 impl Tried {
     fn tick(&mut self, now: Instant) {
         self.now = self.now.max(now);
-        self.root.tick(now);
+        self.root.tick(now, self.depth);
         while self.root.is_busy() {
             std::thread::sleep(Duration::from_millis(1));
-            self.root.tick(now);
+            self.root.tick(now, self.depth);
         }
     }
 
@@ -110,7 +112,15 @@ fn root(settings: &Path, settled: bool) -> (Tried, Instant) {
 
 fn config(settings: &Path) -> config::Root {
     let (round, settings) = (ROUND, settings.into());
-    config::Root { settings, round, harmless: 3, hold: false, unsets: None, standby: false }
+    config::Root {
+        settings,
+        standby: false,
+        round,
+        harmless: Some(3),
+        most_harmless: 20,
+        hold: false,
+        unsets: None,
+    }
 }
 
 /// One with settings that an earlier life applied.
@@ -121,7 +131,7 @@ fn root_of(
 ) -> (Tried, Instant) {
     let now = Instant::now();
     let root = Root::new(&config, applied, now, Arc::new(|| ())).unwrap();
-    let mut root = Tried { root, now };
+    let mut root = Tried { root, now, depth: 1 };
     if settled {
         root.tick(now);
         while root.next(100).is_some() {}
@@ -172,6 +182,25 @@ fn begins_with_the_whole_table_and_a_round() {
     assert_eq!(root.deadline(), now + ROUND);
     root.tick(now + ROUND);
     assert_eq!(next(&mut root), Some(('H', vec![])));
+}
+
+#[test]
+fn a_round_has_what_the_deepest_agent_of_four_rounds_needs() {
+    let folder = Folder::new("deep");
+    let unset = config::Root { harmless: None, ..config(&folder.0) };
+    let (mut root, now) = root_of(unset, BTreeMap::new(), true);
+    // (the tree may be of a depth of 10 at the start, and the backlogs have room for 20 a round)
+    let rounds = [(3, 20), (1, 20), (1, 9), (1, 9), (1, 5), (0, 5), (64, 20), (0, 20)];
+    for (at, (depth, items)) in (1..).zip(rounds) {
+        root.depth = depth;
+        root.tick(now + at * ROUND);
+        let mut count = 0;
+        while next(&mut root) == Some(('H', vec![])) {
+            count += 1;
+        }
+        assert_eq!((count, root.harmless()), (items, items), "round {at}");
+        assert_eq!(next(&mut root), None);
+    }
 }
 
 #[test]

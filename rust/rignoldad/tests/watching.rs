@@ -350,6 +350,23 @@ fn invented_agents_drive_nobody_out() {
 }
 
 #[test]
+fn a_tree_is_as_deep_as_its_deepest_agent() {
+    let (now, mut root) = (Instant::now(), Below::default());
+    let mut hears = |name: &str, list: &[Seen]| {
+        assert!(root.heard(name, &rignoldactl::report(list), now));
+        root.depth()
+    };
+    assert_eq!(hears("a", &[seen("a", "", true)]), 1);
+    let list = [seen("b", "", true), seen("c", "b", false), seen("d", "c", false)];
+    assert_eq!(hears("b", &list), 3);
+    // (below one that has more than it says they may be deeper)
+    assert_eq!(hears("e", &[Seen { cut: true, ..seen("e", "", true) }]), 10);
+    root.forget("e");
+    root.forget("b");
+    assert_eq!(root.depth(), 1);
+}
+
+#[test]
 fn a_chain_without_end_is_cut() {
     let name = |at: usize| if at == 0 { "liar".into() } else { format!("n{at}") };
     let parent = |at: usize| if at == 0 { "".into() } else { name(at - 1) };
@@ -362,6 +379,7 @@ fn a_chain_without_end_is_cut() {
     assert!(tree_text(&list).len() < 66 * 300);
     assert_eq!(harmless_needed(&list), 2 * 64 + 3);
     assert!(too_few_harmless(&list).unwrap().contains("as at n63 needs"));
+    assert_eq!(root.depth(), 64);
     // (and no list of very many takes many times its bytes)
     let many = format!("[{{\"name\":\"liar\"}}{}]", ",{}".repeat(300_000));
     assert!(!root.heard("liar", many.as_bytes(), now + Duration::from_secs(1)));
