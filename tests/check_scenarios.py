@@ -3,11 +3,12 @@
 
     tests/check_scenarios.py [COUNT [SEED]]     200 scenarios by default, the same each time
 
-Of each scenario `rignolda scenario` and `draw` have to print what tests/faults/scenario.py says,
-its picture has to have the rows of that run in their order, and `rignolda explain` has to find
-nothing. Then one value of a step is spoiled: where `rignolda scenario` refuses a step, the first
-thing that `explain` finds has to be at that step, and else nothing. One in twenty is continued to
-1,000,000 changes, or to one more, which is refused.
+Of each scenario `rignolda scenario` and `draw` have to print what tests/faults/scenario.py says, as
+`draw` has to of a schedule of its acts, and of a random link job. Its picture has to have the rows
+of that run in their order, and `rignolda explain` has to find nothing. Then one value of a step is
+spoiled: where `rignolda scenario` refuses a step, the first thing that `explain` finds has to be at
+that step, and else nothing. One in twenty is continued to 1,000,000 changes, or to one more, which
+is refused.
 
 The program is the one of check_tables.py. The last line is 'N passed, M failed'.
 """
@@ -22,8 +23,9 @@ from pathlib import Path
 TOP = Path(__file__).resolve().parent.parent
 sys.path[:0] = [str(TOP / "tests/faults"), str(TOP / "tools")]
 
+from jobs import drawn_link
 from programs import answered, counted, run_with
-from scenario import drawn_text, random_job, text_of
+from scenario import drawn_text, link_text, random_job, schedule_text, text_of
 
 VALUES = [None, True, -1, 0, 1, 70000, 0.5, "", "x", "offer", "publish", "lose_frame", [], [0],
           [[0]], {}, {"send": 0, "recv": 1}, {"send": 0, "recv": 1, "acks": [1, 1, 1, 1]}]
@@ -120,6 +122,19 @@ def fault_of_count(file, draw, job):
     return None if (status, err) == wanted else said
 
 
+def fault_of_run(file, draw, job):
+    """Whether a schedule of the acts of a scenario, or a link job, is drawn otherwise, or None."""
+    acts = [step for step in job["steps"] if isinstance(step[-1], str)
+            or len(step) == 3 and isinstance(step[-1], int)]
+    schedule = {**{name: job[name] for name in job if name != "steps"}, "schedule": acts}
+    link = drawn_link(draw)
+    for run, text in (schedule, schedule_text(schedule)), (link, link_text(link)):
+        seen = answered(file, "draw", given=run)
+        if seen != (0, text, ""):
+            return f"draw prints {seen}, and not {text!r}, of {json.dumps(run)}"
+    return None
+
+
 def fault_of(file, seed):
     """What is wrong with what is printed of a random scenario, or None."""
     draw = random.Random(seed)
@@ -134,7 +149,7 @@ def fault_of(file, seed):
     names = [node["name"] for node in job["tree"]]
     if status != 0 or rows_of_picture(svg, names) != rows_of_text(wanted):
         return f"the picture has other rows, of {json.dumps(job)}"
-    fault = fault_of_spoiled(file, draw, job)
+    fault = fault_of_run(file, draw, job) or fault_of_spoiled(file, draw, job)
     return fault or (fault_of_count(file, draw, job) if seed % 20 == 0 else None)
 
 

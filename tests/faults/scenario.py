@@ -1,13 +1,13 @@
-"""scenario.py: what `rignolda scenario` has to print, and the run that `rignolda draw` has to draw,
-in plain Python, from man/rignolda.1, docs/USING.md and the rules of reference.py beside it; and
-random scenarios, for tests/check_scenarios.py.
+"""scenario.py: what `rignolda scenario` prints, and the runs that `rignolda draw` draws, in plain
+Python, from man/rignolda.1, docs/USING.md and the rules of reference.py beside it; and random
+scenarios, for tests/check_scenarios.py.
 
 It is an independent program: nothing of it is made from the crates. It takes scenarios that are
 well formed; what is refused is in the tables of tests/check_tables.py."""
 import json
 
 from jobs import drawn_tree
-from reference import ACTS, ROUND, Count, reading_round
+from reference import ACTS, ROUND, Count, Link, reading_round
 from tables.reader import Pairs, begin, start_of, tree_of
 
 # What nodes may be called, some of them as steps are.
@@ -21,6 +21,14 @@ HEAD = "step link event effect label holds acked frames acks remembers delivers"
 
 def listed(entries):
     return ",".join(map(str, entries)) or "-"
+
+
+def cells(link, event, effect="-"):
+    """What a line says of a link as it is now."""
+    holds = link.offered[link.acked:] or ["-"]
+    frames = listed(f"{label}={item}" for label, item in link.frames)
+    return (event, effect, link.send, holds[0], link.acked, frames, listed(link.acks), link.recv,
+            link.delivered[-1] if effect == "Fresh" else "-")
 
 
 class Scenario:
@@ -37,13 +45,10 @@ class Scenario:
         for number, step in enumerate(job["steps"], 1):
             s.step(number, step)
 
-    def draw(s, child, event, effect="-", delivers="-"):
+    def draw(s, child, event, effect="-"):
         """The line of a link as it is now."""
-        link = s.tree.links[child]
-        holds = link.offered[link.acked:] or ["-"]
-        frames = listed(f"{label}={item}" for label, item in link.frames)
-        s.out.append(LINE.format(s.number, s.names[child], event, effect, link.send, holds[0],
-                                 link.acked, frames, listed(link.acks), link.recv, delivers))
+        shown = cells(s.tree.links[child], event, effect)
+        s.out.append(LINE.format(s.number, s.names[child], *shown))
 
     def mark(s, node, event, items=None):
         """The line of a node, or of all links."""
@@ -59,8 +64,7 @@ class Scenario:
             word = f'["{act}",{place}]'
         if act == "offer" and len(link.offered) < len(above):
             word = f'["offer",{above[len(link.offered)]}]'
-        effect = s.tree.act(child, act, place)
-        s.draw(child, word, effect, link.delivered[-1] if effect == "Fresh" else "-")
+        s.draw(child, word, s.tree.act(child, act, place))
 
     def step(s, number, step):
         """A step is told by its last value, since a node may be called like a step."""
@@ -122,6 +126,24 @@ def text_of(job):
 
 def drawn_text(job):
     return "".join(line + "\n" for line in Scenario(job).out)
+
+
+def schedule_text(job):
+    """The run of a schedule, which is drawn as a scenario of its events, without their numbers."""
+    return "".join(line[6:] + "\n" for line in Scenario({**job, "steps": job["schedule"]}).out)
+
+
+def link_text(job):
+    """The run of a link job, which is drawn without the name of a node as well."""
+    start = job["start"]
+    link = Link(job["capacity"], job["labels"], start["frames"], start["acks"], start["send"],
+                start["recv"])
+    rows = [HEAD.split()[2:], cells(link, "start")]
+    for event in job["events"]:
+        act, number = (event, 0) if isinstance(event, str) else event
+        effect = link.act(act, [*link.offered, number], number)
+        rows.append(cells(link, json.dumps(event, separators=(",", ":")), effect))
+    return "".join(LINE.format("", "", *row)[16:] + "\n" for row in rows)
 
 
 # ---- random scenarios

@@ -1,7 +1,7 @@
 """The runs that `rignolda draw` draws, as text and as pictures.
 
-The runs of the example scenarios are those of tests/faults/scenario.py, and one is worked out by
-hand."""
+The runs of the example scenarios are those of tests/faults/scenario.py, and others are worked out
+by hand."""
 
 import json
 import re
@@ -26,6 +26,29 @@ start               -       0     -     0     2=99        0       1         -
 ["offer",10]        Held    0     10    0     2=99        0       1         -
 "recv_ack"          Acked   1     -     1     2=99        -       1         -
 "recv_frame"        Fresh   1     -     1     -           -       2         99
+"""
+
+# Queues of two: entries are lost at the back of one and at the front of the other, sent, kept and
+# received.
+TWO_JOB = """\
+{"capacity": 2, "labels": 6,
+    "start": {"frames": [[2, 98], [3, 99]], "acks": [0, 1], "send": 0, "recv": 4},
+    "events": [["lose_ack", 1], ["lose_frame", 0], ["offer", 10], "send_frame", "send_ack",
+        "recv_frame_keep", "recv_frame", "recv_ack", "recv_frame", "send_frame"]}"""
+
+TWO_RUN = """\
+event               effect  label holds acked frames      acks    remembers delivers
+start               -       0     -     0     2=98,3=99   0,1     4         -
+["lose_ack",1]      Lost    0     -     0     2=98,3=99   0       4         -
+["lose_frame",0]    Lost    0     -     0     3=99        0       4         -
+["offer",10]        Held    0     10    0     3=99        0       4         -
+"send_frame"        Sent    0     10    0     3=99,0=10   0       4         -
+"send_ack"          Sent    0     10    0     3=99,0=10   0,4     4         -
+"recv_frame_keep"   Fresh   0     10    0     3=99,0=10   0,4     3         99
+"recv_frame"        Old     0     10    0     0=10        0,4     3         -
+"recv_ack"          Acked   1     -     1     0=10        4       3         -
+"recv_frame"        Fresh   1     -     1     -           4       0         10
+"send_frame"        Nothing 1     -     1     -           4       0         -
 """
 
 # A job of a tree, whose root has one item.
@@ -149,6 +172,7 @@ NEVER = ["<script", "href", "@import", "url(h"]
 
 ROWS = [
     Row("draws a run", ["draw"], JOB, out=RUN),
+    Row("draws queues of two", ["draw"], TWO_JOB, out=TWO_RUN),
     Row("draws a schedule", ["draw"], TREE_JOB, out=TREE_RUN),
     Row("draws the run of a file", ["draw", "job"], files={"job": JOB}, out=RUN),
     Row("draws a picture", ["draw", "--svg"], JOB, out=Like(parts=PARTS, without=NEVER)),
