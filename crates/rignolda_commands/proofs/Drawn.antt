@@ -1,5 +1,6 @@
 -- Why bytes have no drawn run, where they are not loaded, or where memory is refused.
-use Rattle.std.proofs.Common.{◌≡◌, ◌≢◌, ◌⊎◌, ◌∙◌, ℕ, List, Bool, true, false, Option, Some, None, IfSome, ap, inl, inr, refl, sym, subst}
+use Rattle.std.proofs.Common.{◌≡◌, ◌≢◌, ◌∙◌, ℕ, List, Bool, true, false, Option, Some, None, IfSome, ap, inl, refl, sym, subst}
+use Rattle.std.proofs.KnownBytes.{Keeps-refl}
 use Rattle.std.specs.Io.KnownBytes.{Keeps}
 use Rattle.stab_json.specs.Values.{value_of}
 use Rattle.stab_task.specs.Loading.{IsLoadFault, IsUnloaded, fault_of_load}
@@ -7,11 +8,10 @@ use Rattle.stab_task.specs.declared.fault.CliFault.{CliFault}
 use Rattle.stab_task.specs.declared.fault.CliFault.TheVariants.{Memory, Write}
 use Rattle.stab_task.specs.declared.file.LoadFault.{LoadFault}
 use Rattle.stab_task.specs.declared.file.LoadFault.TheVariants as load
-use Rattle.rignolda_draw.specs.Written.{Begun}
-use Rattle.rignolda_commands.specs.Drawn.{IsDrawn, IsUndrawn, IsUndrawnBy, IsUndrawnJob, has_steps}
+use Rattle.rignolda_commands.specs.Drawn.{IsDrawn, IsUndrawn, IsUndrawnBy, IsUndrawnJob, IsWritten, has_steps}
+use Rattle.rignolda_commands.specs.declared.run.Drawing.{Drawing}
 use Rattle.rignolda_commands.specs.declared.fault.CommandFault.{CommandFault}
 use Rattle.rignolda_commands.specs.declared.fault.CommandFault.TheVariants.{Job}
-use Rattle.rignolda_draw.proofs.ForCallers.{kept_bytes}
 use Rattle.rignolda_commands.proofs.Told.{by_load}
 
 job_by_load : (input : List ℕ) (why : LoadFault) → IsLoadFault (Some input) why → IsUndrawnJob input (fault_of_load why)
@@ -54,19 +54,12 @@ pub nothing_else : (old new : Option (List ℕ)) (refusal : CliFault) (fault : C
     → fault ≢ Job Write → fault ≢ Job Memory → Keeps old new
 nothing_else old new refusal fault is only other no_memory = absurd (no_memory (is_memory refusal fault is only other))
 
--- a run that is begun, of whatever the reader had
-begun_of_any : (had old new : Option (List ℕ)) (is_picture : Bool) (text : List ℕ) → IfSome had (λ input. IsDrawn is_picture input text) → Begun old new text
-    → IfSome had (λ input. (whole : List ℕ) × IsDrawn is_picture input whole × Begun old new whole)
-begun_of_any None old new is_picture text is begun = tt
-begun_of_any (Some input) old new is_picture text is begun = (text, is, begun)
+-- a run that is drawn and written, of whatever the reader had
+pub written : (had old new : Option (List ℕ)) (is_picture : Bool) (drawing : Drawing) → IfSome had (λ input. IsDrawn is_picture input drawing)
+    → IsWritten drawing old new → IfSome had (λ input. (drawn : Drawing) × IsDrawn is_picture input drawn × IsWritten drawn old new)
+written None old new is_picture drawing drawn is = tt
+written (Some input) old new is_picture drawing drawn is = (drawing, drawn, is)
 
--- and only the beginning of the run was
-pub begun_then : (had old new : Option (List ℕ)) (is_picture : Bool) (text : List ℕ) (refusal : CliFault) (fault : CommandFault)
-    → IfSome had (λ input. IsDrawn is_picture input text) → fault ≡ Job refusal → (refusal ≢ Write → Begun old new text) → fault ≢ Job Write
-    → Keeps old new ⊎ IfSome had (λ input. (whole : List ℕ) × IsDrawn is_picture input whole × Begun old new whole)
-begun_then had old new is_picture text refusal fault drawn is begun other =
-    inr (begun_of_any had old new is_picture text drawn (begun (λ failed. other (is ∙ ap Job failed))))
-
--- before it is drawn, nothing is written
-pub not_begun : (a : Option (List ℕ)) (B : Type 0) → Keeps a a ⊎ B
-not_begun a B = inl (kept_bytes a)
+-- bytes that nothing is added to
+pub kept_bytes : (a : Option (List ℕ)) → Keeps a a
+kept_bytes a = Keeps-refl a

@@ -1,9 +1,8 @@
 -- What is read as a job of a tree names a tree, and what is read as a scenario names steps as well;
 -- so both are known for what they are, and what is said of them is said of their bytes.
-use Rattle.std.proofs.Common.{◌≡◌, ◌≢◌, ℕ, List, Bool, true, false, Option, Some, None, Result, Ok, Err, All, codes, get_or, IfSome, is_some, if◌then◌else◌, option_and_then, refl, sym, ap, ◌∙◌, subst, arith}
+use Rattle.std.proofs.Common.{◌≡◌, ◌≢◌, ◌≤◌, ℕ, List, length, Bool, true, false, Option, Some, None, Result, Ok, Err, All, codes, get_or, IfSome, is_some, if◌then◌else◌, option_and_then, refl, sym, ap, ◌∙◌, subst, arith}
 use Rattle.serde_json.specs.Data.{Data}
 use Rattle.serde_json.specs.Find.{as_array, get}
-use Rattle.stab_job.specs.JobMembers.{members}
 use Rattle.stab_job.specs.Jobs.{job}
 use Rattle.stab_job.specs.JobValues.{JobValue, network}
 use Rattle.stab_job.specs.Replays.{IsReplayReason}
@@ -20,10 +19,9 @@ use Rattle.stab_task.specs.declared.fault.CliFault.TheVariants as task
 use Rattle.stab_treecore.specs.Network.{IsNetwork}
 use Rattle.stab_treecore.specs.Refusals.{NamesLink}
 use Rattle.stab_treecore.specs.declared.fault.TreeStartFault.{TreeStartFault}
-use Rattle.rignolda_draw.specs.Schedules.{schedule_run_text}
-use Rattle.rignolda_draw.specs.ScenarioRuns.{scenario_run_text}
 use Rattle.rignolda_explain.proofs.KnownKinds.{has_tree, job_is_a_tree, read_as_a_link, tree_is_other}
 use Rattle.rignolda_scenario.specs.Counts.{IsUnrun}
+use Rattle.rignolda_scenario.specs.Played.{changes_of, most_changes}
 use Rattle.rignolda_scenario.specs.Refusals.{job_refused}
 use Rattle.rignolda_scenario.specs.Scenarios.{scenario, steps_after, steps_of, with_steps}
 use Rattle.rignolda_scenario.specs.declared.fault.ScenarioFault.{ScenarioFault}
@@ -33,6 +31,8 @@ use Rattle.rignolda_scenario.specs.declared.step.Step.{Step}
 use Rattle.rignolda_commands.specs.Checked.{IsChecked, IsCheckedAs, IsCheckedLink, IsCheckedTree, IsUnchecked, IsUncheckedAs, IsUncheckedLink, IsUncheckedTree}
 use Rattle.rignolda_commands.specs.Drawn.{IsDrawn, IsDrawnAs, IsDrawnBy, IsDrawnLink, IsUndrawn, IsUndrawnBy, has_steps, task_of}
 use Rattle.rignolda_commands.specs.Told.{steps_refused}
+use Rattle.rignolda_commands.specs.declared.run.Drawing.{Drawing}
+use Rattle.rignolda_commands.specs.declared.run.Drawing.TheVariants.{Schedule}
 use Rattle.rignolda_commands.specs.declared.fault.CommandFault.{CommandFault}
 use Rattle.rignolda_commands.specs.declared.fault.CommandFault.TheVariants.{Job}
 use Rattle.rignolda_commands.proofs.Told.{unread, unrun}
@@ -119,10 +119,11 @@ unchecked_as_a_link input had fault none why =
 -- ---- a run that is drawn
 
 -- of a link job
-pub drawn_as_a_link : (is_picture : Bool) (input text : List ℕ) → IfSome (value_of input) HasNoOthers → IsDrawnLink is_picture input text → IsDrawn is_picture input text
-drawn_as_a_link is_picture input text none is =
-    subst (λ has. IsDrawnBy has is_picture input text) (sym (link_has_no_steps (value_of input) none))
-    (subst (λ k. IsDrawnAs k is_picture input text) (sym (read_as_a_link (value_of input) none)) is)
+pub drawn_as_a_link : (is_picture : Bool) (input : List ℕ) (drawn : Drawing) → IfSome (value_of input) HasNoOthers
+    → IsDrawnLink is_picture input drawn → IsDrawn is_picture input drawn
+drawn_as_a_link is_picture input drawn none is =
+    subst (λ has. IsDrawnBy has is_picture input drawn) (sym (link_has_no_steps (value_of input) none))
+    (subst (λ k. IsDrawnAs k is_picture input drawn) (sym (read_as_a_link (value_of input) none)) is)
 
 pub undrawn_as_a_link : (input : List ℕ) (fault : CliFault) → IfSome (value_of input) HasNoOthers → IsUnanswered (Link false) input fault → IsUndrawn input (Job fault)
 undrawn_as_a_link input fault none why =
@@ -135,11 +136,12 @@ pub undrawn_unread : (input : List ℕ) (refusal : ScenarioFault) → has_steps 
 undrawn_unread input refusal has why =
     subst (λ b. IsUndrawnBy b input (steps_refused refusal)) (sym has) (unread input refusal why)
 
-pub drawn_with_steps : (is_picture : Bool) (input text : List ℕ) (its_scenario : Scenario) → scenario input ≡ Ok its_scenario
-    → (is_picture ≡ false → text ≡ scenario_run_text its_scenario) → IsDrawn is_picture input text
-drawn_with_steps is_picture input text its_scenario read is =
-    subst (λ has. IsDrawnBy has is_picture input text) (sym (scenario_has_steps input its_scenario read))
-    (record { its_scenario = its_scenario; read = read; the_text = is })
+pub drawn_with_steps : (is_picture : Bool) (input : List ℕ) (drawn : Drawing) (its_scenario : Scenario) → scenario input ≡ Ok its_scenario
+    → (is_picture ≡ false → length (changes_of its_scenario.job.tree.parents its_scenario.job.params its_scenario.steps) ≤ most_changes)
+    → IsDrawn is_picture input drawn
+drawn_with_steps is_picture input drawn its_scenario read few =
+    subst (λ has. IsDrawnBy has is_picture input drawn) (sym (scenario_has_steps input its_scenario read))
+    (record { its_scenario = its_scenario; read = read; few = few })
 
 pub undrawn_with_steps : (input : List ℕ) (its_scenario : Scenario) (refusal : ScenarioFault) → scenario input ≡ Ok its_scenario
     → IsUnrun its_scenario.job its_scenario.steps refusal → IsUndrawn input (steps_refused refusal)
@@ -147,13 +149,13 @@ undrawn_with_steps input its_scenario refusal read why =
     subst (λ has. IsUndrawnBy has input (steps_refused refusal)) (sym (scenario_has_steps input its_scenario read))
     (unrun input its_scenario refusal read why)
 
-pub drawn_without_steps : (is_picture : Bool) (input text : List ℕ) (its_job : JobValue) → job input ≡ Ok its_job → has_steps (value_of input) ≡ false
-    → IsNetwork (network its_job) → All (NamesLink its_job.tree.parents) its_job.schedule
-    → (is_picture ≡ false → text ≡ schedule_run_text (network its_job) its_job.schedule) → IsDrawn is_picture input text
-drawn_without_steps is_picture input text its_job read none begins named is =
-    subst (λ has. IsDrawnBy has is_picture input text) (sym none)
-    (subst (λ k. IsDrawnAs k is_picture input text) (sym (job_is_a_tree input its_job read))
-    (record { job = its_job; read = read; begins = begins; named = named; the_text = is }))
+pub drawn_without_steps : (is_picture : Bool) (input : List ℕ) (drawn : Drawing) (its_job : JobValue) → job input ≡ Ok its_job
+    → has_steps (value_of input) ≡ false → IsNetwork (network its_job) → All (NamesLink its_job.tree.parents) its_job.schedule
+    → (is_picture ≡ false → drawn ≡ Schedule its_job) → IsDrawn is_picture input drawn
+drawn_without_steps is_picture input drawn its_job read none begins named is =
+    subst (λ has. IsDrawnBy has is_picture input drawn) (sym none)
+    (subst (λ k. IsDrawnAs k is_picture input drawn) (sym (job_is_a_tree input its_job read))
+    (record { job = its_job; read = read; begins = begins; named = named; its_run = is }))
 
 pub undrawn_without_steps : (input : List ℕ) (its_job : JobValue) (fault : TreeStartFault) → job input ≡ Ok its_job → has_steps (value_of input) ≡ false
     → IsReplayReason its_job fault → IsUndrawn input (Job (task.Tree fault))

@@ -1,14 +1,14 @@
-ghost use Rattle.std.specs.Prelude.{◌≡◌, ◌≢◌, ◌⊎◌, ℕ, List, false, Some, None, Ok};
+ghost use Rattle.std.specs.Prelude.{◌≡◌, ◌≢◌, false, Some, None, Ok};
 ghost use Rattle.std.specs.Prelude.{IfErr, IfOk, IfSome, OnOk, option_map};
-ghost use Rattle.std.specs.Io.KnownBytes.{Appends, Keeps};
+ghost use Rattle.std.specs.Io.KnownBytes.{Keeps};
 ghost use Rattle.serde_json.specs.Data.{Data};
 ghost use Rattle.serde_json.specs.View.{view};
 ghost use Rattle.rignolda_commands.specs.Commands.{IsFaultOf, Steps};
 ghost use Rattle.rignolda_commands.specs.Drawn.{IsDrawn, IsDrawnAs, IsDrawnBy, IsDrawnLink};
 ghost use Rattle.rignolda_commands.specs.Drawn.{IsDrawnScenario, IsDrawnTree, IsUndrawn, IsUndrawnBy};
-ghost use Rattle.rignolda_commands.specs.Drawn.{IsReplayed, drawn_text, has_steps, task_of};
+ghost use Rattle.rignolda_commands.specs.Drawn.{IsReplayed, IsWritten, has_steps, task_of};
 ghost use Rattle.rignolda_commands.specs.Told.{IsUntold};
-ghost use Rattle.rignolda_draw.specs.Written.{Begun};
+ghost use Rattle.rignolda_commands.specs.declared.run.Drawing.{Drawing};
 ghost use Rattle.rignolda_explain.specs.Kinds.{chosen};
 ghost use Rattle.stab_job.specs.Jobs.{job};
 ghost use Rattle.stab_job.specs.Parts.{SameMembers};
@@ -39,7 +39,7 @@ use std::io::{Read, Write};
 ///
 /// A run is replayed before the first byte of it is written, so nothing is written unless the fault
 /// is `Write`, or memory is refused while it is drawn: then the beginning of the text is written.
-#[tactic(auto, using(crate::proofs::Drawn::unwritten, crate::proofs::Drawn::nothing_else, crate::proofs::Drawn::begun_then, crate::proofs::Drawn::not_begun, rignolda_draw::proofs::ForCallers::kept_bytes))]
+#[tactic(auto, using(crate::proofs::Drawn::unwritten, crate::proofs::Drawn::nothing_else, crate::proofs::Drawn::written, crate::proofs::Drawn::kept_bytes))]
 pub fn act_draw<R: Read, W: Write>(
     alloc: Global,
     is_picture: bool,
@@ -47,19 +47,14 @@ pub fn act_draw<R: Read, W: Write>(
     writer: &mut W,
 ) -> Result<(), CommandFault>
     ensures written { OnOk result (IfSome (R.remaining reader.old) (λ input.
-        (text : List ℕ) × IsDrawn is_picture input text
-        × Appends (W.contents writer.old) (W.contents writer.new) text)) }
+        (drawing : Drawing) × IsDrawn is_picture input drawing
+        × IsWritten drawing (W.contents writer.old) (W.contents writer.new))) }
     ensures fault { IfErr result (λ fault. fault ≢ CommandFault.Job CliFault.Write
         → IfSome (R.remaining reader.old) (λ input. IsUndrawn input fault)) }
     ensures among { IfErr result (IsFaultOf Steps) }
     ensures nothing { IfErr result (λ fault. fault ≢ CommandFault.Job CliFault.Write
         → fault ≢ CommandFault.Job CliFault.Memory
         → Keeps (W.contents writer.old) (W.contents writer.new)) }
-    ensures begun { IfErr result (λ fault. fault ≢ CommandFault.Job CliFault.Write
-        → Keeps (W.contents writer.old) (W.contents writer.new)
-        ⊎ IfSome (R.remaining reader.old) (λ input.
-        (text : List ℕ) × IsDrawn is_picture input text
-        × Begun (W.contents writer.old) (W.contents writer.new) text)) }
 {
     let drawing = draw_input(alloc, is_picture, reader)?;
     write_drawing(alloc, writer, drawing)?;
@@ -74,7 +69,7 @@ fn draw_input<R: Read>(
     reader: &mut R,
 ) -> Result<Drawing, CommandFault>
     ensures drawn { IfOk result (λ drawing. IfSome (R.remaining reader.old)
-        (λ input. IsDrawn is_picture input (drawn_text drawing))) }
+        (λ input. IsDrawn is_picture input drawing)) }
     ensures replayed { IfOk result IsReplayed }
     ensures fault { IfErr result (λ fault.
         IfSome (R.remaining reader.old) (λ input. IsUndrawn input fault)) }
@@ -88,8 +83,7 @@ fn draw_input<R: Read>(
 /// The run of the job that these bytes are, or of its steps. The job is read off the text, as one of
 /// the kind that it seems to be; and where that fails, all that is said comes from its value.
 fn draw_bytes(alloc: Global, is_picture: bool, bytes: &[u8]) -> Result<Drawing, CommandFault>
-    ensures drawn { IfOk result (λ drawing.
-        IsDrawn is_picture bytes.now (drawn_text drawing)) }
+    ensures drawn { IfOk result (IsDrawn is_picture bytes.now) }
     ensures replayed { IfOk result IsReplayed }
     ensures fault { IfErr result (IsUndrawn bytes.now) }
 {
@@ -105,8 +99,7 @@ fn draw_bytes(alloc: Global, is_picture: bool, bytes: &[u8]) -> Result<Drawing, 
 /// The same, where the bytes are read as a link job first, which has no other members.
 #[tactic(auto, using(crate::proofs::Drawn::memory_is_refused, crate::proofs::ReadAs::drawn_as_a_link, crate::proofs::ReadAs::undrawn_as_a_link))]
 fn draw_link_first(alloc: Global, is_picture: bool, bytes: &[u8]) -> Result<Drawing, CommandFault>
-    ensures drawn { IfOk result (λ drawing.
-        IsDrawn is_picture bytes.now (drawn_text drawing)) }
+    ensures drawn { IfOk result (IsDrawn is_picture bytes.now) }
     ensures replayed { IfOk result IsReplayed }
     ensures fault { IfErr result (IsUndrawn bytes.now) }
 {
@@ -119,8 +112,7 @@ fn draw_link_first(alloc: Global, is_picture: bool, bytes: &[u8]) -> Result<Draw
 /// The same, where the bytes are read as a scenario first.
 #[tactic(auto, using(crate::proofs::Drawn::memory_is_refused))]
 fn draw_steps_first(alloc: Global, is_picture: bool, bytes: &[u8]) -> Result<Drawing, CommandFault>
-    ensures drawn { IfOk result (λ drawing.
-        IsDrawn is_picture bytes.now (drawn_text drawing)) }
+    ensures drawn { IfOk result (IsDrawn is_picture bytes.now) }
     ensures replayed { IfOk result IsReplayed }
     ensures fault { IfErr result (IsUndrawn bytes.now) }
 {
@@ -142,8 +134,7 @@ fn draw_plain_steps(
 ) -> Result<Drawing, CommandFault>
     requires job { IsUnscheduled (job bytes.now) its_job }
     requires members { (d : Data) × (value_of bytes.now ≡ Some d) × SameMembers d (view members.now) }
-    ensures drawn { IfOk result (λ drawing.
-        IsDrawn is_picture bytes.now (drawn_text drawing)) }
+    ensures drawn { IfOk result (IsDrawn is_picture bytes.now) }
     ensures replayed { IfOk result IsReplayed }
     ensures fault { IfErr result (IsUndrawn bytes.now) }
 {
@@ -162,8 +153,7 @@ fn draw_schedule_first(
     is_picture: bool,
     bytes: &[u8],
 ) -> Result<Drawing, CommandFault>
-    ensures drawn { IfOk result (λ drawing.
-        IsDrawn is_picture bytes.now (drawn_text drawing)) }
+    ensures drawn { IfOk result (IsDrawn is_picture bytes.now) }
     ensures replayed { IfOk result IsReplayed }
     ensures fault { IfErr result (IsUndrawn bytes.now) }
 {
@@ -185,8 +175,7 @@ fn draw_job(
 ) -> Result<Drawing, CommandFault>
     requires job { job bytes.now ≡ Ok its_job }
     requires members { (d : Data) × (value_of bytes.now ≡ Some d) × SameMembers d (view members.now) }
-    ensures drawn { IfOk result (λ drawing.
-        IsDrawn is_picture bytes.now (drawn_text drawing)) }
+    ensures drawn { IfOk result (IsDrawn is_picture bytes.now) }
     ensures replayed { IfOk result IsReplayed }
     ensures fault { IfErr result (IsUndrawn bytes.now) }
 {
@@ -208,8 +197,7 @@ fn draw_schedule(
 ) -> Result<Drawing, CliFault>
     requires job { job bytes.now ≡ Ok its_job }
     requires steps { has_steps (value_of bytes.now) ≡ false }
-    ensures drawn { IfOk result (λ drawing.
-        IsDrawn is_picture bytes.now (drawn_text drawing)) }
+    ensures drawn { IfOk result (IsDrawn is_picture bytes.now) }
     ensures replayed { IfOk result IsReplayed }
     ensures fault { IfErr result (λ fault. IsUndrawn bytes.now (CommandFault.Job fault)) }
 {
@@ -220,8 +208,7 @@ fn draw_schedule(
 /// The run of the job that these bytes are, or of its steps, by their value.
 #[tactic(auto, using(crate::proofs::Drawn::memory_is_refused))]
 fn draw_by_value(alloc: Global, is_picture: bool, bytes: &[u8]) -> Result<Drawing, CommandFault>
-    ensures drawn { IfOk result (λ drawing.
-        IsDrawn is_picture bytes.now (drawn_text drawing)) }
+    ensures drawn { IfOk result (IsDrawn is_picture bytes.now) }
     ensures replayed { IfOk result IsReplayed }
     ensures fault { IfErr result (IsUndrawn bytes.now) }
 {
@@ -243,8 +230,7 @@ fn draw_by(
 ) -> Result<Drawing, CommandFault>
     requires kind { kind ≡ chosen None (value_of bytes.now) }
     requires value { option_map view value ≡ value_of bytes.now }
-    ensures drawn { IfOk result (λ drawing.
-        IsDrawnBy is_scenario is_picture bytes.now (drawn_text drawing)) }
+    ensures drawn { IfOk result (IsDrawnBy is_scenario is_picture bytes.now) }
     ensures replayed { IfOk result IsReplayed }
     ensures fault { IfErr result (IsUndrawnBy is_scenario bytes.now) }
 {
@@ -265,8 +251,7 @@ fn draw_scenario(
     bytes: &[u8],
 ) -> Result<Drawing, CommandFault>
     requires { option_map view value ≡ value_of bytes.now }
-    ensures drawn { IfOk result (λ drawing.
-        IsDrawnScenario is_picture bytes.now (drawn_text drawing)) }
+    ensures drawn { OnOk result (IsDrawnScenario is_picture bytes.now) }
     ensures replayed { IfOk result IsReplayed }
     ensures fault { IfErr result (λ fault. IsUntold bytes.now fault) }
 {
@@ -284,8 +269,7 @@ fn draw_kind(
     bytes: &[u8],
 ) -> Result<Drawing, CliFault>
     requires { option_map view value ≡ value_of bytes.now }
-    ensures drawn { IfOk result (λ drawing.
-        IsDrawnAs kind is_picture bytes.now (drawn_text drawing)) }
+    ensures drawn { IfOk result (IsDrawnAs kind is_picture bytes.now) }
     ensures replayed { IfOk result IsReplayed }
     ensures fault { IfErr result (IsUnanswered (task_of kind) bytes.now) }
 {
@@ -303,8 +287,7 @@ fn draw_link(
     bytes: &[u8],
 ) -> Result<Drawing, CliFault>
     requires { option_map view value ≡ value_of bytes.now }
-    ensures drawn { IfOk result (λ drawing.
-        IsDrawnLink is_picture bytes.now (drawn_text drawing)) }
+    ensures drawn { IfOk result (IsDrawnLink is_picture bytes.now) }
     ensures replayed { IfOk result IsReplayed }
     ensures fault { IfErr result (IsUnanswered (Link false) bytes.now) }
 {
@@ -320,8 +303,7 @@ fn draw_link_job(
     job: LinkJob,
 ) -> Result<Drawing, CliFault>
     requires { link_job bytes.now ≡ Ok job }
-    ensures drawn { IfOk result (λ drawing.
-        IsDrawnLink is_picture bytes.now (drawn_text drawing)) }
+    ensures drawn { IfOk result (IsDrawnLink is_picture bytes.now) }
     ensures replayed { IfOk result IsReplayed }
     ensures fault { IfErr result (IsUnanswered (Link false) bytes.now) }
 {
@@ -337,8 +319,7 @@ fn draw_tree(
     bytes: &[u8],
 ) -> Result<Drawing, CliFault>
     requires { option_map view value ≡ value_of bytes.now }
-    ensures drawn { IfOk result (λ drawing.
-        IsDrawnTree is_picture bytes.now (drawn_text drawing)) }
+    ensures drawn { IfOk result (IsDrawnTree is_picture bytes.now) }
     ensures replayed { IfOk result IsReplayed }
     ensures fault { IfErr result (IsUnanswered Tree bytes.now) }
 {

@@ -1,17 +1,16 @@
 //! The run of a job that was read: it is replayed, and then drawn, as text or as a picture.
 
-ghost use Rattle.std.specs.Prelude.{◌≡◌, ◌≢◌, false, string_bytes, All, IfErr, IfOk, OnOk};
+ghost use Rattle.std.specs.Prelude.{◌≡◌, ◌≢◌, ◌≤◌, false, length, string_bytes};
+ghost use Rattle.std.specs.Prelude.{All, IfErr, IfOk, OnOk};
 ghost use Rattle.std.specs.Io.KnownBytes.{Appends};
 ghost use Rattle.stab_core.specs.Link.{IsReason};
 ghost use Rattle.stab_core.specs.Replay.{IsLawful};
-ghost use Rattle.rignolda_commands.specs.Drawn.{IsReplayed, drawn_text};
-ghost use Rattle.rignolda_draw.specs.Runs.{run_text};
-ghost use Rattle.rignolda_draw.specs.Schedules.{schedule_run_text};
-ghost use Rattle.rignolda_draw.specs.Written.{Begun, Written};
-ghost use Rattle.rignolda_draw.specs.ScenarioRuns.{scenario_run_text};
+ghost use Rattle.rignolda_commands.specs.Drawn.{IsReplayed, IsWritten};
+ghost use Rattle.rignolda_commands.specs.declared.run.Drawing.TheVariants.{Link, Schedule};
 ghost use Rattle.stab_job.specs.JobValues.{network};
 ghost use Rattle.stab_job.specs.Replays.{IsReplayReason};
 ghost use Rattle.rignolda_scenario.specs.Counts.{IsUnrun};
+ghost use Rattle.rignolda_scenario.specs.Played.{changes_of, most_changes};
 ghost use Rattle.stab_treecore.specs.Network.{IsNetwork};
 ghost use Rattle.stab_treecore.specs.Refusals.{NamesLink};
 
@@ -43,8 +42,8 @@ pub(crate) fn scenario_run(
     is_picture: bool,
     scenario: &Scenario,
 ) -> Result<Drawing, ScenarioFault>
-    ensures text { IfOk result (λ drawing.
-        is_picture ≡ false → drawn_text drawing ≡ scenario_run_text scenario.now) }
+    ensures few { OnOk result (is_picture ≡ false → length (changes_of
+        scenario.now.job.tree.parents scenario.now.job.params scenario.now.steps) ≤ most_changes) }
     ensures replayed { IfOk result IsReplayed }
     ensures refused { IfErr result (IsUnrun scenario.now.job scenario.now.steps) }
 {
@@ -59,8 +58,7 @@ pub(crate) fn scenario_run(
 
 /// The run of a link job that was read.
 pub(crate) fn link_run(alloc: Global, is_picture: bool, job: LinkJob) -> Result<Drawing, StartFault>
-    ensures text { IfOk result (λ drawing.
-        is_picture ≡ false → drawn_text drawing ≡ run_text job) }
+    ensures run { IfOk result (λ drawing. is_picture ≡ false → drawing ≡ Link job) }
     ensures replayed { IfOk result IsReplayed }
     ensures lawful { OnOk result (IsLawful job.params job.start) }
     ensures refused { IfErr result (IsReason job.params job.start) }
@@ -76,8 +74,7 @@ pub(crate) fn link_run(alloc: Global, is_picture: bool, job: LinkJob) -> Result<
 
 /// The run of the schedule of a job that was read.
 pub(crate) fn tree_run(alloc: Global, is_picture: bool, job: Job) -> Result<Drawing, TreeStartFault>
-    ensures text { IfOk result (λ drawing. is_picture ≡ false
-        → drawn_text drawing ≡ schedule_run_text (network job) job.schedule) }
+    ensures run { IfOk result (λ drawing. is_picture ≡ false → drawing ≡ Schedule job) }
     ensures replayed { IfOk result IsReplayed }
     ensures network { OnOk result (IsNetwork (network job)) }
     ensures named { OnOk result (All (NamesLink job.tree.parents) job.schedule) }
@@ -93,7 +90,6 @@ pub(crate) fn tree_run(alloc: Global, is_picture: bool, job: Job) -> Result<Draw
 }
 
 /// Draws a run, and writes it in blocks; a whole drawing is written at once.
-#[tactic(auto, using(rignolda_draw::proofs::ForCallers::all_appended))]
 pub(crate) fn write_drawing<W: Write>(
     alloc: Global,
     writer: &mut W,
@@ -101,34 +97,31 @@ pub(crate) fn write_drawing<W: Write>(
 ) -> Result<(), CliFault>
     requires replayed { IsReplayed drawing }
     ensures written { OnOk result
-        (Appends (W.contents writer.old) (W.contents writer.new) (drawn_text drawing)) }
+        (IsWritten drawing (W.contents writer.old) (W.contents writer.new)) }
     ensures fault { IfErr result (λ fault. fault ≢ CliFault.Write → fault ≡ CliFault.Memory) }
-    ensures begun { IfErr result (λ fault. fault ≢ CliFault.Write
-        → Begun (W.contents writer.old) (W.contents writer.new) (drawn_text drawing)) }
 {
-    match write_first(alloc, writer, drawing) {
-        Ok(last) => write_text(writer, &last),
-        Err(OutputFault::Memory) => Err(CliFault::Memory),
-        Err(OutputFault::Write) => Err(CliFault::Write),
+    match drawing {
+        Drawing::Link(job) => {
+            let last = write_run(alloc, writer, &job);
+            write_last(writer, last)
+        }
+        Drawing::Schedule(job) => {
+            let last = write_schedule_run(alloc, writer, &job);
+            write_last(writer, last)
+        }
+        Drawing::Whole(text) => write_text(writer, &text),
     }
 }
 
-/// Draws a run, and writes all but the last of it, which is handed out.
-#[tactic(auto, using(rignolda_draw::proofs::ForCallers::kept_whole))]
-fn write_first<W: Write>(
-    alloc: Global,
-    writer: &mut W,
-    drawing: Drawing,
-) -> Result<String, OutputFault>
-    requires replayed { IsReplayed drawing }
-    ensures written { IfOk result (λ last. Written (W.contents writer.old)
-        (W.contents writer.new) (string_bytes last) (drawn_text drawing)) }
-    ensures begun { IfErr result (λ fault. fault ≢ OutputFault.Write
-        → Begun (W.contents writer.old) (W.contents writer.new) (drawn_text drawing)) }
+/// Writes the last of what was drawn, all before which is written.
+fn write_last<W: Write>(writer: &mut W, drawn: Result<String, OutputFault>) -> Result<(), CliFault>
+    ensures written { OnOk result (IfOk drawn (λ last.
+        Appends (W.contents writer.old) (W.contents writer.new) (string_bytes last))) }
+    ensures fault { IfErr result (λ fault. fault ≢ CliFault.Write → fault ≡ CliFault.Memory) }
 {
-    match drawing {
-        Drawing::Link(job) => write_run(alloc, writer, &job),
-        Drawing::Schedule(job) => write_schedule_run(alloc, writer, &job),
-        Drawing::Whole(text) => Ok(text),
+    match drawn {
+        Ok(last) => write_text(writer, &last),
+        Err(OutputFault::Memory) => Err(CliFault::Memory),
+        Err(OutputFault::Write) => Err(CliFault::Write),
     }
 }

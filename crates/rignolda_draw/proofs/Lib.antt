@@ -1,8 +1,4 @@
-pub mod Joined
-pub mod Going
-pub mod ForCallers
+mod Going
 mod Played
-mod Following
-mod Columns
-mod Still
-mod AllKept
+mod Taking
+mod Writing

@@ -1,8 +1,4 @@
-pub mod Words
-pub mod Kept
-pub mod Runs
-pub mod Schedules
 pub mod Rows
-pub mod Written
-pub mod ScenarioRuns
 pub mod ScenarioRows
+pub mod Takes
+pub mod Written

@@ -3,7 +3,7 @@
 -- Example: The first row of the run of the worst start of capacity 1 is the offer of 10 with the
 -- effect `Held`; after it the sender's label is 0, it holds 10, and the receiver remembers 1.
 -- Source: this project's own.
-use Rattle.std.specs.Prelude.{ℕ, List, [], ◌∷◌, ◌++◌, Option, Some, None, option_to_list, slice_get}
+use Rattle.std.specs.Prelude.{ℕ, List, [], ◌∷◌, ◌++◌, Option, Some, option_to_list, slice_get}
 use Rattle.std.specs.Prelude.{option_map}
 use Rattle.stab_frames.specs.Parameters.{Parameters}
 use Rattle.stab_core.specs.declared.event.Event.{Event}

@@ -9,8 +9,3 @@ pub record Written (old new : Option (List ℕ)) (kept text : List ℕ) : Type 0
   pub part : List ℕ
   pub appended : Appends old new part
   pub whole : part ++ kept ≡ text
-
--- known bytes grew by the beginning of this text, or by nothing, or by all of it
-pub record Begun (old new : Option (List ℕ)) (text : List ℕ) : Type 0 where
-  pub rest : List ℕ
-  pub written : Written old new rest text

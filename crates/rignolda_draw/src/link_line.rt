@@ -1,52 +1,105 @@
-//! The line of a link of a tree, which is kept from line to line.
+//! The line of a link, which is kept from line to line.
 
-ghost use Rattle.std.specs.Prelude.{◌≡◌, None, string_bytes, IfOk, OnOk};
-ghost use Rattle.rignolda_draw.specs.Kept.{FollowsLink, Shows, ShowsLine};
-ghost use Rattle.rignolda_draw.specs.Runs.{state_cells};
-
-use crate::cells::{push_kept_cells, push_name_cell};
-use crate::link_text::LinkText;
-use crate::queues::Before;
-use stab_core::Link;
+use crate::cells::{push_cell, push_delivered, push_name_cell, push_remembered_cell};
+use crate::event_cells::push_act_cells;
+use crate::queue::Queue;
+use crate::row::Row;
+use crate::sender::Sender;
+use crate::words::delivered_by;
+use stab_core::{Effect, Event, Link};
+use stab_frames::{Frame, Label};
 use stab_tree::{NodeId, Tree};
 use std::alloc::{AllocError, Global};
 
-/// The name of a link's child in its column, the text of the link, and the end of a line that shows
-/// it where nothing was delivered.
+/// What a line shows of a link: the name of its child in its column, which a run of one link has
+/// not, and the cells behind the effect, with the parts of which they are made.
 #[derive(Drop)]
 pub(crate) struct LinkLine {
-    pub(crate) name: String,
-    pub(crate) text: LinkText,
-    pub(crate) end: String,
+    name: String,
+    sender: Sender,
+    frames: Queue,
+    acks: Queue,
+    cells: String,
 }
 
 impl LinkLine {
     /// The line of the link into a node.
     pub(crate) fn new(
         alloc: Global,
-        tree: &Tree,
+        tree: Option<&Tree>,
         node: NodeId,
         link: &Link,
-    ) -> Result<LinkLine, AllocError>
-        ensures { IfOk result (λ line. ShowsLine tree.now node line link.now.state) }
-    {
-        let text = LinkText::new(alloc, link)?;
+    ) -> Result<LinkLine, AllocError> {
         let mut name = String::new(alloc);
-        push_name_cell(&mut name, tree, node)?;
-        let mut end = String::new(alloc);
-        push_kept_cells(&mut end, link, &text, None)?;
-        Ok(LinkLine { name, text, end })
+        if let Some(tree) = tree {
+            push_name_cell(&mut name, tree, node)?;
+        }
+        let sender = Sender::new(alloc, link)?;
+        let frames = Queue::new::<Frame>(alloc, link)?;
+        let acks = Queue::new::<Label>(alloc, link)?;
+        let mut line = LinkLine {
+            name,
+            sender,
+            frames,
+            acks,
+            cells: String::new(alloc),
+        };
+        line.write_cells(link)?;
+        Ok(line)
     }
 
-    /// Changes the line of a link as the link changed.
-    pub(crate) fn follow(&mut self, link: &Link, before: Before) -> Result<(), AllocError>
-        requires { FollowsLink self.old.text before link.now.state }
-        ensures shows { OnOk result (Shows self.new.text link.now.state) }
-        ensures end { OnOk result (string_bytes self.new.end ≡ state_cells link.now.state None) }
-        ensures name { OnOk result (self.new.name ≡ self.old.name) }
-    {
-        self.text.follow(link, before)?;
-        self.end.clear();
-        push_kept_cells(&mut self.end, link, &self.text, None)
+    /// Writes the cells from their parts.
+    fn write_cells(&mut self, link: &Link) -> Result<(), AllocError> {
+        let cells = &mut self.cells;
+        cells.clear();
+        cells.push_str(self.sender.cells.as_str())?;
+        push_cell(cells, self.frames.word(), 11)?;
+        push_cell(cells, self.acks.word(), 7)?;
+        push_remembered_cell(cells, link.recv_label())
+    }
+
+    /// Changes the line as the event of a row changed its link, which is as it was where the event
+    /// had no effect.
+    pub(crate) fn follow(&mut self, row: &Row, link: &Link) -> Result<(), AllocError> {
+        if is_nothing(row.effect) {
+            return Ok(());
+        }
+        let is_loss = is_loss(row.event);
+        self.sender.follow(link)?;
+        self.frames.follow::<Frame>(link, is_loss)?;
+        self.acks.follow::<Label>(link, is_loss)?;
+        self.write_cells(link)
+    }
+
+    /// Adds the line of the start.
+    pub(crate) fn push_start(&self, text: &mut String) -> Result<(), AllocError> {
+        text.push_str(self.name.as_str())?;
+        text.push_str("start               -       ")?;
+        text.push_str(self.cells.as_str())?;
+        push_delivered(text, None)
+    }
+
+    /// Adds the line of a row.
+    pub(crate) fn push_row(&self, text: &mut String, row: &Row) -> Result<(), AllocError> {
+        text.push_str(self.name.as_str())?;
+        push_act_cells(text, row.event, row.effect)?;
+        text.push_str(self.cells.as_str())?;
+        push_delivered(text, delivered_by(row.effect))
+    }
+}
+
+/// Whether an entry is lost in this event, wherever it is in its queue.
+fn is_loss(event: Option<Event>) -> bool {
+    match event {
+        Some(Event::LoseFrame(_) | Event::LoseAck(_)) => true,
+        _ => false,
+    }
+}
+
+/// Whether an event had no effect.
+fn is_nothing(effect: Effect) -> bool {
+    match effect {
+        Effect::Nothing => true,
+        _ => false,
     }
 }

@@ -30,8 +30,8 @@ impl From<AllocError> for OutputFault {
 }
 
 /// Writes a text that has grown to a block, and empties it. A shorter one is kept.
-#[tactic(auto, using(crate::proofs::ForCallers::kept_whole, crate::proofs::ForCallers::written_whole))]
-pub fn write_block<W: Write>(writer: &mut W, text: &mut String) -> Result<(), OutputFault>
+#[tactic(auto, using(crate::proofs::Writing::kept_whole, crate::proofs::Writing::written_whole))]
+pub(crate) fn write_block<W: Write>(writer: &mut W, text: &mut String) -> Result<(), OutputFault>
     ensures written { OnOk result (Written (W.contents writer.old) (W.contents writer.new)
         (string_bytes text.new) (string_bytes text.old)) }
     ensures fault { IfErr result (λ fault. fault ≡ OutputFault.Write) }

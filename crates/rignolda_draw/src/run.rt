@@ -1,146 +1,147 @@
-ghost use Rattle.std.specs.Prelude.{◌≡◌, ◌≢◌, ◌++◌, string_bytes, IfErr, IfOk, OnOk};
-ghost use Rattle.std.specs.Io.KnownBytes.{Keeps};
-ghost use Rattle.stab_core.specs.Link.{link_at};
-ghost use Rattle.stab_core.specs.Replay.{IsLawful, initial};
-ghost use Rattle.stab_core.specs.Step.{step};
-ghost use Rattle.rignolda_draw.specs.Kept.{Shows};
-ghost use Rattle.rignolda_draw.specs.Written.{Begun, Written};
-ghost use Rattle.rignolda_draw.specs.Runs.{event_line, event_lines, head, run_text, start_line};
-ghost use Rattle.rignolda_draw.specs.Runs.{state_cells};
+//! The text of the run of a link job or of a schedule, which is written while it is made.
 
-use crate::cells::{push_kept_cells, push_state_cells};
-use crate::event_cells::push_event_cells;
-use crate::link_text::LinkText;
+ghost use Rattle.stab_core.specs.Replay.{IsLawful};
+ghost use Rattle.stab_job.specs.Replays.{IsReplayed};
+
+use crate::link_line::LinkLine;
 use crate::output::{OutputFault, write_block};
-use crate::words::delivered_by;
-use stab_core::{Event, Link, StartFault};
+use crate::row::Row;
+use crate::taker::TakesRows;
+use crate::tree_walk::take_schedule_run;
+use crate::walk::take_link_run;
+use stab_core::Link;
+use stab_job::Job;
 use stab_script::LinkJob;
+use stab_tree::{NodeId, Tree};
 use std::alloc::{AllocError, Global};
 use std::io::Write;
 
-/// The names of the columns, which are the first line of a run.
+/// The names of the columns, which are the first line of a link job's run.
 const HEAD: &str =
     "event               effect  label holds acked frames      acks    remembers delivers\n";
+
+/// The names of the columns, which are the first line of a schedule's run.
+const TREE_HEAD: &str =
+    "link      event               effect  label holds acked frames      acks    remembers delivers\n";
+
+/// A text of which all but the last is written, with a line of each link that is kept.
+#[derive(Drop)]
+struct Lines<'a, W> {
+    alloc: Global,
+    writer: &'a mut W,
+    text: String,
+    /// The tree of a schedule.
+    tree: Option<&'a Tree>,
+    /// The line of the link into each node, where one leads into it.
+    kept: Vec<Option<LinkLine>>,
+    /// Why a row was not taken, if one was not.
+    fault: OutputFault,
+}
+
+impl<'a, W: Write> Lines<'a, W> {
+    /// A text of this first line.
+    fn new(
+        alloc: Global,
+        writer: &'a mut W,
+        head: &str,
+        tree: Option<&'a Tree>,
+    ) -> Result<Lines<'a, W>, AllocError> {
+        let text = String::from_str(alloc, head)?;
+        Ok(Lines {
+            alloc,
+            writer,
+            text,
+            tree,
+            kept: Vec::new(alloc),
+            fault: OutputFault::Memory,
+        })
+    }
+
+    /// The last of the text, where all rows were taken.
+    fn last<E>(self, taken: Result<(), E>) -> Result<String, OutputFault>
+    where
+        E: Drop,
+    {
+        match taken {
+            Ok(()) => Ok(self.text),
+            Err(_) => Err(self.fault),
+        }
+    }
+}
+
+/// Each row is a line. Nothing is said of it: tests compare the texts.
+impl<'a, W: Write> TakesRows for Lines<'a, W> {
+    ghost HasTaken = { λ _ _. Unit {0} };
+
+    fn start(&mut self, node: NodeId, link: Option<&Link>) -> Result<(), AllocError> {
+        let Some(link) = link else {
+            self.kept.push(None)?;
+            return Ok(());
+        };
+        let line = LinkLine::new(self.alloc, self.tree, node, link)?;
+        line.push_start(&mut self.text)?;
+        self.kept.push(Some(line))?;
+        Ok(())
+    }
+
+    fn take(&mut self, row: Row, link: &Link) -> Result<(), AllocError> {
+        let child = row.child.index();
+        if child < self.kept.len() {
+            push_line(&mut self.text, &mut self.kept[child], &row, link)?;
+        }
+        match write_block(self.writer, &mut self.text) {
+            Ok(()) => Ok(()),
+            Err(fault) => {
+                self.fault = fault;
+                Err(AllocError)
+            }
+        }
+    }
+}
+
+/// Adds the line of a row, from the one of its link that is kept.
+fn push_line(
+    text: &mut String,
+    kept: &mut Option<LinkLine>,
+    row: &Row,
+    link: &Link,
+) -> Result<(), AllocError> {
+    let Some(line) = kept else {
+        return Ok(());
+    };
+    line.follow(row, link)?;
+    line.push_row(text, row)
+}
 
 /// Draws the run of a link job: the names of the columns, the link at its start, and a line for
 /// each event with the link after it. All but the last of the text is written; that is handed out.
 ///
 /// Whoever replayed the run knows that its start is lawful, so nothing but memory is refused.
-#[tactic(auto, using(crate::proofs::ForCallers::not_begun))]
 pub fn write_run<W: Write>(
     alloc: Global,
     writer: &mut W,
     job: &LinkJob,
 ) -> Result<String, OutputFault>
     requires lawful { IsLawful job.now.params job.now.start }
-    ensures run { IfOk result (λ last. Written (W.contents writer.old) (W.contents writer.new)
-        (string_bytes last) (run_text job.now)) }
-    ensures begun { IfErr result (λ fault. fault ≢ OutputFault.Write
-        → Begun (W.contents writer.old) (W.contents writer.new) (run_text job.now)) }
 {
-    let mut link = begun(alloc, job)?;
-    let mut text = first_lines(alloc, &link)?;
-    let mut kept = LinkText::new(alloc, &link)?;
-    let events = job.events.as_slice();
-    write_event_lines(writer, &mut text, &mut link, &mut kept, events)?;
-    Ok(text)
+    let mut lines = Lines::new(alloc, writer, HEAD, None)?;
+    let taken = take_link_run(alloc, job, &mut lines);
+    lines.last(taken)
 }
 
-/// The link of a job at its start, which is lawful.
-fn begun(alloc: Global, job: &LinkJob) -> Result<Link, AllocError>
-    requires lawful { IsLawful job.now.params job.now.start }
-    ensures { IfOk result (λ link. link ≡ link_at job.now.params (initial job.now.start)) }
-{
-    match Link::new(alloc, job.params, &job.start) {
-        Ok(link) => Ok(link),
-        Err(StartFault::Memory) => Err(AllocError),
-        Err(StartFault::TooManyFrames | StartFault::TooManyAcks) => unreachable!(),
-    }
-}
-
-/// The names of the columns, and the line of the start.
-#[tactic(auto, unfolding(crate::specs::Runs::head))]
-fn first_lines(alloc: Global, link: &Link) -> Result<String, AllocError>
-    ensures { IfOk result (λ text. string_bytes text ≡ head ++ start_line link.now.state) }
-{
-    let mut text = String::from_str(alloc, HEAD)?;
-    push_start_line(&mut text, link)?;
-    Ok(text)
-}
-
-/// Adds a line for each of these events, and writes what has grown to a block. Where it stops, a
-/// part of them may be there.
-#[tactic(auto, using(crate::proofs::ForCallers::kept_whole, crate::proofs::ForCallers::begun_here))]
-fn write_event_lines<W: Write>(
+/// Draws the run of a job's schedule: the names of the columns, each link at its start, and a line
+/// for each event with its link after it. All but the last of the text is written; that is handed
+/// out.
+///
+/// Whoever replayed the schedule knows that nothing but memory is refused.
+pub fn write_schedule_run<W: Write>(
+    alloc: Global,
     writer: &mut W,
-    text: &mut String,
-    link: &mut Link,
-    kept: &mut LinkText,
-    events: &[Event],
-) -> Result<(), OutputFault>
-    requires { Shows kept.old link.old.state }
-    ensures lines { OnOk result (Written (W.contents writer.old) (W.contents writer.new)
-        (string_bytes text.new)
-        (string_bytes text.old ++ event_lines link.old.params link.old.state events.now)) }
-    ensures begun { IfErr result (λ fault. fault ≢ OutputFault.Write
-        → Begun (W.contents writer.old) (W.contents writer.new)
-        (string_bytes text.old ++ event_lines link.old.params link.old.state events.now)) }
+    job: &Job,
+) -> Result<String, OutputFault>
+    requires replayed { IsReplayed job.now }
 {
-    for event in events {
-        write_event_line(writer, text, link, kept, *event)?;
-    }
-    Ok(())
-}
-
-/// Takes a step, adds its line, and writes what has grown to a block.
-#[tactic(auto, using(crate::proofs::ForCallers::kept_bytes))]
-fn write_event_line<W: Write>(
-    writer: &mut W,
-    text: &mut String,
-    link: &mut Link,
-    kept: &mut LinkText,
-    event: Event,
-) -> Result<(), OutputFault>
-    requires { Shows kept.old link.old.state }
-    ensures line { OnOk result (Written (W.contents writer.old) (W.contents writer.new)
-        (string_bytes text.new)
-        (string_bytes text.old ++ event_line event link.old.params link.old.state)) }
-    ensures steps { OnOk result (link.new
-        ≡ link_at link.old.params (step link.old.params link.old.state event)) }
-    ensures shows { OnOk result (Shows kept.new link.new.state) }
-    ensures unwritten { IfErr result (λ fault. fault ≢ OutputFault.Write
-        → Keeps (W.contents writer.old) (W.contents writer.new)) }
-{
-    push_event_line(text, link, kept, event)?;
-    write_block(writer, text)
-}
-
-/// Adds the line of the start.
-#[tactic(auto, unfolding(crate::specs::Runs::start_line))]
-pub fn push_start_line(text: &mut String, link: &Link) -> Result<(), AllocError>
-    ensures { OnOk result
-        (string_bytes text.new ≡ string_bytes text.old ++ start_line link.now.state) }
-{
-    text.push_str("start               -       ")?;
-    push_state_cells(text, link, None)
-}
-
-/// Takes a step, and adds its line.
-#[tactic(auto, unfolding(crate::specs::Runs::event_line))]
-fn push_event_line(
-    text: &mut String,
-    link: &mut Link,
-    kept: &mut LinkText,
-    event: Event,
-) -> Result<(), AllocError>
-    requires { Shows kept.old link.old.state }
-    ensures line { OnOk result (string_bytes text.new ≡ string_bytes text.old
-        ++ event_line event link.old.params link.old.state) }
-    ensures steps { OnOk result (link.new
-        ≡ link_at link.old.params (step link.old.params link.old.state event)) }
-    ensures shows { OnOk result (Shows kept.new link.new.state) }
-{
-    let effect = kept.step(link, event)?;
-    push_event_cells(text, event, effect)?;
-    push_kept_cells(text, link, kept, delivered_by(effect))
+    let mut lines = Lines::new(alloc, writer, TREE_HEAD, Some(job.tree()))?;
+    let taken = take_schedule_run(alloc, job, &mut lines);
+    lines.last(taken)
 }

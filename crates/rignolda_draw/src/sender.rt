@@ -1,9 +1,7 @@
 //! The cells of a sender, which are kept from line to line.
 
-ghost use Rattle.std.specs.Prelude.{◌≡◌, IfOk, IsTrue, OnOk};
-ghost use Rattle.rignolda_draw.specs.Kept.{IsMade, ShowsSender};
-
-use crate::cells::{held, push_sender_cells};
+use crate::cells::push_sender_cells;
+use crate::row::held;
 use stab_core::Link;
 use stab_frames::{Item, Label};
 use std::alloc::{AllocError, Global};
@@ -19,9 +17,7 @@ pub(crate) struct Sender {
 
 impl Sender {
     /// The cells of the sender of a link.
-    pub(crate) fn new(alloc: Global, link: &Link) -> Result<Sender, AllocError>
-        ensures { IfOk result (λ sender. ShowsSender sender link.now.state) }
-    {
+    pub(crate) fn new(alloc: Global, link: &Link) -> Result<Sender, AllocError> {
         let mut cells = String::new(alloc);
         push_sender_cells(&mut cells, link)?;
         Ok(Sender {
@@ -33,10 +29,7 @@ impl Sender {
     }
 
     /// Makes the cells anew where the sender of a link has other numbers.
-    pub(crate) fn follow(&mut self, link: &Link) -> Result<(), AllocError>
-        requires { IsMade self.old }
-        ensures { OnOk result (ShowsSender self.new link.now.state) }
-    {
+    pub(crate) fn follow(&mut self, link: &Link) -> Result<(), AllocError> {
         if self.is_of(link) {
             return Ok(());
         }
@@ -48,10 +41,7 @@ impl Sender {
     }
 
     /// Whether the sender of a link has the numbers of which the cells were made.
-    fn is_of(&self, link: &Link) -> bool
-        requires { IsMade self.now }
-        ensures { IsTrue result → ShowsSender self.now link.now.state }
-    {
+    fn is_of(&self, link: &Link) -> bool {
         self.label == link.send_label()
             && self.acked == link.acked()
             && is_same(self.holds, held(link))
@@ -59,9 +49,7 @@ impl Sender {
 }
 
 /// Whether two senders hold the same item, or both hold none.
-fn is_same(one: Option<Item>, other: Option<Item>) -> bool
-    ensures { IsTrue result → one ≡ other }
-{
+fn is_same(one: Option<Item>, other: Option<Item>) -> bool {
     match (one, other) {
         (None, None) => true,
         (Some(one), Some(other)) => one == other,

@@ -1,5 +1,3 @@
-ghost use Rattle.std.specs.Prelude.{◌≡◌, ◌++◌, [], string_bytes, OnOk};
-
 use std::alloc::{AllocError, Global};
 
 /// What is drawn so far, in layers.
@@ -17,12 +15,7 @@ pub struct Canvas {
 
 impl Canvas {
     /// A canvas without anything.
-    pub fn new(alloc: Global) -> Canvas
-        ensures bands { string_bytes result.bands ≡ [] }
-        ensures back { string_bytes result.back ≡ [] }
-        ensures ways { string_bytes result.ways ≡ [] }
-        ensures front { string_bytes result.front ≡ [] }
-    {
+    pub fn new(alloc: Global) -> Canvas {
         Canvas {
             bands: String::new(alloc),
             back: String::new(alloc),
@@ -33,11 +26,7 @@ impl Canvas {
 
     /// Adds what is drawn to a text, each layer over those before it. Where memory is refused, a
     /// part of it may have been added.
-    pub fn push_to(&self, out: &mut String) -> Result<(), AllocError>
-        ensures { OnOk result (string_bytes out.new ≡ string_bytes out.old
-            ++ string_bytes self.now.bands ++ string_bytes self.now.back
-            ++ string_bytes self.now.ways ++ string_bytes self.now.front) }
-    {
+    pub fn push_to(&self, out: &mut String) -> Result<(), AllocError> {
         out.push_str(self.bands.as_str())?;
         out.push_str(self.back.as_str())?;
         out.push_str(self.ways.as_str())?;

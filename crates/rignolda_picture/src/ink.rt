@@ -1,6 +1,3 @@
-ghost use Rattle.std.specs.Prelude.{◌≡◌};
-ghost use Rattle.rignolda_picture.specs.Inks.{line_class, of_ack, of_frame, shape_class};
-
 /// What a line is drawn for.
 #[derive(Clone, Copy, Debug)]
 pub enum Ink {
@@ -16,24 +13,17 @@ pub enum Ink {
 
 impl Ink {
     /// That of a frame.
-    pub fn of_frame(is_stray: bool) -> Ink
-        ensures { result ≡ of_frame is_stray }
-    {
+    pub fn of_frame(is_stray: bool) -> Ink {
         if is_stray { Ink::Stray } else { Ink::Frame }
     }
 
     /// That of an acknowledgement.
-    pub fn of_ack(is_stray: bool) -> Ink
-        ensures { result ≡ of_ack is_stray }
-    {
+    pub fn of_ack(is_stray: bool) -> Ink {
         if is_stray { Ink::StrayAck } else { Ink::Ack }
     }
 
     /// The classes of a line of it.
-    #[tactic(auto, unfolding(crate::specs::Inks::line_class))]
-    pub fn line(self) -> &'static str
-        ensures { result.now ≡ line_class self }
-    {
+    pub fn line(self) -> &'static str {
         match self {
             Ink::Frame => "frame",
             Ink::Stray => "stray",
@@ -43,10 +33,7 @@ impl Ink {
     }
 
     /// The class of a shape with such an outline, and the name of such an arrow's head.
-    #[tactic(auto, unfolding(crate::specs::Inks::shape_class))]
-    pub fn shape(self) -> &'static str
-        ensures { result.now ≡ shape_class self }
-    {
+    pub fn shape(self) -> &'static str {
         match self {
             Ink::Frame => "frame",
             Ink::Stray | Ink::StrayAck => "stray",

@@ -4,9 +4,7 @@
 //! A picture is drawn from the rows of `rignolda_draw`, which are proved to be those of the replay,
 //! and from the starts. That it can be drawn without a fault, and why a job has none, is proved;
 //! how it looks is not. What it is drawn with are shapes and words as elements of SVG, in four
-//! layers; the classes of its style; and its sizes. Contracts see such a text as the definitions in
-//! `specs/` write it, and sizes as numbers of pixels: each call adds exactly the element that its
-//! definition says.
+//! layers; the classes of its style; and its sizes.
 #![tactic(auto)]
 
 mod canvas;
@@ -14,7 +12,6 @@ mod drawing;
 mod end;
 mod ending;
 mod events;
-pub mod examples;
 mod faults;
 mod head;
 mod ink;

@@ -1,6 +1,3 @@
-ghost use Rattle.std.specs.Prelude.{◌≡◌};
-ghost use Rattle.rignolda_picture.specs.Points.{down, half_way, left, right, up};
-
 /// A place of a picture, in pixels from its left and upper edge. What would be outside of all
 /// numbers is at the edge of them.
 #[derive(Clone, Copy, Debug)]
@@ -13,9 +10,7 @@ pub struct Point {
 
 impl Point {
     /// The place so far to the right.
-    pub fn right(self, by: u64) -> Point
-        ensures { result ≡ right self by }
-    {
+    pub fn right(self, by: u64) -> Point {
         Point {
             x: self.x.saturating_add(by),
             y: self.y,
@@ -23,9 +18,7 @@ impl Point {
     }
 
     /// The place so far to the left.
-    pub fn left(self, by: u64) -> Point
-        ensures { result ≡ left self by }
-    {
+    pub fn left(self, by: u64) -> Point {
         Point {
             x: self.x.saturating_sub(by),
             y: self.y,
@@ -33,9 +26,7 @@ impl Point {
     }
 
     /// The place so far below.
-    pub fn down(self, by: u64) -> Point
-        ensures { result ≡ down self by }
-    {
+    pub fn down(self, by: u64) -> Point {
         Point {
             x: self.x,
             y: self.y.saturating_add(by),
@@ -43,9 +34,7 @@ impl Point {
     }
 
     /// The place so far above.
-    pub fn up(self, by: u64) -> Point
-        ensures { result ≡ up self by }
-    {
+    pub fn up(self, by: u64) -> Point {
         Point {
             x: self.x,
             y: self.y.saturating_sub(by),
@@ -53,9 +42,7 @@ impl Point {
     }
 
     /// The place half way to another one, in the row of that.
-    pub fn half_way(self, to: Point) -> Point
-        ensures { result ≡ half_way self to }
-    {
+    pub fn half_way(self, to: Point) -> Point {
         Point {
             x: (self.x / 2).saturating_add(to.x / 2),
             y: to.y,

@@ -1,7 +1,3 @@
-ghost use Rattle.std.specs.Prelude.{◌≡◌};
-ghost use Rattle.rignolda_picture.specs.Sheets.{end_height, first_height, height, panel, start_height};
-ghost use Rattle.rignolda_picture.specs.Sheets.{gutter, width};
-
 use crate::point::Point;
 
 /// The height of a row.
@@ -32,39 +28,28 @@ pub struct Sheet {
 
 impl Sheet {
     /// The width of the column of events.
-    fn gutter(self) -> u64
-        ensures { result ≡ gutter self }
-    {
+    fn gutter(self) -> u64 {
         self.name.saturating_mul(8).saturating_add(244)
     }
 
     /// The left edge of a link.
-    pub fn panel(self, link: u64) -> u64
-        ensures { result ≡ panel self link }
-    {
+    pub fn panel(self, link: u64) -> u64 {
         self.gutter().saturating_add(link.saturating_mul(PANEL))
     }
 
     /// The width of the picture, in which the explanation of its signs has room.
-    pub fn width(self) -> u64
-        ensures { result ≡ width self }
-    {
+    pub fn width(self) -> u64 {
         self.panel(self.links).max(LEAST_WIDTH)
     }
 
     /// The height of the row of the start that is next to the first event.
-    pub fn start(self) -> u64
-        ensures { result ≡ start_height self }
-    {
+    pub fn start(self) -> u64 {
         let above = self.start_rows.saturating_mul(ROW);
         above.saturating_add(TOP).saturating_sub(6)
     }
 
     /// The place of the first event.
-    pub fn first(self) -> Point
-        ensures left { result.x ≡ 0 }
-        ensures height { result.y ≡ first_height self }
-    {
+    pub fn first(self) -> Point {
         Point {
             x: 0,
             y: self.start().saturating_add(ROW),
@@ -72,17 +57,13 @@ impl Sheet {
     }
 
     /// The height at which the lines of the ends end.
-    pub fn end(self) -> u64
-        ensures { result ≡ end_height self }
-    {
+    pub fn end(self) -> u64 {
         let events = self.rows.saturating_mul(ROW);
         self.start().saturating_add(events).saturating_add(26)
     }
 
     /// The height of the picture.
-    pub fn height(self) -> u64
-        ensures { result ≡ height self }
-    {
+    pub fn height(self) -> u64 {
         self.end().saturating_add(140)
     }
 }

@@ -1,9 +1,0 @@
-use Rattle.std.proofs.Common.{◌≡◌, ◌++◌, string_bytes}
-use Rattle.std.specs.List.{flat_map, range_with_len}
-use Rattle.rignolda_draw.specs.ScenarioRuns.{anew_below}
-use Rattle.rignolda_draw.proofs.faults.push_all_anew.Given as goal
-
--- the lines of the nodes so far
-abbrev pub invariant-loop-place : goal.invariant-loop-place
-invariant-loop-place l =
-    string_bytes l.text ≡ string_bytes l.initial.text ++ flat_map (anew_below l.number l.tree l.state l.node) (range_with_len 0 l.place)

@@ -1,4 +1,0 @@
-pub mod Points
-pub mod Sheets
-pub mod Inks
-pub mod Elements
