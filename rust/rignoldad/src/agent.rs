@@ -517,7 +517,7 @@ impl Agent {
                 if root.descriptor().is_some_and(|fd| fired.contains(&fd)) {
                     root.notified(now);
                 }
-                root.tick(now, self.state.below.depth());
+                root.tick(now, || self.state.below.depth());
             }
             self.state.applied(now);
             self.stand(now)?;

@@ -295,8 +295,8 @@ impl<W> Root<W> {
     }
 
     /// Takes up what the disk says, has the folder read and begins a round, where it is time.
-    /// `depth`: how deep the tree is, as far as it is known.
-    pub fn tick(&mut self, now: Instant, depth: u32) {
+    /// `depth`: asked for each round how deep the tree is, as far as it is known.
+    pub fn tick(&mut self, now: Instant, depth: impl Fn() -> u32) {
         self.mend(now);
         while let Some(done) = self.disk.done() {
             match done {
@@ -322,7 +322,7 @@ impl<W> Root<W> {
         if now >= self.next_round {
             self.overdue = self.publisher.is_in_a_round();
             self.deepest.rotate_right(1);
-            self.deepest[0] = depth;
+            self.deepest[0] = depth();
             self.begin_round(now);
         }
     }

@@ -43,10 +43,10 @@ struct Tried {
 impl Tried {
     fn tick(&mut self, now: Instant) {
         self.now = self.now.max(now);
-        self.root.tick(now, self.depth);
+        self.root.tick(now, || self.depth);
         while self.root.is_busy() {
             std::thread::sleep(Duration::from_millis(1));
-            self.root.tick(now, self.depth);
+            self.root.tick(now, || self.depth);
         }
     }
 
