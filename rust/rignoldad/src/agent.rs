@@ -44,7 +44,7 @@ const CLOCK: Duration = Duration::from_secs(10);
 /// After how long the state is looked at as a whole again, once each second: where something came
 /// meanwhile, and at the latest.
 const CHECKS: [Duration; 2] = [Duration::from_millis(900), Duration::from_millis(1_050)];
-/// The same of an agent without children, which counts no seconds for them. (Its parent says its way
+/// The same of an agent without children, which counts no seconds for them. (Its parent says a way
 /// as often, so where it is idle it is woken once for both.)
 const CHECKS_OF_LEAF: [Duration; 2] = [Duration::from_millis(1_800), Duration::from_millis(2_100)];
 /// For how long nobody is accepted where no descriptor was left.
