@@ -4,10 +4,10 @@ use Rattle.std.proofs.lemmas.List.{length-append, length-map, length-replicate}
 use Rattle.stab_core.specs.declared.act.LinkAct.TheVariants.{SendFrame, RecvFrame, SendAck, RecvAck}
 use Rattle.stab_treecore.specs.declared.change.Change.TheVariants.{Act}
 use Rattle.stab_frames.specs.Parameters.{Parameters}
-use Rattle.stab_rounds.specs.TreePlayed.{act_on, round_from}
+use Rattle.stab_rounds.specs.TreePlayed.{act_on, reading_round_on, round_from}
 use Rattle.stab_tree.specs.Links.{links_from}
 use Rattle.stab_treecore.specs.declared.event.TreeEvent.{TreeEvent}
-use Rattle.rignolda_scenario.specs.Played.{acts, reading_round_of, reading_round_on, repeated}
+use Rattle.rignolda_scenario.specs.Played.{acts, reading_round_of, repeated}
 
 -- a round is five acts on each link
 pub round_acts : (w v : ℕ) (parents : List (Option ℕ)) → length (round_from w parents) ≡ 5 * length (links_from v parents)
@@ -20,7 +20,7 @@ abbrev pub reading_sum : List Parameters → ℕ
 reading_sum [] = 0
 reading_sum (own ∷ params) = 5 + 2 * own.capacity + reading_sum params
 
-one_reading : (child c : ℕ) → length (reading_round_on child c) ≡ 5 + 2 * c
+one_reading : (child c : ℕ) → length (reading_round_on c child []) ≡ 5 + 2 * c
 one_reading child c =
     let frames = replicate c (act_on child (RecvFrame false)) in
     let acks = replicate c (act_on child (RecvAck false)) in
@@ -41,7 +41,7 @@ reading_acts (child ∷ children) [] same = absurd (omega (arith, same))
 reading_acts (child ∷ children) (own ∷ params) same =
     omega (
       arith,
-      length-append (reading_round_on child own.capacity) (reading_round_of children params),
+      length-append (reading_round_on own.capacity child []) (reading_round_of children params),
       one_reading child own.capacity,
       reading_acts children params (omega (arith, same)),
     )

@@ -2,12 +2,9 @@
 -- Example: In the chain r, a, b one round is five acts on the link into a and then five on the link
 -- into b. One reading round of links of capacity 1 is seven acts on each.
 -- Source: this project's own.
-use Rattle.std.specs.Prelude.{◌≡◌, ℕ, zero, suc, ◌<◌, length, List, [], ◌∷◌, ◌++◌, map, replicate, false}
-use Rattle.std.specs.Prelude.{Option}
-use Rattle.stab_core.specs.declared.act.LinkAct.TheVariants.{Offer, SendFrame, RecvFrame, SendAck}
-use Rattle.stab_core.specs.declared.act.LinkAct.TheVariants.{RecvAck}
+use Rattle.std.specs.Prelude.{◌≡◌, ℕ, zero, suc, List, [], ◌∷◌, ◌++◌, map, Option}
 use Rattle.stab_frames.specs.Parameters.{Parameters}
-use Rattle.stab_rounds.specs.TreePlayed.{act_on, round_from}
+use Rattle.stab_rounds.specs.TreePlayed.{reading_round_on, round_from}
 use Rattle.stab_tree.specs.Links.{links_of}
 use Rattle.stab_treecore.specs.declared.event.TreeEvent.{TreeEvent}
 use Rattle.stab_treecore.specs.declared.change.Change.{Change}
@@ -15,26 +12,16 @@ use Rattle.stab_treecore.specs.declared.change.Change.TheVariants.{Act}
 use Rattle.stab_treecore.specs.ChangeRefusals.{AllCanBeMade}
 use Rattle.stab_treecore.specs.Changes.{changes_replay}
 use Rattle.stab_treecore.specs.WholeTree.{WholeTree}
-use Rattle.rignolda_scenario.specs.declared.fault.ListFault.{ListFault}
-use Rattle.rignolda_scenario.specs.declared.fault.ListFault.TheVariants as fault
 use Rattle.rignolda_scenario.specs.declared.step.Step.{Step}
 use Rattle.rignolda_scenario.specs.declared.step.Step.TheVariants.{One, Rounds, ReadingRounds}
 
--- a reading round of the link into this node, whose capacity is this: an offer, `c` frames that
--- are taken, one that is sent, and one that is taken; and so with acknowledgements
-abbrev pub reading_round_on : ℕ → ℕ → List TreeEvent
-reading_round_on child c =
-    act_on child Offer ∷ (replicate c (act_on child (RecvFrame false))
-    ++ (act_on child SendFrame ∷ act_on child (RecvFrame false)
-    ∷ (replicate c (act_on child (RecvAck false))
-    ++ (act_on child SendAck ∷ act_on child (RecvAck false) ∷ []))))
-
--- a reading round of each of the links into these nodes, which have these parameters
+-- a reading round of each of the links into these nodes, which have these parameters: each takes as
+-- many messages before it sends as its capacity says
 abbrev pub reading_round_of : List ℕ → List Parameters → List TreeEvent
 reading_round_of [] params = []
 reading_round_of (child ∷ children) [] = []
 reading_round_of (child ∷ children) (own ∷ params) =
-    reading_round_on child own.capacity ++ reading_round_of children params
+    reading_round_on own.capacity child [] ++ reading_round_of children params
 
 -- these events as changes
 abbrev pub acts : List TreeEvent → List Change
@@ -61,11 +48,6 @@ changes_of parents params (step ∷ steps) =
 -- the most changes that steps may be
 abbrev pub most_changes : ℕ
 most_changes = 1000000
-
--- why no list of changes is made: they are too many, or memory is refused
-abbrev pub IsUnlisted : List Change → ListFault → Type 0
-IsUnlisted changes fault.TooMany = most_changes < length changes
-IsUnlisted changes fault.Memory = Unit {0}
 
 -- these changes can all be made of the state `t`, and leave the state `u`
 abbrev pub Makes : WholeTree → List Change → WholeTree → Type 0

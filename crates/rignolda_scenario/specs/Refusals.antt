@@ -9,11 +9,8 @@ use Rattle.stab_job.specs.declared.fault.JobFault.TheVariants as job_fault
 use Rattle.stab_treecore.specs.declared.fault.RestartFault.TheVariants as restart_fault
 use Rattle.stab_treecore.specs.declared.fault.TreeStartFault.TheVariants as tree_fault
 use Rattle.stab_treecore.specs.declared.fault.TreeStepFault.TheVariants as step_fault
-use Rattle.rignolda_scenario.specs.declared.fault.ListFault.{ListFault}
-use Rattle.rignolda_scenario.specs.declared.fault.ListFault.TheVariants as list
 use Rattle.rignolda_scenario.specs.declared.fault.ScenarioFault.{ScenarioFault}
 use Rattle.rignolda_scenario.specs.declared.fault.ScenarioFault.TheVariants.{Job, Memory, Run}
-use Rattle.rignolda_scenario.specs.declared.fault.ScenarioFault.TheVariants.{TooManyEvents}
 
 abbrev pub job_refused : JobFault → ScenarioFault
 job_refused job_fault.Memory = Memory
@@ -25,7 +22,3 @@ change_refused (change_fault.Act step_fault.Memory) = Memory
 change_refused (change_fault.Restart restart_fault.Memory) = Memory
 change_refused (change_fault.Begin (tree_fault.Start start_fault.Memory)) = Memory
 change_refused refusal = Run refusal
-
-abbrev pub list_refused : ListFault → ScenarioFault
-list_refused list.TooMany = TooManyEvents
-list_refused list.Memory = Memory

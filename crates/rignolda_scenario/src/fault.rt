@@ -52,40 +52,6 @@ pub enum ScenarioFault {
     Memory,
 }
 
-/// Why the changes of steps are not listed.
-#[derive(Clone, Copy, Debug, PartialEq, Eq)]
-pub(crate) enum ListFault {
-    /// They are more than 1,000,000.
-    TooMany,
-    /// Memory was refused.
-    Memory,
-}
-
-impl From<AllocError> for ListFault {
-    ghost use Rattle.std.specs.Prelude.{◌≡◌};
-    ghost use Rattle.rignolda_scenario.specs.declared.fault.ListFault.TheVariants.{Memory};
-
-    ghost from_gives = { λ _ fault. fault ≡ Memory };
-
-    fn from(_refused: AllocError) -> ListFault {
-        ListFault::Memory
-    }
-}
-
-impl From<ListFault> for ScenarioFault {
-    ghost use Rattle.std.specs.Prelude.{◌≡◌};
-    ghost use Rattle.rignolda_scenario.specs.Refusals.{list_refused};
-
-    ghost from_gives = { λ refusal fault. fault ≡ list_refused refusal };
-
-    fn from(refusal: ListFault) -> ScenarioFault {
-        match refusal {
-            ListFault::TooMany => ScenarioFault::TooManyEvents,
-            ListFault::Memory => ScenarioFault::Memory,
-        }
-    }
-}
-
 impl From<AllocError> for StepFault {
     ghost use Rattle.std.specs.Prelude.{◌≡◌};
     ghost use Rattle.rignolda_scenario.specs.declared.fault.StepFault.TheVariants.{Memory};

@@ -29,7 +29,7 @@ mod step;
 mod stream;
 mod text;
 
-pub use changes::{listed_changes, reading_round_of_all};
+pub use changes::reading_round_of_all;
 pub use fault::{ScenarioFault, StepFault};
 pub use few::are_few;
 pub use play::state_after;

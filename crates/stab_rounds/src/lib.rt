@@ -15,5 +15,7 @@ mod round;
 
 pub use link::{apply_reading_round, apply_round, pass_on};
 pub use play::{round_of_all, run_rounds};
-pub use reads::{apply_reading_rounds, reading_round_of_all, run_reading_rounds};
+pub use reads::{
+    apply_reading_rounds, push_reading_round, reading_round_of_all, run_reading_rounds,
+};
 pub use round::{Awaited, count_rounds};

@@ -49,7 +49,7 @@ fn push_times(
 /// Adds a reading round of the link into this node, which takes `capacity` messages before it
 /// sends.
 #[tactic(auto, using(crate::proofs::PlaysReads::in_parts))]
-fn push_reading_round(
+pub fn push_reading_round(
     events: &mut Vec<TreeEvent>,
     child: NodeId,
     capacity: u16,

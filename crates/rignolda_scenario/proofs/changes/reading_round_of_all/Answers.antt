@@ -1,8 +1,9 @@
-use Rattle.std.proofs.Common.{◌≡◌, suc, ◌<◌, ◌++◌, ◌∙◌, length, drop, get_or, slice_get, Some, ap, sym, subst, add-one, append_assoc, arith}
+use Rattle.std.proofs.Common.{◌≡◌, suc, ◌<◌, ◌++◌, [], ◌∙◌, length, drop, get_or, slice_get, Some, ap, sym, subst, add-one, append_assoc, arith}
 use Rattle.std.proofs.lemmas.Option.{slice_get_within}
 use Rattle.stab_tree.specs.Links.{links_of}
 use Rattle.stab_tree.specs.Nodes.{Nodes}
-use Rattle.rignolda_scenario.specs.Played.{reading_round_of, reading_round_on}
+use Rattle.stab_rounds.specs.TreePlayed.{reading_round_on}
+use Rattle.rignolda_scenario.specs.Played.{reading_round_of}
 use Rattle.rignolda_scenario.proofs.Reading.{reading_next}
 use Rattle.rignolda_scenario.proofs.changes.reading_round_of_all.Goals as goal
 
@@ -27,6 +28,6 @@ links-preserved c =
     subst (λ n. c.push_reading_round.new.events.items ++ reading_round_of (drop n children) (drop n params) ≡ reading_round_of children params)
     (sym (add-one k))
     (ap (λ xs. xs ++ left) c.in_ok-push_reading_round.ensures
-    ∙ (append_assoc c.links.events.items (reading_round_on child c.capacity-capacity.result) left
-    ∙ (ap (λ n. c.links.events.items ++ (reading_round_on child n ++ left)) capacity
+    ∙ (append_assoc c.links.events.items (reading_round_on c.capacity-capacity.result child []) left
+    ∙ (ap (λ n. c.links.events.items ++ (reading_round_on n child [] ++ left)) capacity
     ∙ (ap (λ xs. c.links.events.items ++ xs) (sym next) ∙ c.links.invariant))))
