@@ -8,11 +8,17 @@ use stab_frames::{Frame, Item, Label};
 use stab_tree::{NodeId, Tree};
 use std::alloc::AllocError;
 
+/// How wide the column of frames is.
+pub(crate) const FRAMES: usize = 11;
+
+/// How wide the column of acknowledgements is.
+pub(crate) const ACKS: usize = 7;
+
 /// Adds a link, but for what it delivers.
 pub(crate) fn push_link_cells(text: &mut String, link: &Link) -> Result<(), AllocError> {
     push_sender_cells(text, link)?;
-    push_queue_cell::<Frame>(text, link, 11)?;
-    push_queue_cell::<Label>(text, link, 7)?;
+    push_queue_cell::<Frame>(text, link, FRAMES)?;
+    push_queue_cell::<Label>(text, link, ACKS)?;
     push_remembered_cell(text, link.recv_label())
 }
 

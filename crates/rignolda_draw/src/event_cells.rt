@@ -11,11 +11,37 @@ pub(crate) fn push_act_cells(
     event: Option<Event>,
     effect: Effect,
 ) -> Result<(), AllocError> {
+    if let Some(cells) = both_cells(event, effect) {
+        return text.push_str(cells);
+    }
     match event {
         Some(event) => push_event_cell(text, event)?,
         None => text.push_str("\"offer\"             ")?,
     }
     push_effect_cell(text, effect)
+}
+
+/// The cells of an event without a number and of its effect, where it is one that this event often
+/// has.
+fn both_cells(event: Option<Event>, effect: Effect) -> Option<&'static str> {
+    match (event, effect) {
+        (Some(Event::SendFrame), Effect::Sent) => Some("\"send_frame\"        Sent    "),
+        (Some(Event::RecvFrame { keep: false }), Effect::Fresh(_)) => {
+            Some("\"recv_frame\"        Fresh   ")
+        }
+        (Some(Event::RecvFrame { keep: false }), Effect::Old) => {
+            Some("\"recv_frame\"        Old     ")
+        }
+        (Some(Event::SendAck), Effect::Sent) => Some("\"send_ack\"          Sent    "),
+        (Some(Event::RecvAck { keep: false }), Effect::Acked) => {
+            Some("\"recv_ack\"          Acked   ")
+        }
+        (Some(Event::RecvAck { keep: false }), Effect::Ignored) => {
+            Some("\"recv_ack\"          Ignored ")
+        }
+        (None, Effect::Nothing) => Some("\"offer\"             Nothing "),
+        _ => None,
+    }
 }
 
 /// Adds an event in its column, as a job has it.

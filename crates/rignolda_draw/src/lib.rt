@@ -2,8 +2,8 @@
 //! event with its link after it; and the rows of a run, of which a picture is drawn.
 //!
 //! One walk makes a run, and gives each row to what takes it: a list of rows, or a text. The layer
-//! above uses one fact: whatever takes them is given the rows of the replay, each of them once and in
-//! their order. How a line looks is tested, and not proved.
+//! above uses one fact: whatever takes them is given the rows of the replay, each of them once and
+//! in their order. How a line looks is tested, and not proved.
 //!
 //! A scenario has a line for each act, each round and each fault. Each line begins with the number
 //! of its step, which is the number that `since` names where a scenario is counted, and shows what
@@ -28,6 +28,7 @@ mod tree_walk;
 mod walk;
 mod words;
 
+pub use next::is_parent;
 pub use output::OutputFault;
 pub use row::Row;
 pub use rows::{link_rows, scenario_rows, schedule_rows};

@@ -1,25 +1,26 @@
 //! The line of a link, which is kept from line to line.
 
-use crate::cells::{push_cell, push_delivered, push_name_cell, push_remembered_cell};
+use crate::cells::{ACKS, FRAMES, push_delivered, push_name_cell, push_remembered_cell};
 use crate::event_cells::push_act_cells;
 use crate::queue::Queue;
 use crate::row::Row;
 use crate::sender::Sender;
 use crate::words::delivered_by;
 use stab_core::{Effect, Event, Link};
-use stab_frames::{Frame, Label};
+use stab_frames::{Frame, Item, Label};
 use stab_tree::{NodeId, Tree};
 use std::alloc::{AllocError, Global};
 
 /// What a line shows of a link: the name of its child in its column, which a run of one link has
-/// not, and the cells behind the effect, with the parts of which they are made.
+/// not, and the cells behind the effect.
 #[derive(Drop)]
 pub(crate) struct LinkLine {
     name: String,
     sender: Sender,
     frames: Queue,
     acks: Queue,
-    cells: String,
+    /// The end of a line that delivers nothing.
+    last: String,
 }
 
 impl LinkLine {
@@ -35,27 +36,17 @@ impl LinkLine {
             push_name_cell(&mut name, tree, node)?;
         }
         let sender = Sender::new(alloc, link)?;
-        let frames = Queue::new::<Frame>(alloc, link)?;
-        let acks = Queue::new::<Label>(alloc, link)?;
-        let mut line = LinkLine {
+        let frames = Queue::new::<Frame>(alloc, link, FRAMES)?;
+        let acks = Queue::new::<Label>(alloc, link, ACKS)?;
+        let mut last = String::new(alloc);
+        push_last(&mut last, link, None)?;
+        Ok(LinkLine {
             name,
             sender,
             frames,
             acks,
-            cells: String::new(alloc),
-        };
-        line.write_cells(link)?;
-        Ok(line)
-    }
-
-    /// Writes the cells from their parts.
-    fn write_cells(&mut self, link: &Link) -> Result<(), AllocError> {
-        let cells = &mut self.cells;
-        cells.clear();
-        cells.push_str(self.sender.cells.as_str())?;
-        push_cell(cells, self.frames.word(), 11)?;
-        push_cell(cells, self.acks.word(), 7)?;
-        push_remembered_cell(cells, link.recv_label())
+            last,
+        })
     }
 
     /// Changes the line as the event of a row changed its link, which is as it was where the event
@@ -64,36 +55,62 @@ impl LinkLine {
         if is_nothing(row.effect) {
             return Ok(());
         }
-        let is_loss = is_loss(row.event);
-        self.sender.follow(link)?;
-        self.frames.follow::<Frame>(link, is_loss)?;
-        self.acks.follow::<Label>(link, is_loss)?;
-        self.write_cells(link)
+        match row.event {
+            Some(Event::SendFrame) => self.frames.follow::<Frame>(link),
+            Some(Event::RecvFrame { keep: _ }) => {
+                self.last.clear();
+                push_last(&mut self.last, link, None)?;
+                self.frames.follow::<Frame>(link)
+            }
+            Some(Event::LoseFrame(_)) => self.frames.follow_loss::<Frame>(link),
+            Some(Event::SendAck) => self.acks.follow::<Label>(link),
+            Some(Event::RecvAck { keep: _ }) => {
+                self.sender.follow(link)?;
+                self.acks.follow::<Label>(link)
+            }
+            Some(Event::LoseAck(_)) => self.acks.follow_loss::<Label>(link),
+            Some(Event::Offer(_) | Event::Close) | None => self.sender.follow(link),
+        }
     }
 
     /// Adds the line of the start.
     pub(crate) fn push_start(&self, text: &mut String) -> Result<(), AllocError> {
         text.push_str(self.name.as_str())?;
         text.push_str("start               -       ")?;
-        text.push_str(self.cells.as_str())?;
-        push_delivered(text, None)
+        self.push_cells(text)?;
+        text.push_str(self.last.as_str())
     }
 
-    /// Adds the line of a row.
-    pub(crate) fn push_row(&self, text: &mut String, row: &Row) -> Result<(), AllocError> {
-        text.push_str(self.name.as_str())?;
+    /// Adds the line of a row, with its link after the event.
+    pub(crate) fn push_row(
+        &self,
+        text: &mut String,
+        row: &Row,
+        link: &Link,
+    ) -> Result<(), AllocError> {
+        if !self.name.is_empty() {
+            text.push_str(self.name.as_str())?;
+        }
         push_act_cells(text, row.event, row.effect)?;
-        text.push_str(self.cells.as_str())?;
-        push_delivered(text, delivered_by(row.effect))
+        self.push_cells(text)?;
+        match delivered_by(row.effect) {
+            None => text.push_str(self.last.as_str()),
+            Some(item) => push_last(text, link, Some(item)),
+        }
+    }
+
+    /// Adds the cells of the sender and of both queues.
+    fn push_cells(&self, text: &mut String) -> Result<(), AllocError> {
+        text.push_str(self.sender.cells.as_str())?;
+        text.push_str(self.frames.cell.as_str())?;
+        text.push_str(self.acks.cell.as_str())
     }
 }
 
-/// Whether an entry is lost in this event, wherever it is in its queue.
-fn is_loss(event: Option<Event>) -> bool {
-    match event {
-        Some(Event::LoseFrame(_) | Event::LoseAck(_)) => true,
-        _ => false,
-    }
+/// Adds the label that the receiver of a link remembers, and what it delivered.
+fn push_last(text: &mut String, link: &Link, item: Option<Item>) -> Result<(), AllocError> {
+    push_remembered_cell(text, link.recv_label())?;
+    push_delivered(text, item)
 }
 
 /// Whether an event had no effect.

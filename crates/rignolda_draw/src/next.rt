@@ -1,6 +1,6 @@
-//! The event of a step, as the tree is before it.
+//! The event of a step, as the tree is before it; and the parent of a node.
 
-ghost use Rattle.std.specs.Prelude.{◌≡◌, ◌<◌, length, IfSome};
+ghost use Rattle.std.specs.Prelude.{◌≡◌, ◌<◌, ◌↔◌, Some, length, IfSome, IsTrue};
 ghost use Rattle.stab_tree.specs.Nodes.{parent_at};
 ghost use Rattle.stab_treecore.specs.TreeStep.{event_on, next_item};
 
@@ -36,5 +36,15 @@ fn parent_of(tree: &Tree, child: NodeId) -> Option<NodeId>
         tree.parent(child)
     } else {
         None
+    }
+}
+
+/// Whether a node is the parent of this child. What is no node has no parent.
+pub fn is_parent(tree: &Tree, node: NodeId, child: NodeId) -> bool
+    ensures { IsTrue result ↔ (parent_at tree.now.parents child ≡ Some node) }
+{
+    match parent_of(tree, child) {
+        Some(parent) => parent == node,
+        None => false,
     }
 }

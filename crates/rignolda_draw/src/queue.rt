@@ -1,5 +1,6 @@
 //! The queues of a link as words.
 
+use crate::cells::pad;
 use crate::words::push_decimal;
 use stab_core::Link;
 use stab_frames::{Frame, Label};
@@ -72,50 +73,84 @@ fn push_entry<E: Entry>(text: &mut String, place: u16, entry: Option<E>) -> Resu
     entry.push_word(text)
 }
 
-/// The word of a queue, which is kept from line to line, and how many entries it has.
+/// The cell of a queue, which is kept from line to line, and what it shows.
 #[derive(Drop)]
 pub(crate) struct Queue {
-    word: String,
+    /// The word in its column.
+    pub(crate) cell: String,
+    /// How long the word is.
+    word: usize,
+    /// How many entries the queue has.
     count: u16,
+    width: usize,
 }
 
 impl Queue {
-    /// The word of a queue of a link.
-    pub(crate) fn new<E: Entry>(alloc: Global, link: &Link) -> Result<Queue, AllocError> {
-        let mut word = String::new(alloc);
-        push_entries::<E>(&mut word, link, 0)?;
-        Ok(Queue {
-            word,
-            count: E::count(link),
-        })
-    }
-
-    /// Changes the word as an event changed the queue: an entry came to its back, or its front was
-    /// received, or one was lost, wherever it was.
-    pub(crate) fn follow<E: Entry>(
-        &mut self,
+    /// The cell of a queue of a link, in a column of this width.
+    pub(crate) fn new<E: Entry>(
+        alloc: Global,
         link: &Link,
-        is_loss: bool,
-    ) -> Result<(), AllocError> {
-        let before = self.count;
-        self.count = E::count(link);
-        if before <= self.count {
-            return push_entries::<E>(&mut self.word, link, before);
-        }
-        if is_loss {
-            self.word.clear();
-            return push_entries::<E>(&mut self.word, link, 0);
-        }
-        remove_front(&mut self.word)
+        width: usize,
+    ) -> Result<Queue, AllocError> {
+        let mut queue = Queue {
+            cell: String::new(alloc),
+            word: 0,
+            count: E::count(link),
+            width,
+        };
+        queue.write::<E>(link)?;
+        Ok(queue)
     }
 
-    /// The word, or `-` where the queue is empty.
-    pub(crate) fn word(&self) -> &str {
-        if self.count == 0 {
-            "-"
-        } else {
-            self.word.as_str()
+    /// Changes the cell as an event changed the queue: an entry came to its back, or its front was
+    /// received, if anything was.
+    pub(crate) fn follow<E: Entry>(&mut self, link: &Link) -> Result<(), AllocError> {
+        let before = self.count;
+        let count = E::count(link);
+        if count == before {
+            return Ok(());
         }
+        self.count = count;
+        if before == 0 || count == 0 {
+            return self.write::<E>(link);
+        }
+        self.cut_to_word();
+        if before < count {
+            push_entries::<E>(&mut self.cell, link, before)?;
+        } else {
+            remove_front(&mut self.cell)?;
+        }
+        self.end_word()
+    }
+
+    /// Writes the cell of a queue that lost an entry, wherever it was.
+    pub(crate) fn follow_loss<E: Entry>(&mut self, link: &Link) -> Result<(), AllocError> {
+        self.count = E::count(link);
+        self.write::<E>(link)
+    }
+
+    /// Writes the cell anew: the entries, or `-`.
+    fn write<E: Entry>(&mut self, link: &Link) -> Result<(), AllocError> {
+        self.cell.clear();
+        if self.count == 0 {
+            self.cell.push('-')?;
+        } else {
+            push_entries::<E>(&mut self.cell, link, 0)?;
+        }
+        self.end_word()
+    }
+
+    /// Removes the blanks behind the word.
+    fn cut_to_word(&mut self) {
+        if self.cell.is_char_boundary(self.word) {
+            self.cell.truncate(self.word);
+        }
+    }
+
+    /// Ends the word, which has all of the cell so far, with blanks.
+    fn end_word(&mut self) -> Result<(), AllocError> {
+        self.word = self.cell.len();
+        pad(&mut self.cell, 0, self.width)
     }
 }
 

@@ -110,7 +110,7 @@ fn push_line(
         return Ok(());
     };
     line.follow(row, link)?;
-    line.push_row(text, row)
+    line.push_row(text, row, link)
 }
 
 /// Draws the run of a link job: the names of the columns, the link at its start, and a line for

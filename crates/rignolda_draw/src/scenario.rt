@@ -6,6 +6,7 @@ ghost use Rattle.rignolda_scenario.specs.Played.{changes_of, most_changes};
 
 use crate::cells::{push_delivered, push_link_cells, push_name_cell, push_number_cell};
 use crate::event_cells::push_act_cells;
+use crate::next::is_parent;
 use crate::row::Row;
 use crate::steps_walk::take_scenario_run;
 use crate::taker::{TakesRows, TakesSteps};
@@ -146,16 +147,5 @@ impl<'a> StepLines<'a> {
             }
         }
         Ok(())
-    }
-}
-
-/// Whether a node is the parent of this child.
-fn is_parent(tree: &Tree, node: NodeId, child: NodeId) -> bool {
-    if child.place() >= tree.len() {
-        return false;
-    }
-    match tree.parent(child) {
-        Some(parent) => parent == node,
-        None => false,
     }
 }

@@ -151,7 +151,8 @@ fn take_change<T: TakesSteps>(
     to: &mut T,
 ) -> Result<(), ChangeFault>
     requires same_tree { state.old.parents ≡ tree.now.parents }
-    ensures rows { OnOk result (TakesOn T.HasTaken to.old (change_row state.old change.now) to.new) }
+    ensures rows { OnOk result
+        (TakesOn T.HasTaken to.old (change_row state.old change.now) to.new) }
     ensures made { OnOk result (state.new ≡ change_step state.old change.now) }
     ensures same_tree { OnOk result (state.new.parents ≡ tree.now.parents) }
 {

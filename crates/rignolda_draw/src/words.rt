@@ -7,6 +7,9 @@ use std::alloc::AllocError;
 
 /// Adds a number.
 pub(crate) fn push_decimal(text: &mut String, number: u64) -> Result<(), AllocError> {
+    if number < 10 {
+        return text.push(char::from(b'0' + number as u8));
+    }
     let mut buffer = Buffer::new();
     text.push_str(buffer.format(number))
 }

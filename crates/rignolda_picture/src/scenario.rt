@@ -5,7 +5,7 @@ ghost use Rattle.rignolda_scenario.specs.Counts.{IsUnrun};
 
 use crate::drawing::Drawing;
 use crate::picture::{add_links, link_of, rows_of, sheet_of};
-use rignolda_draw::{Row, scenario_rows};
+use rignolda_draw::{Row, is_parent, scenario_rows};
 use rignolda_scenario::{Scenario, ScenarioFault, Step};
 use stab_core::Start;
 use stab_frames::Params;
@@ -209,17 +209,6 @@ fn restart_links(drawing: &mut Drawing, tree: &Tree, node: NodeId) -> Result<(),
         }
     }
     Ok(())
-}
-
-/// Whether a node is the parent of this child.
-fn is_parent(tree: &Tree, node: NodeId, child: NodeId) -> bool {
-    if child.place() >= tree.len() {
-        return false;
-    }
-    match tree.parent(child) {
-        Some(parent) => parent == node,
-        None => false,
-    }
 }
 
 /// The name of a node; what is no node has none.
