@@ -1,7 +1,7 @@
 //! The nodes that steps name.
 
 use crate::found::add_found;
-use rignolda_findings::{Matter, Notes, Piece, Place, nearest_node};
+use rignolda_findings::{Matter, Notes, Piece, Place, add_nearest, nearest_node};
 use serde_json::Value;
 use stab_tree::{NodeId, Tree};
 use std::alloc::AllocError;
@@ -29,7 +29,7 @@ fn look_at_node(
     };
     let node = whole.tree.find(its_name);
     if node.is_none() {
-        add_unknown(notes, whole, place, its_name)?;
+        add_unknown(notes, Matter::Command, &place, its_name, whole.tree)?;
     }
     Ok(node)
 }
@@ -46,32 +46,30 @@ pub(crate) fn look_at_name(
 }
 
 /// Adds a name of no node, with the nearest one of a node.
-fn add_unknown<'x>(
+pub(crate) fn add_unknown<'x>(
     notes: &mut Notes,
-    whole: Whole<'x>,
-    place: Place<'_>,
+    matter: Matter,
+    place: &Place<'_>,
     name: &'x str,
+    tree: &'x Tree,
 ) -> Result<(), AllocError> {
     if notes.is_full() {
-        return notes.add(Matter::Command, &place, &[]);
+        return notes.add(matter, place, &[]);
     }
-    match nearest_node(notes.alloc(), name, whole.tree)? {
-        Some(near) => notes.add(
-            Matter::Command,
-            &place,
-            &[
-                Piece::Quoted(name),
-                Piece::Words(" is no node; did you mean "),
-                Piece::Quoted(near),
-                Piece::Words("?"),
-            ],
-        ),
-        None => notes.add(
-            Matter::Command,
-            &place,
-            &[Piece::Quoted(name), Piece::Words(" is no node of the tree")],
-        ),
-    }
+    let near = nearest_node(notes.alloc(), name, tree)?;
+    add_no_node(notes, matter, place, name, near)
+}
+
+/// Adds a name of no node, and the nearest one of a node, where one is near.
+pub(crate) fn add_no_node<'x>(
+    notes: &mut Notes,
+    matter: Matter,
+    place: &Place<'_>,
+    name: &'x str,
+    near: Option<&'x str>,
+) -> Result<(), AllocError> {
+    let is_none = (" is no node", " of the tree");
+    add_nearest(notes, matter, place, name, is_none, near)
 }
 
 /// Looks at the name of a node into which a link leads, and answers the place of that link.

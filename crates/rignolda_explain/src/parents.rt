@@ -1,8 +1,10 @@
 //! What is wrong with the parents of a tree's nodes.
 
+use crate::names::add_no_node;
 use crate::tree::{find, refuse_tree, text_of};
-use rignolda_findings::{Nearest, Notes, Piece, Place};
+use rignolda_findings::{Matter, Nearest, Notes, Piece, Place, Refusal};
 use serde_json::Value;
+use stab_job::JobFault;
 use stab_tree::TreeFault;
 use std::alloc::{AllocError, Global};
 
@@ -26,28 +28,15 @@ fn add_unknown<'x>(
     nodes: &'x [Value],
 ) -> Result<(), AllocError> {
     let place = Place::member("tree").entry(node).part("parent");
-    match nearest_of(notes.alloc(), parent, nodes)? {
-        Some(near) => refuse_tree(
-            notes,
-            TreeFault::UnknownParent,
-            &place,
-            &[
-                Piece::Quoted(parent),
-                Piece::Words(" is no node; did you mean "),
-                Piece::Quoted(near),
-                Piece::Words("?"),
-            ],
-        ),
-        None => refuse_tree(
-            notes,
-            TreeFault::UnknownParent,
-            &place,
-            &[
-                Piece::Quoted(parent),
-                Piece::Words(" is no node of the tree"),
-            ],
-        ),
-    }
+    let near = nearest_of(notes.alloc(), parent, nodes)?;
+    let fault = JobFault::Tree(TreeFault::UnknownParent);
+    add_no_node(
+        notes,
+        Matter::Refused(Refusal::Job(fault)),
+        &place,
+        parent,
+        near,
+    )
 }
 
 /// The name of a node that is nearest to this one, where one is near.

@@ -1,6 +1,7 @@
 //! What is wrong with the steps of a schedule.
 
-use rignolda_findings::{Matter, Notes, Piece, Place, Refusal, add_word, is_loss, nearest_node};
+use crate::names::add_unknown;
+use rignolda_findings::{Matter, Notes, Piece, Place, Refusal, add_word, is_loss};
 use serde_json::Value;
 use stab_job::JobFault;
 use stab_json::label;
@@ -20,6 +21,9 @@ const LOSS: &str = "a loss is written with its place, a whole number from 0 to 6
 
 /// What an event without a place is.
 const PLAIN: &str = "this event has no place";
+
+/// What a step that names no node is refused with.
+const UNKNOWN: Matter = Matter::Refused(Refusal::Job(JobFault::UnknownNode));
 
 /// Looks at the steps: first whether each is one, and then whether each names a node.
 pub(crate) fn look_at_schedule(
@@ -47,40 +51,12 @@ fn look_at_names(notes: &mut Notes, steps: &[Value], tree: &Tree) -> Result<(), 
         }
         if let Some(name) = name_of(step) {
             if tree.find(name).is_none() {
-                add_unknown(notes, Place::member("schedule").entry(i), name, tree)?;
+                let place = Place::member("schedule").entry(i);
+                add_unknown(notes, UNKNOWN, &place, name, tree)?;
             }
         }
     }
     Ok(())
-}
-
-/// Adds a step that names no node, with the nearest name of one.
-fn add_unknown<'x>(
-    notes: &mut Notes,
-    place: Place<'_>,
-    name: &'x str,
-    tree: &'x Tree,
-) -> Result<(), AllocError> {
-    if notes.is_full() {
-        return notes.refuse(JobFault::UnknownNode, &place, &[]);
-    }
-    match nearest_node(notes.alloc(), name, tree)? {
-        Some(near) => notes.refuse(
-            JobFault::UnknownNode,
-            &place,
-            &[
-                Piece::Quoted(name),
-                Piece::Words(" is no node; did you mean "),
-                Piece::Quoted(near),
-                Piece::Words("?"),
-            ],
-        ),
-        None => notes.refuse(
-            JobFault::UnknownNode,
-            &place,
-            &[Piece::Quoted(name), Piece::Words(" is no node of the tree")],
-        ),
-    }
 }
 
 /// Looks whether a step names the root, into which no link leads.

@@ -52,6 +52,17 @@ const DRAWN_MEMBERS: Known = Known {
     reason: "beside a \"seed\"",
 };
 
+/// The lists of a script that is written out, the letters of each, and what it is.
+const WRITTEN: [(&str, &str, &str); 4] = [
+    ("frames_out", "PDE", OUT),
+    ("frames_in", "TK", IN),
+    ("acks_out", "PDE", OUT),
+    ("acks_in", "TK", IN),
+];
+
+/// The numbers of a script that is drawn, but for its seed, and what each is.
+const DRAWN: [(&str, &str); 3] = [("length", LENGTH), ("loss", LOSS), ("repeat", REPEAT)];
+
 /// Looks at the shape of a script.
 pub(crate) fn look_at_script(
     notes: &mut Notes,
@@ -78,9 +89,10 @@ fn look_at_draw(
     if !is_seed(seed) {
         notes.wrong(&place.part("seed"), seed, SEED)?;
     }
-    look_at_whole(notes, &place.part("length"), script.get("length"), LENGTH)?;
-    look_at_whole(notes, &place.part("loss"), script.get("loss"), LOSS)?;
-    look_at_whole(notes, &place.part("repeat"), script.get("repeat"), REPEAT)
+    for (name, want) in DRAWN {
+        look_at_whole(notes, &place.part(name), script.get(name), want)?;
+    }
+    Ok(())
 }
 
 /// Whether a value is a list of two whole numbers.
@@ -93,31 +105,11 @@ fn is_seed(seed: &Value) -> bool {
 
 /// Looks at the shape of a script that is written out.
 fn look_at_lists(notes: &mut Notes, place: Place<'_>, script: &Value) -> Result<(), AllocError> {
-    let (out, come_in) = (b"PDE", b"TK");
-    look_at_letters(
-        notes,
-        place.part("frames_out"),
-        script.get("frames_out"),
-        (out, OUT),
-    )?;
-    look_at_letters(
-        notes,
-        place.part("frames_in"),
-        script.get("frames_in"),
-        (come_in, IN),
-    )?;
-    look_at_letters(
-        notes,
-        place.part("acks_out"),
-        script.get("acks_out"),
-        (out, OUT),
-    )?;
-    look_at_letters(
-        notes,
-        place.part("acks_in"),
-        script.get("acks_in"),
-        (come_in, IN),
-    )
+    for (name, letters, want) in WRITTEN {
+        let acts = script.get(name);
+        look_at_letters(notes, place.part(name), acts, (letters.as_bytes(), want))?;
+    }
+    Ok(())
 }
 
 /// Looks at a list of acts: these are its letters, and what it is.
@@ -176,18 +168,10 @@ fn look_at_made(notes: &mut Notes, place: Place<'_>, script: &Value) -> Result<(
             REPEAT,
         );
     }
-    look_at_length(
-        notes,
-        place.part("frames_out"),
-        length_at(script, "frames_out"),
-    )?;
-    look_at_length(
-        notes,
-        place.part("frames_in"),
-        length_at(script, "frames_in"),
-    )?;
-    look_at_length(notes, place.part("acks_out"), length_at(script, "acks_out"))?;
-    look_at_length(notes, place.part("acks_in"), length_at(script, "acks_in"))
+    for (name, _, _) in WRITTEN {
+        look_at_length(notes, place.part(name), length_at(script, name))?;
+    }
+    Ok(())
 }
 
 /// The whole number that a member is.

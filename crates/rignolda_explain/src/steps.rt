@@ -150,16 +150,31 @@ fn look_at_act(
     let Some(word) = word.as_str() else {
         return add_found(notes, place.item(1), word, STEP);
     };
-    if is_loss(word) {
-        if !is_label(number) {
-            notes.add(Matter::Command, &place, &[Piece::Words(LOSS)])?;
-        }
-    } else if plain_act(word).is_none() {
-        add_word(notes, Matter::Command, &place.item(1), word)?;
-    } else if number.is_some() {
-        let want = if word == "offer" { OFFER } else { PLAIN };
-        notes.add(Matter::Command, &place, &[Piece::Words(want)])?;
-    }
+    look_at_act_word(notes, place, word, number)?;
     look_at_link(notes, whole, place.item(0), name)?;
     Ok(())
+}
+
+/// Looks at the word of an act, and the place of a loss.
+fn look_at_act_word(
+    notes: &mut Notes,
+    place: Place<'_>,
+    word: &str,
+    number: Option<&Value>,
+) -> Result<(), AllocError> {
+    let want = if is_loss(word) {
+        if is_label(number) {
+            return Ok(());
+        }
+        LOSS
+    } else if plain_act(word).is_none() {
+        return add_word(notes, Matter::Command, &place.item(1), word);
+    } else if number.is_none() {
+        return Ok(());
+    } else if word == "offer" {
+        OFFER
+    } else {
+        PLAIN
+    };
+    notes.add(Matter::Command, &place, &[Piece::Words(want)])
 }

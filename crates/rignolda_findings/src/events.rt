@@ -1,7 +1,7 @@
 //! The events of a link job.
 
 use crate::explanation::Matter;
-use crate::nearest::nearest_known;
+use crate::nearest::{add_nearest, nearest_known};
 use crate::notes::{Notes, Piece};
 use crate::place::Place;
 use crate::refusal::Refusal;
@@ -88,23 +88,8 @@ pub fn add_word(
     if notes.is_full() {
         return notes.add(matter, place, &[]);
     }
-    match nearest_known(notes.alloc(), word, EVENTS)? {
-        Some(near) => notes.add(
-            matter,
-            place,
-            &[
-                Piece::Quoted(word),
-                Piece::Words(" is no event; did you mean "),
-                Piece::Quoted(near),
-                Piece::Words("?"),
-            ],
-        ),
-        None => notes.add(
-            matter,
-            place,
-            &[Piece::Quoted(word), Piece::Words(" is no event")],
-        ),
-    }
+    let near = nearest_known(notes.alloc(), word, EVENTS)?;
+    add_nearest(notes, matter, place, word, (" is no event", ""), near)
 }
 
 /// What is wrong with an event, where something is.

@@ -27,7 +27,7 @@ pub use explanation::{Explanation, Finding, Matter};
 pub use known::{Known, look_at_members};
 pub use link_job::{START_MEMBERS, look_at_link_job};
 pub use looks::{seems_a_link_job, seems_to_have_steps};
-pub use nearest::{Nearest, nearest_node};
+pub use nearest::{Nearest, add_nearest, nearest_node};
 pub use not_json::look_at_bytes;
 pub use notes::{MAX_COUNTED, MAX_FINDINGS, Notes, Piece, line_of, push_number};
 pub use place::Place;

@@ -1,5 +1,8 @@
 //! The known name that is nearest to one that was written.
 
+use crate::explanation::Matter;
+use crate::notes::{Notes, Piece};
+use crate::place::Place;
 use stab_tree::{NodeId, Tree};
 use std::alloc::{AllocError, Global};
 use strsim::osa_distance;
@@ -80,4 +83,38 @@ pub fn nearest_node<'t>(
         near.offer(alloc, name, tree.name(NodeId::new(place)))?;
     }
     Ok(near.found())
+}
+
+/// Adds a word with what says that it is none, and the nearest known one, where one is near; else
+/// with the rest of what says so.
+pub fn add_nearest<'x>(
+    notes: &mut Notes,
+    matter: Matter,
+    place: &Place<'_>,
+    word: &'x str,
+    is_none: (&'static str, &'static str),
+    near: Option<&'x str>,
+) -> Result<(), AllocError> {
+    match near {
+        Some(near) => notes.add(
+            matter,
+            place,
+            &[
+                Piece::Quoted(word),
+                Piece::Words(is_none.0),
+                Piece::Words("; did you mean "),
+                Piece::Quoted(near),
+                Piece::Words("?"),
+            ],
+        ),
+        None => notes.add(
+            matter,
+            place,
+            &[
+                Piece::Quoted(word),
+                Piece::Words(is_none.0),
+                Piece::Words(is_none.1),
+            ],
+        ),
+    }
 }
