@@ -9,7 +9,7 @@ import subprocess
 import threading
 import time
 
-from daemons import PATIENCE, USUAL, Tree, becomes, during, of_tree, took, until
+from daemons import PATIENCE, USUAL, Tree, becomes, during, of_tree, patient, took, until
 from protocol import Parent, body, hello
 from runner import sure, test
 
@@ -112,7 +112,7 @@ class Unread:
             self.text += piece
 
 
-@of_tree({"left": "root"}, runs=False)
+@of_tree({"left": "root"}, patient, runs=False)
 def a_standard_error_that_nobody_reads_stops_nobody(tree, root, left):
     """2,000 connections, of each of which two lines are said. Each line has a priority."""
     name = "evil" + 56 * "x"
