@@ -16,7 +16,7 @@
 use crate::config::{is_key, Apply};
 use crate::digest::Digest;
 use crate::fact;
-use crate::floor::{read_floor, write_floor};
+use crate::floor::{read_floor, Marker};
 use crate::folder::{remove, Folder};
 use crate::hooks::{self, Hook, Runs, INPUT, PENDING};
 use rignolda::net::LOST;
@@ -463,18 +463,21 @@ fn keep_files(shared: &Shared) {
         Some((files, due, looks, state.floor, state.config.clone()))
     };
     let (mut folder, mut others) = (Folder::new(shared.folder.clone()), Others::default());
+    let mut marker = Marker::default();
     let mut grouped = Folder::new(shared.folder.join(GROUPS));
     let (mut is_taken, mut digest, mut groups) = (false, None, Vec::new());
     // (whether its files were never looked at with this mode)
     let (mut is_first, mut mode) = (true, 0);
-    while let Some(work) = shared.next_within(&shared.files, others.waits(), take) {
+    while let Some(work) = shared.next_within(&shared.files, others.waits(&marker), take) {
         let Some((mut files, due, looks, floor, config)) = work else {
-            others.say(&folder);
+            marker.close();
+            others.say_if_due(&folder);
             continue;
         };
         if folder.path() != config.folder {
             // (the memory is spoiled)
             folder = Folder::new(config.folder.clone());
+            marker.close();
             grouped = Folder::new(config.folder.join(GROUPS));
         }
         if groups != config.groups {
@@ -492,7 +495,8 @@ fn keep_files(shared: &Shared) {
         let lacks = shared.lock().failing.get(MARKER).cloned().filter(|_| !files.is_whole());
         let refused = refused.map(Outcome::File).or(lacks);
         // (else older ones could follow what is written now, by a process that is ended meanwhile)
-        let outcome = refused.unwrap_or_else(|| mark(&folder, floor, files.is_whole()));
+        let outcome =
+            refused.unwrap_or_else(|| mark(&mut marker, &folder, floor, files.is_whole()));
         is_taken = outcome == Outcome::Done;
         if !is_taken || shared.lock().failing.contains_key(MARKER) {
             let (mut state, sequence) = (shared.lock(), files.first().unwrap_or(0));
@@ -522,11 +526,10 @@ fn keep_files(shared: &Shared) {
                 mended.push(key.clone());
             }
             let work = due.work(&key, differs);
-            if work.own || !work.hooks.is_empty() {
-                keep_file(shared, &mut folder, &config, &key, change.clone(), &work);
-            }
+            let is_so = (work.own || !work.hooks.is_empty())
+                && keep_file(shared, &mut folder, &config, &key, change.clone(), &work);
             match (&mut digest, change.value.as_deref()) {
-                (Some(digest), _) if differs => see(digest, &folder, &key),
+                (Some(digest), _) if differs && !is_so => see(digest, &folder, &key),
                 (Some(digest), Some(value)) if !had => digest.set(&key, Some(value)),
                 (Some(digest), None) => digest.unset(&key),
                 _ => (),
@@ -567,10 +570,10 @@ fn keep_grouped(shared: &Shared, folder: &mut Folder, mut all: Waiting, looks: b
             }
             folder.put(&key, value, GROUPS_MODE)
         };
-        let kept = if differs { put(folder) } else { Ok(()) };
+        let kept = if differs { put(folder) } else { Ok(true) };
         let (mut state, name) = (shared.lock(), format!("{GROUPS}/{}", shown(&key)));
         match kept {
-            Ok(()) => drop(state.failing.remove(&name)),
+            Ok(_) => drop(state.failing.remove(&name)),
             Err(error) => {
                 let outcome = Outcome::File(error.to_string());
                 shared.report(&mut state, &name, change.last, outcome);
@@ -580,9 +583,11 @@ fn keep_grouped(shared: &Shared, folder: &mut Folder, mut all: Waiting, looks: b
 }
 
 /// Says in the folder that it is an agent's, and up to which number its files will be.
-fn mark(folder: &Folder, floor: u64, is_whole: bool) -> Outcome {
-    let _ = folder.mend();
-    let marked = write_floor(&folder.path().join(MARKER), floor);
+fn mark(marker: &mut Marker, folder: &Folder, floor: u64, is_whole: bool) -> Outcome {
+    // (a table looks at the folder itself too, and leaves nothing open)
+    let mut once = Marker::default();
+    let marker = if is_whole { &mut once } else { marker };
+    let marked = marker.write(folder, MARKER, floor);
     // (one that cannot be listed may have what no table names)
     let listed = || if is_whole { fs::read_dir(folder.path()).map(drop) } else { Ok(()) };
     let marked = marked.and_then(|()| listed());
@@ -599,9 +604,9 @@ struct Others {
 }
 
 impl Others {
-    /// For how long to wait for something else before it is looked for.
-    fn waits(&self) -> Option<Duration> {
-        self.is_due.then_some(LISTS)
+    /// For how long to wait for something else before it is looked for, and the marker closed.
+    fn waits(&self, marker: &Marker) -> Option<Duration> {
+        (self.is_due || marker.is_open()).then_some(LISTS)
     }
 
     /// Looks for it now, or a little later: all that is in the folder is listed for it.
@@ -609,6 +614,12 @@ impl Others {
         match is_whole || self.at.is_none_or(|at| at.elapsed() >= LISTS) {
             true => self.say(folder),
             false => self.is_due = true,
+        }
+    }
+
+    fn say_if_due(&mut self, folder: &Folder) {
+        if self.is_due {
+            self.say(folder);
         }
     }
 
@@ -636,7 +647,8 @@ fn see(digest: &mut Digest, folder: &Folder, key: &str) {
     }
 }
 
-/// Makes one file what it should be, where it differs, and lets its hooks wait.
+/// Makes one file what it should be, where it differs, and lets its hooks wait: whether it is that
+/// now, as far as it was read.
 fn keep_file(
     shared: &Shared,
     folder: &mut Folder,
@@ -644,7 +656,7 @@ fn keep_file(
     key: &str,
     change: Change,
     work: &Work<'_>,
-) {
+) -> bool {
     let is_going = |state: &mut State| state.settling.contains(key);
     let waited = shared.files.wait_timeout_while(shared.lock(), UNMARKS, is_going);
     waited.unwrap_or_else(PoisonError::into_inner).0.key = Some(key.into());
@@ -653,14 +665,18 @@ fn keep_file(
         let announced = if is_told { hooks::announce(&shared.folder, key) } else { Ok(()) };
         announced.and_then(|()| folder.put(key, change.value.as_deref(), config.mode))
     } else {
-        Ok(())
+        Ok(true)
     };
     let mut state = shared.lock();
     state.key = None;
-    if let Err(error) = kept {
-        state.due.insert(key.into());
-        return shared.report(&mut state, key, change.last, Outcome::File(error.to_string()));
-    }
+    let is_so = match kept {
+        Ok(is_so) => is_so,
+        Err(error) => {
+            state.due.insert(key.into());
+            shared.report(&mut state, key, change.last, Outcome::File(error.to_string()));
+            return false;
+        }
+    };
     if work.all {
         state.due.remove(key);
     }
@@ -681,6 +697,7 @@ fn keep_file(
             }
         }
     }
+    is_so
 }
 
 /// What a hook is told: of a change, or of keys of which the last changed with this number.

@@ -1,9 +1,9 @@
 //! The file that keeps the number up to which an agent's files are.
-use crate::folder::remove;
+use crate::folder::{remove, Folder};
 use rignoldactl::source::{read_plain, AS_IT_IS};
-use std::fs::{File, OpenOptions};
-use std::io::{self, Write};
-use std::os::unix::fs::OpenOptionsExt;
+use std::fs::{self, File, Metadata, OpenOptions};
+use std::io;
+use std::os::unix::fs::{FileExt, MetadataExt, OpenOptionsExt};
 use std::path::Path;
 
 /// How many bytes the file has: all digits that a number may have, and the end of the line.
@@ -15,29 +15,66 @@ pub fn read_floor(path: &Path) -> u64 {
     text.and_then(|it| it.trim_end().parse().ok()).unwrap_or(0)
 }
 
-/// Writes a number to this file, whatever is there. It is written in place, so that a full disk is
-/// no hindrance, and always with as many digits, so that whoever is ended meanwhile leaves a whole
-/// one. It is not synced to the disk.
-///
-/// # Errors
-///
-/// Where the system refuses it.
-pub fn write_floor(path: &Path, floor: u64) -> io::Result<()> {
+/// The file of a folder that keeps the number. It stays open from one number to the next, until it
+/// is closed.
+#[derive(Debug, Default)]
+pub struct Marker {
+    file: Option<(File, Identity)>,
+}
+
+/// What tells a file from another one at its place: also that its length is another one.
+type Identity = (u64, u64, u64);
+
+fn identity(it: &Metadata) -> Identity {
+    (it.dev(), it.ino(), it.len())
+}
+
+impl Marker {
+    /// Whether the file is open.
+    pub fn is_open(&self) -> bool {
+        self.file.is_some()
+    }
+
+    /// Closes the file, so that the folder is free.
+    pub fn close(&mut self) {
+        self.file = None;
+    }
+
+    /// Writes a number to the file of this name, whatever is in its place or is wrong with the
+    /// folder. It is written in place, so that a full disk is no hindrance, and always with as many
+    /// digits, so that whoever is ended meanwhile leaves a whole one. It is not synced to the disk.
+    ///
+    /// # Errors
+    ///
+    /// Where the system refuses it.
+    pub fn write(&mut self, folder: &Folder, name: &str, floor: u64) -> io::Result<()> {
+        let path = folder.path().join(name);
+        let text = format!("{:0digits$}\n", floor, digits = BYTES - 1);
+        let there = fs::symlink_metadata(&path).ok().map(|it| identity(&it));
+        let own = self.file.as_ref().filter(|(_, is)| there == Some(*is));
+        if own.is_some_and(|(file, _)| file.write_all_at(text.as_bytes(), 0).is_ok()) {
+            return Ok(());
+        }
+        self.close();
+        let _ = folder.mend();
+        let file = open(&path)?;
+        file.write_all_at(text.as_bytes(), 0)?;
+        file.set_len(BYTES as u64)?;
+        let is = identity(&file.metadata()?);
+        self.file = Some((file, is));
+        Ok(())
+    }
+}
+
+/// Opens what is at this place, unless it is no file: then a new one.
+fn open(path: &Path) -> io::Result<File> {
     let mut options = OpenOptions::new();
     options.write(true).custom_flags(AS_IT_IS);
-    let length = |file: &File| file.metadata().ok().filter(|it| it.is_file()).map(|it| it.len());
-    let there = options.clone().create(true).open(path).ok();
-    let there = there.and_then(|file| length(&file).map(|length| (file, length)));
-    let (mut file, length) = match there {
-        Some(there) => there,
-        None => {
+    match options.clone().create(true).open(path) {
+        Ok(file) if file.metadata().is_ok_and(|it| it.is_file()) => Ok(file),
+        _ => {
             remove(path)?;
-            (options.create_new(true).open(path)?, 0)
+            options.create_new(true).open(path)
         }
-    };
-    file.write_all(format!("{:0digits$}\n", floor, digits = BYTES - 1).as_bytes())?;
-    if length > BYTES as u64 {
-        file.set_len(BYTES as u64)?;
     }
-    Ok(())
 }

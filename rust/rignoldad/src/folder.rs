@@ -5,7 +5,7 @@ use std::collections::BTreeMap;
 use std::fs::{self, File, OpenOptions, Permissions};
 use std::hash::{BuildHasher, Hasher};
 use std::io::{self, ErrorKind, Read, Write};
-use std::os::unix::fs::{OpenOptionsExt, PermissionsExt};
+use std::os::unix::fs::{FileExt, OpenOptionsExt, PermissionsExt};
 use std::path::{Path, PathBuf};
 
 /// The file that is written before it takes the place of a setting.
@@ -22,7 +22,7 @@ const NEW: &str = ".new";
 ///
 /// let path = std::env::temp_dir().join(format!("rignolda-folder-{}", std::process::id()));
 /// let mut folder = Folder::new(path.clone());
-/// folder.put("colour", Some(b"red"), 0o640)?;
+/// assert!(folder.put("colour", Some(b"red"), 0o640)?);
 /// assert!(!folder.differs("colour", Some(b"red"), 0o640));
 /// assert!(folder.differs("colour", Some(b"blue"), 0o640));
 /// assert!(folder.had("colour", b"red") && folder.knows("colour"));
@@ -141,12 +141,24 @@ impl Folder {
             && there == value
     }
 
-    /// Makes a setting's file, or, without a value, removes it.
+    /// Makes a setting's file, or, without a value, removes it: whether it is what it should be, by
+    /// what was read of it before it was moved to its place. The folder is mended where that is in
+    /// the way.
     ///
     /// # Errors
     ///
     /// Where the key is none, or the system refuses it; then the file is as it was.
-    pub fn put(&mut self, key: &str, value: Option<&[u8]>, mode: u32) -> io::Result<()> {
+    pub fn put(&mut self, key: &str, value: Option<&[u8]>, mode: u32) -> io::Result<bool> {
+        match self.put_once(key, value, mode) {
+            Err(error) if error.kind() == ErrorKind::PermissionDenied => {
+                self.mend()?;
+                self.put_once(key, value, mode)
+            }
+            done => done,
+        }
+    }
+
+    fn put_once(&mut self, key: &str, value: Option<&[u8]>, mode: u32) -> io::Result<bool> {
         if !is_key(key) {
             return Err(ErrorKind::InvalidInput.into());
         }
@@ -154,11 +166,13 @@ impl Folder {
         let path = self.path.join(key);
         let value = match value {
             Some(value) => value,
-            None => return remove(&path),
+            None => return remove(&path).map(|()| true),
         };
         let new = self.path.join(NEW);
         let mut file = self.create(&new, mode)?;
         file.write_all(value)?;
+        let mut there = vec![0; value.len() + 1];
+        let is_so = file.read_at(&mut there, 0).is_ok_and(|length| there[..length] == *value);
         if self.exact != Some(mode) {
             // (else the mask of the process leaves it as it is)
             let is = file.metadata()?.permissions().mode() & 0o7777;
@@ -174,13 +188,13 @@ impl Folder {
             fs::rename(&new, &path)?;
         }
         self.put.insert(key.into(), self.digest(value));
-        Ok(())
+        Ok(is_so)
     }
 
     /// A new file at a place in the folder, whatever was there.
     fn create(&self, at: &Path, mode: u32) -> io::Result<File> {
         let mut options = OpenOptions::new();
-        options.write(true).create_new(true).mode(mode);
+        options.read(true).write(true).create_new(true).mode(mode);
         match options.open(at) {
             Err(e) if e.kind() == ErrorKind::AlreadyExists => remove(at)?,
             Err(e) if e.kind() == ErrorKind::NotFound => fs::create_dir_all(&self.path)?,

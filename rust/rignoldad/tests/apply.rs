@@ -4,6 +4,7 @@ use rignoldad::apply::{refusal, Applied, Applier, Outcome};
 use rignoldad::config::Apply;
 use std::collections::BTreeMap;
 use std::fs::{self, Permissions};
+use std::io;
 use std::os::unix::fs::{symlink, PermissionsExt};
 use std::path::{Path, PathBuf};
 use std::sync::atomic::{AtomicU64, Ordering};
@@ -703,15 +704,31 @@ fn whatever_is_in_the_place_of_the_marker_is_replaced() {
     let place = Place::new();
     let (marker, elsewhere) = (place.folder().join(".rignolda"), place.0.join("elsewhere"));
     let mut life = Life::begins(&place.config());
-    for number in 1..5 {
-        life.table(number, "a", "1");
+    for number in 1..10 {
+        match number {
+            1..=4 => life.table(number, "a", "1"),
+            _ => life.changes(number, "a", &number.to_string()),
+        }
         assert_eq!(life.1.floor(), number);
         fs::remove_file(&marker).unwrap();
-        match number {
+        match number % 4 {
+            0 => (),
             1 => fs::create_dir_all(marker.join("folder")).unwrap(),
             2 => symlink(&elsewhere, &marker).unwrap(),
             _ => fs::write(&marker, [b'9'; 99]).unwrap(),
         }
     }
     assert!(!elsewhere.exists());
+}
+
+#[test]
+fn nothing_in_the_folder_stays_open() {
+    let place = Place::new();
+    let mut life = Life::begins(&place.config());
+    life.table(1, "a", "1");
+    life.changes(2, "a", "2");
+    let is_there = |at: io::Result<fs::DirEntry>| {
+        at.and_then(|at| fs::read_link(at.path())).is_ok_and(|it| it.starts_with(&place.0))
+    };
+    until(|| !fs::read_dir("/proc/self/fd").unwrap().any(is_there));
 }

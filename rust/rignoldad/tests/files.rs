@@ -126,7 +126,7 @@ fn nobody_else_can_read_a_private_file_while_it_is_written() {
         let (mut folder, mut seen) = (Folder::new(place.0.clone()), [0, 0]);
         for _ in 0..60 {
             let writes: [&mut dyn FnMut(); 2] =
-                [&mut || folder.put("a", Some(&value), 0o600).unwrap(), &mut || {
+                [&mut || assert!(folder.put("a", Some(&value), 0o600).unwrap()), &mut || {
                     Batch::default().write(place.0.join("b"), &value).unwrap()
                 }];
             for (write, seen) in writes.into_iter().zip(&mut seen) {
