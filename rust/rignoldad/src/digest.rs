@@ -23,7 +23,10 @@ impl Digest {
     /// A setting has this value now; or none, where its file is there and cannot be read.
     pub fn set(&mut self, key: &str, value: Option<&[u8]>) {
         let part = rignoldactl::digest(key, value);
-        let old = self.each.insert(key.into(), part).unwrap_or(0);
+        let old = match self.each.get_mut(key) {
+            Some(it) => std::mem::replace(it, part),
+            None => self.each.insert(key.into(), part).unwrap_or(0),
+        };
         self.sum = self.sum.wrapping_sub(old).wrapping_add(part);
     }
 

@@ -97,7 +97,7 @@ impl Folder {
             return true;
         }
         if let (false, Some(value)) = (had, value) {
-            self.put.insert(key.into(), self.digest(value));
+            self.knows_as(key, self.digest(value));
         }
         false
     }
@@ -149,12 +149,23 @@ impl Folder {
     ///
     /// Where the key is none, or the system refuses it; then the file is as it was.
     pub fn put(&mut self, key: &str, value: Option<&[u8]>, mode: u32) -> io::Result<bool> {
-        match self.put_once(key, value, mode) {
+        let done = match self.put_once(key, value, mode) {
             Err(error) if error.kind() == ErrorKind::PermissionDenied => {
-                self.mend()?;
-                self.put_once(key, value, mode)
+                self.mend().and_then(|()| self.put_once(key, value, mode))
             }
             done => done,
+        };
+        match value.filter(|_| done.is_ok()).map(|value| self.digest(value)) {
+            Some(digest) => self.knows_as(key, digest),
+            None => drop(self.put.remove(key)),
+        }
+        done
+    }
+
+    fn knows_as(&mut self, key: &str, digest: u64) {
+        match self.put.get_mut(key) {
+            Some(it) => *it = digest,
+            None => drop(self.put.insert(key.into(), digest)),
         }
     }
 
@@ -162,7 +173,6 @@ impl Folder {
         if !is_key(key) {
             return Err(ErrorKind::InvalidInput.into());
         }
-        self.put.remove(key);
         let path = self.path.join(key);
         let value = match value {
             Some(value) => value,
@@ -187,7 +197,6 @@ impl Folder {
             remove(&path)?;
             fs::rename(&new, &path)?;
         }
-        self.put.insert(key.into(), self.digest(value));
         Ok(is_so)
     }
 

@@ -36,9 +36,7 @@ pub fn lines(fact: &str, all: impl IntoIterator<Item = String>) {
     THREAD.get_or_init(start);
     let mut queue = lock();
     for words in all {
-        let front = priority(fact, &words);
-        let words: String = words.chars().flat_map(char::escape_debug).take(WORDS).collect();
-        let line = format!("{front}{fact} {words}\n");
+        let line = line(fact, &words);
         if queue.bytes + line.len() > WAITING {
             queue.left_out += 1;
         } else {
@@ -48,6 +46,19 @@ pub fn lines(fact: &str, all: impl IntoIterator<Item = String>) {
     }
     // (mostly there is no line)
     (!queue.lines.is_empty()).then(|| CHANGED.notify_all());
+}
+
+fn line(fact: &str, words: &str) -> String {
+    let is_plain = |byte| matches!(byte, b' '..=b'~') && !matches!(byte, b'\'' | b'"' | b'\\');
+    let mut line = [priority(fact, words), fact, " "].concat();
+    // (mostly it is)
+    if words.len() <= WORDS && words.bytes().all(is_plain) {
+        line += words;
+    } else {
+        line.extend(words.chars().flat_map(char::escape_debug).take(WORDS));
+    }
+    line.push('\n');
+    line
 }
 
 /// Waits until all lines are written, but not for long: to be called at the end.
