@@ -238,18 +238,32 @@ impl Applier {
         let (files, hooks) = (Condvar::new(), Condvar::new());
         let shared = Arc::new(Shared { folder, state, files, hooks, wake });
         let mut applier = Applier { shared, threads: Vec::new(), lost: Cell::new(0) };
-        let hooks = [("hooks", run_hooks as fn(&Shared)); HOOKS];
-        for (name, work) in hooks.into_iter().chain([("files", keep_files as fn(&Shared))]) {
-            let shared = applier.shared.clone();
-            let thread = thread::Builder::new().name(name.into()).stack_size(STACK_BYTES);
-            applier.threads.push(thread.spawn(move || work(&shared))?);
-        }
+        applier.start("files", keep_files)?;
+        applier.start_hooks(config)?;
         Ok(applier)
+    }
+
+    fn start(&mut self, name: &str, work: fn(&Shared)) -> io::Result<()> {
+        let shared = self.shared.clone();
+        let thread = thread::Builder::new().name(name.into()).stack_size(STACK_BYTES);
+        self.threads.push(thread.spawn(move || work(&shared))?);
+        Ok(())
+    }
+
+    /// Starts the threads for hooks, which take memory, where there is a hook.
+    fn start_hooks(&mut self, config: &Apply) -> io::Result<()> {
+        let has_one = config.hook.is_some() || !config.hooks.is_empty();
+        while has_one && self.threads.len() <= HOOKS {
+            self.start("hooks", run_hooks)?;
+        }
+        Ok(())
     }
 
     /// Takes new hooks, a new mode and new groups, which count from the next round on. The folder
     /// stays.
     pub fn reload(&mut self, config: &Apply) {
+        // (where none can be started, hooks wait, and it is seen that nobody takes them)
+        let _ = self.start_hooks(config);
         let mut state = self.shared.lock();
         if state.config.groups != config.groups {
             // (the files are of the old ones)

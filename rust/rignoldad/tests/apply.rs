@@ -312,7 +312,9 @@ fn a_key_never_leaves_the_folder() {
 #[test]
 fn a_hook_gets_each_change_once() {
     let place = Place::new();
-    let mut applier = start(&place.with_hook(LOG));
+    // (it is there from a reload on)
+    let mut applier = start(&place.config());
+    applier.reload(&place.with_hook(LOG));
     applier.set("a", b"1", 7);
     applied(&mut applier, 7);
     applier.set("a", b"1", 8);
