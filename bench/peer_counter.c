@@ -1,6 +1,6 @@
-/* Counts in the file of a client's notes (see peer_client.c) how many files a process moved to their
- * places: for a process that is started with this object in LD_PRELOAD, and the file's path in
- * PEER_NOTES. */
+/* Counts in the file of a client's notes (see peer_client.c) how many files a process moved to
+ * their places: for one that is started with this object in LD_PRELOAD, and the path of that file
+ * in PEER_NOTES. */
 #define _GNU_SOURCE
 #include <fcntl.h>
 #include <stdint.h>
