@@ -9,7 +9,7 @@ use std::alloc::{AllocError, Global};
 
 /// What the program is to do.
 #[derive(Debug, Drop)]
-pub enum Request {
+pub(crate) enum Request {
     /// Print the worst link job of these parameters.
     Worst {
         params: Params,
@@ -32,7 +32,7 @@ pub enum Request {
 
 /// What the program is to do with a job that it reads.
 #[derive(Clone, Copy, Debug)]
-pub enum Reading {
+pub(crate) enum Reading {
     /// Draw its run: as a picture, or as text.
     Draw { svg: bool },
     /// Say what is wrong with it and where.
@@ -47,7 +47,7 @@ pub enum Reading {
 
 /// What the words of a command line ask for, the program's name first. Otherwise the text that
 /// answers them: help, the version, or a mistake with a line on the usage.
-pub fn parse(alloc: Global, words: &[String]) -> Result<Request, Error> {
+pub(crate) fn parse(alloc: Global, words: &[String]) -> Result<Request, Error> {
     let matches = matches_of(alloc, words)?;
     request_of(alloc, matches.subcommand())
 }
