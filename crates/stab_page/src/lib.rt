@@ -10,6 +10,7 @@
 
 mod code;
 mod entry;
+pub mod examples;
 mod export;
 pub mod laws;
 mod link;
@@ -27,6 +28,3 @@ pub use code::{EventCode, FrameCode};
 pub use export::stab_page_report;
 pub use tree_code::{LinkCode, OpeningCode, TreeEventCode};
 pub use tree_export::stab_page_tree_report;
-
-#[cfg(test)]
-mod tests;
