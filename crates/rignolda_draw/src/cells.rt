@@ -1,6 +1,6 @@
 //! Words in their columns.
 
-use crate::queue::{Entry, push_entries};
+use crate::queue::{Entry, push_queue};
 use crate::row::held;
 use crate::words::push_decimal;
 use stab_core::Link;
@@ -100,11 +100,8 @@ fn push_queue_cell<E: Entry>(
     link: &Link,
     width: usize,
 ) -> Result<(), AllocError> {
-    if E::count(link) == 0 {
-        return push_cell(text, "-", width);
-    }
     let from = text.len();
-    push_entries::<E>(text, link, 0)?;
+    push_queue::<E>(text, link)?;
     pad(text, from, width)
 }
 

@@ -50,12 +50,16 @@ impl Entry for Label {
     }
 }
 
+/// Adds the entries of a queue, or `-`.
+pub(crate) fn push_queue<E: Entry>(text: &mut String, link: &Link) -> Result<(), AllocError> {
+    if E::count(link) == 0 {
+        return text.push('-');
+    }
+    push_entries::<E>(text, link, 0)
+}
+
 /// Adds the entries of a queue from this place on, each after a comma, but for the front.
-pub(crate) fn push_entries<E: Entry>(
-    text: &mut String,
-    link: &Link,
-    from: u16,
-) -> Result<(), AllocError> {
+fn push_entries<E: Entry>(text: &mut String, link: &Link, from: u16) -> Result<(), AllocError> {
     for place in from..E::count(link) {
         push_entry(text, place, E::at(link, place))?;
     }
@@ -129,14 +133,10 @@ impl Queue {
         self.write::<E>(link)
     }
 
-    /// Writes the cell anew: the entries, or `-`.
+    /// Writes the cell anew.
     fn write<E: Entry>(&mut self, link: &Link) -> Result<(), AllocError> {
         self.cell.clear();
-        if self.count == 0 {
-            self.cell.push('-')?;
-        } else {
-            push_entries::<E>(&mut self.cell, link, 0)?;
-        }
+        push_queue::<E>(&mut self.cell, link)?;
         self.end_word()
     }
 

@@ -85,8 +85,8 @@ pub fn nearest_node<'t>(
     Ok(near.found())
 }
 
-/// Adds a word with what says that it is none, and the nearest known one, where one is near; else
-/// with the rest of what says so.
+/// Adds that a word is none of the known ones: the first of two texts says so where one of these is
+/// near, and is followed by it; where none is, both texts do.
 pub fn add_nearest<'x>(
     notes: &mut Notes,
     matter: Matter,

@@ -8,9 +8,10 @@
 //!
 //! Of the logs of real agents nobody knows what was there at that moment. Their job says which tree
 //! there is, what the links and nodes may hold, and what was published; its members `received` and
-//! `from` are the logs. [`read_logs`] reads them, [`Received`] the lists off the text already, and [`verdict_of_logs`] answers true exactly where
-//! each node received what the laws allow under some start, and names what is broken first. Every
-//! run since a fault has logs that obey ([`log_laws::runs_since_a_fault_obey`]).
+//! `from` are the logs. [`read_logs`] reads them, [`Received`] the lists off the text already, and
+//! [`verdict_of_logs`] answers true exactly where each node received what the laws allow under some
+//! start, and names what is broken first. Every run since a fault has logs that obey
+//! ([`log_laws::runs_since_a_fault_obey`]).
 #![tactic(auto)]
 
 mod backlogs;

@@ -26,9 +26,9 @@ use stab_treecore::laws::sharper_bounds_are_smaller;
 use std::alloc::{AllocError, Global};
 
 /// The lines of the nodes of a job in file order: of each its depth, the sums C, E and M that the
-/// laws allow it, and what they mean; what the sharper law allows it; after how many reading rounds of its path all that is
-/// published has arrived; and what a strike at the link into it, or its restart, costs it and what
-/// is beneath.
+/// laws allow it, and what they mean; what the sharper law allows it; after how many reading rounds
+/// of its path all that is published has arrived; and what a strike at the link into it, or its
+/// restart, costs it and what is beneath.
 pub fn bounds_text(alloc: Global, job: &Job) -> Result<String, AllocError>
     ensures { IfOk result (λ text. string_bytes text ≡ bounds_text (network job.now)) }
 {
