@@ -12,7 +12,7 @@ import sys
 from house import TOP, House, remove
 
 house = House()
-house.bring("gate", "tools/costs.py", "tools/crates.py", "tools/running.py")
+house.bring("gate", "tools/costs.py", "tools/crates.py", "tools/programs.py", "tools/running.py")
 holds = house.holds
 # The scripts of tests that the gate runs. The first one counts five cases, and the others none.
 SCRIPTS = [it for it in re.findall(r"^(?:tests|tools)/\w+\.\w+", (TOP / "gate").read_text(), re.M)
@@ -153,14 +153,21 @@ holds("without the kit it says what is missing", (house.run(
     and house.ended.out == "gate: it needs the command rt of the Rattle kit, and finds none\n"))
 
 # While the first part goes on, others begin: at first none, then those that need nothing of it,
-# and the planted bugs of a crate over crates that are proved; after it what runs that it has built.
+# and the planted bugs of a crate over crates that are proved; after it what runs the programs, and
+# what looks at those that it has built. Where the programs of the present sources are there before
+# it, what runs them begins beside it as well.
 BESIDE = f"""how=late; [ "$(nice)" -le {os.nice(0)} ] || how=beside
     echo "$1 $how" >>"$WORK/begun"; echo 0 passed, 0 failed"""
 APART = next(it for it in SCRIPTS if it == "tests/check_stab.py")
+RUN = next(it for it in SCRIPTS if it == "tests/check_drawn.py")
 OVER = next(it for it in SCRIPTS if it == "tests/check_tables.py")
-house.command(APART, BESIDE.replace("$1", "apart"))
-house.command(OVER, BESIDE.replace("$1", "over"))
+for it, name in (APART, "apart"), (RUN, "run"), (OVER, "over"):
+    house.command(it, BESIDE.replace("$1", name))
 house.command("tests/try_edits.py", BESIDE)
+house.write("tools/launch", """part=
+read_table() { :; }
+find_sources() { :; }
+find_built() { built=$WORK/released; [ -e "$built" ]; }""")
 STEPS = """
 has() { for _ in $(seq 200); do grep -q "$1" "$WORK/begun" && return; sleep 0.05; done; }
 sleep 0.3; cp "$WORK/begun" "$WORK/at_first"
@@ -168,27 +175,36 @@ echo rt: low proved; has apart; has low; has mid; cp "$WORK/begun" "$WORK/beside
 echo 1 passed, 0 failed"""
 
 
-def begun(first, **env):
+def begun(first, *words):
     """What had begun at first, beside the first part, and at the end."""
     for it in "begun", "at_first", "beside":
         house.write(house.work / it)
     house.command(house.bin / "rt", f'[ "$1" = ci ] || {{ echo kit-1; exit; }}\n{first}')
-    run_gate(**env)
+    run_gate(*words)
     return [sorted(house.read(it).split("\n")[:-1]) for it in ("at_first", "beside", "begun")]
 
 
 at_first, beside, after = begun(STEPS)
 holds("at first nothing runs beside the first part", at_first == [])
+NEED_NOTHING = ["apart beside", "low beside", "mid beside"]
 holds("then what needs nothing of it, and planted bugs, in the time that is left over",
-      beside == ["apart beside", "low beside", "mid beside"])
-holds("and after it what runs what it has built, and planted bugs over what it has not proved",
-      after == sorted([*beside, "high late", "over late"]))
+      beside == NEED_NOTHING)
+holds("and after it what runs the programs, and planted bugs over what it has not proved",
+      after == sorted([*beside, "high late", "over late", "run late"]))
+house.write(house.work / "released")
+_, beside, after = begun(STEPS.replace("has apart", "has apart; has run"))
+holds("but beside it where they are there before, and not what looks at those that it has built", (
+    beside, after) == ([*NEED_NOTHING, "run beside"], sorted([*beside, "high late", "over late"])))
+_, beside, after = begun(STEPS, "--release")
+holds("and never where the release is made anew",
+      beside == NEED_NOTHING and "run late" in after and "run beside" not in after)
+remove(house.work / "released")
 _, beside, after = begun(STEPS.replace("rt: low proved", "rt: low NOT PROVED")
                          .replace("has apart; has mid", "sleep 0.3"))
 holds("over what is not proved nothing begins before it has ended", beside == [] and after == [
-    "apart late", "high late", "low late", "mid late", "over late"])
-script(SCRIPTS.index(APART))
-script(SCRIPTS.index(OVER))
+    "apart late", "high late", "low late", "mid late", "over late", "run late"])
+for it in APART, RUN, OVER:
+    script(SCRIPTS.index(it))
 house.command("tests/try_edits.py", 'echo "$PWD: edits $*"; echo 0 passed, 0 failed')
 
 # A release is made of what the first part has built, where that has passed.
