@@ -24,7 +24,10 @@ const REFUSED: u8 = 2;
 ///
 /// A fault is one line on the standard error. Where a job is to be typed at a terminal, a line
 /// there says so first.
-pub(crate) fn run<R: Env + Files + Input + Print + Eprint + AllocGlobal>(rt: &R, is_typed: bool) -> u8 {
+pub(crate) fn run<R: Env + Files + Input + Print + Eprint + AllocGlobal>(
+    rt: &R,
+    is_typed: bool,
+) -> u8 {
     let words = match words(rt, rt.alloc()) {
         Ok(words) => words,
         Err(fault) => return failed(rt, CommandFault::Job(fault)),
