@@ -1,5 +1,7 @@
 """What lies between a child and its parent: relays, one connection for one, that can lose and
 delay, and a network that loses packets."""
+import contextlib
+import math
 import random
 import select
 import socket
@@ -44,17 +46,15 @@ class Relay:
 
     def __init__(self, port, cuts=None, delay=0.0, seed=1):
         self.to, self.cuts, self.delay = port, cuts, delay
-        self.draw = random.Random(seed)
+        self.draw, self.calm = random.Random(seed), False
         self.listener = socket.create_server(("127.0.0.1", 0))
         self.port = self.listener.getsockname()[1]
-        self.open, self.calm = True, False
-        self.connections = 0
-        self.passed = 0     # how many bytes came
+        self.connections = self.passed = 0      # how many there were, and of how many bytes
         self.socks = []
         threading.Thread(target=self.accept, daemon=True).start()
 
     def accept(self):
-        while self.open:
+        while self.listener.fileno() >= 0:
             try:
                 near, _ = self.listener.accept()
             except OSError:
@@ -64,44 +64,30 @@ class Relay:
             threading.Thread(target=self.serve, args=(near,), daemon=True).start()
 
     def serve(self, near):
-        try:
-            far = socket.create_connection(("127.0.0.1", self.to), timeout=5)
-        except OSError:
-            near.close()
-            return
-        self.connections += 1
-        self.socks += [near, far]
-        end = time.monotonic() + self.draw.uniform(*self.cuts) if self.cuts else None
-        waiting = []        # (when, to, bytes)
-        try:
-            while self.open:
+        # (where it is closed while it waits, a descriptor is none any more)
+        with near, contextlib.suppress(OSError, ValueError), \
+                socket.create_connection(("127.0.0.1", self.to), timeout=5) as far:
+            self.connections += 1
+            self.socks += [near, far]
+            end = time.monotonic() + (self.draw.uniform(*self.cuts) if self.cuts else math.inf)
+            waiting = []        # (when, to, bytes)
+            while self.calm or time.monotonic() < end:
                 now = time.monotonic()
-                if end and now >= end and not self.calm:
-                    break
                 while waiting and waiting[0][0] <= now:
                     _, to, piece = waiting.pop(0)
-                    # (of the last piece only a part gets through, if the connection ends now)
                     to.sendall(piece)
-                due = [it[0] for it in waiting[:1]] + ([end] if end and not self.calm else [])
-                wait = max(0.0, min([it - now for it in due] + [0.2]))
-                for sock in select.select([near, far], [], [], wait)[0]:
-                    piece = sock.recv(1 << 16)
+                due = [now + 0.2, *(it[0] for it in waiting[:1]), now + 0.2 if self.calm else end]
+                for sock in select.select([near, far], [], [], max(0.0, min(due) - now))[0]:
+                    piece, other = sock.recv(1 << 16), far if sock is near else near
                     if not piece:
                         return
                     self.passed += len(piece)
-                    other = far if sock is near else near
                     if self.cuts and not self.calm and self.draw.random() < 0.05:
+                        # (of the last piece only a part gets through)
                         other.sendall(piece[:self.draw.randrange(len(piece))])
                         return
                     waiting.append((time.monotonic() + self.delay, other, piece))
-        except (OSError, ValueError):
-            # (where it is closed while it waits, a descriptor is none any more)
-            pass
-        finally:
-            near.close()
-            far.close()
 
     def close(self):
-        self.open = False
         for sock in (self.listener, *self.socks):
             sock.close()
