@@ -13,8 +13,8 @@ from daemons import PATIENCE, USUAL, Tree, becomes, during, of_tree, patient, to
 from protocol import Parent, body, hello
 from runner import sure, test
 
-# Functions of C that do something while a file is there: most of them wait, and say so by another
-# file; then each is a call of the system.
+# Calls of the system that do something else while there is a file that is named for them: most of
+# them wait, and say so by another file.
 PRELOADED = r"""
 #include <fcntl.h>
 #include <stdio.h>
@@ -22,60 +22,53 @@ PRELOADED = r"""
 #include <string.h>
 #include <sys/syscall.h>
 #include <unistd.h>
-static int is_there(void) { return !access(getenv("SLOW_FILE"), F_OK); }
-static void waits(void)
+static int is_on(const char *call)
+{
+    return getenv(call) && !access(getenv(call), F_OK);
+}
+static void waits(const char *call)
 {
     char began[4096];
-    snprintf(began, sizeof began, "%s.began", getenv("SLOW_FILE"));
-    close(open(began, O_CREAT | O_WRONLY, 0600));
-    while (is_there())
+    if (is_on(call)) {
+        snprintf(began, sizeof began, "%s.began", getenv(call));
+        close(open(began, O_CREAT | O_WRONLY, 0600));
+    }
+    while (is_on(call))
         usleep(10000);
 }
-"""
-# (a disk hangs)
-SLOW_DISK = """
 int fsync(int file)
 {
-    if (is_there())
-        waits();
+    waits("of_fsync");
     return syscall(SYS_fsync, file);
 }
-"""
-# (a mark of a hook is not removed)
-SLOW_UNLINK = """
 int unlink(const char *path)
 {
-    if (strstr(path, "/.pending/") && is_there())
-        waits();
+    if (strstr(path, "/.pending/"))
+        waits("of_unlink");
     return syscall(SYS_unlinkat, AT_FDCWD, path, 0);
 }
-"""
-# (the file of `colour` does not come to its place)
-SLOW_RENAME = """
 int rename(const char *from, const char *to)
 {
-    if (strstr(to, "/colour") && is_there())
-        waits();
+    if (strstr(to, "/colour"))
+        waits("of_rename");
     return syscall(SYS_renameat2, AT_FDCWD, from, AT_FDCWD, to, 0);
 }
-"""
-# (what is written is spoiled on its way, and the call says that all is well)
-SPOILS = """
 ssize_t write(int file, const void *bytes, size_t length)
 {
-    if (length == 4 && !memcmp(bytes, "blue", 4) && is_there())
+    if (length == 4 && !memcmp(bytes, "blue", 4) && is_on("of_write"))
         bytes = "glue";
     return syscall(SYS_write, file, bytes, length);
 }
 """
 
 
-def preload(agent, function):
-    """From its next start on an agent has this function. It answers which file that looks at."""
+def preload(agent, call):
+    """From its next start on a call of an agent waits, or spoils what is written, while there is a
+    file: which one."""
     home = agent.tree.home
-    (home / "slow.c").write_text(PRELOADED + function)
+    (home / "slow.c").write_text(PRELOADED)
     subprocess.run(["cc", "-shared", "-fPIC", "-o", home / "slow.so", home / "slow.c"], check=True)
-    agent.env = {"LD_PRELOAD": str(home / "slow.so"), "SLOW_FILE": str(home / "slow")}
+    agent.env = {"LD_PRELOAD": str(home / "slow.so"), f"of_{call}": str(home / "slow")}
     return home / "slow"
 
 
@@ -91,24 +84,21 @@ def ends(agent):
 
 
 class Unread:
-    """An agent whose standard error is a pipe that nobody reads yet."""
+    """An agent whose standard error is a pipe of a journal that nobody reads yet."""
 
-    def __init__(self, agent, **environment):
+    def __init__(self, agent):
         agent.configure()
-        self.read, write = os.pipe()
-        is_pipe = os.fstat(write)
-        stream = {"JOURNAL_STREAM": f"{is_pipe.st_dev}:{is_pipe.st_ino}"} if environment else {}
-        agent.process = subprocess.Popen([agent.tree.bin / "rignoldad", agent.file], stderr=write,
-                                         stdin=subprocess.DEVNULL, env={**os.environ, **stream})
+        self.pipe, write = os.pipe()
+        journal = "{0.st_dev}:{0.st_ino}".format(os.fstat(write))
+        agent.process = subprocess.Popen(
+            [agent.tree.bin / "rignoldad", agent.file], stderr=write, stdin=subprocess.DEVNULL,
+            env={**os.environ, "JOURNAL_STREAM": journal})
         os.close(write)
         self.text = b""
 
-    def begin(self):
-        """From now on it is read."""
-        threading.Thread(target=self.all, daemon=True).start()
-
-    def all(self):
-        while piece := os.read(self.read, 1 << 16):
+    def read(self):
+        """Reads it, to its end."""
+        while piece := os.read(self.pipe, 1 << 16):
             self.text += piece
 
 
@@ -118,7 +108,7 @@ def a_standard_error_that_nobody_reads_stops_nobody(tree, root, left):
     name = "evil" + 56 * "x"
     root.top["children"] = ["left", name]
     (root.truth / "no key").touch()
-    unread = Unread(root, journal=True)
+    unread = Unread(root)
     for is_away in True, False:
         left.start()
         sure(until(lambda: answers(root) and left.up()), "the tree is not ready")
@@ -134,13 +124,13 @@ def a_standard_error_that_nobody_reads_stops_nobody(tree, root, left):
     tree.write("after", "that")
     tree.settles(left)
     # what did not fit is counted, once somebody reads it, and each line is a whole one
-    unread.begin()
+    threading.Thread(target=unread.read, daemon=True).start()
     for words in (b"<5>start root life", b"<5>connected left", b"<4>closed left",
                   b"<3>settings `no key` is no key", b"lines are left out"):
         sure(until(lambda: words in unread.text), words, unread.text[-300:])
-    whole = ("<[3-6]>(start|applied|connected|closed|journal|settings|refused|end|published"
-             "|report|parent) .*")
-    odd = [line for line in unread.text.decode().splitlines()[:-1] if not re.fullmatch(whole, line)]
+    odd = [line for line in unread.text.decode().splitlines()[:-1] if not re.fullmatch(
+        "<[3-6]>(start|applied|connected|closed|journal|settings|refused|end|published|report"
+        "|parent) .*", line)]
     sure(not odd, odd[:3])
     ends(root)
 
@@ -161,7 +151,7 @@ def an_end_waits_for_no_reader(tree, root):
 @of_tree({"left": "root"}, runs=False, begins=True, needs="cc")
 def a_disk_that_hangs_stops_nobody(tree, root, left):
     """While a file waits for the disk, the agent answers and its rounds go on; then it is there."""
-    hangs = preload(root, SLOW_DISK)
+    hangs = preload(root, "fsync")
     root.tables["root"]["round"] = "500ms"
     tree.begin()
     hangs.touch()
@@ -200,7 +190,7 @@ def a_file_where_a_socket_is_to_be_is_kept(tree, root):
 def a_hooks_mark_that_cannot_go_yet_stops_nobody(tree, root, left):
     """The disk of the applied settings hangs where a hook has ended: the agent answers. And no
     descriptor of the agent is the hook's."""
-    slow = preload(left, SLOW_UNLINK)
+    slow = preload(left, "unlink")
     left.hook(f"ls -l /proc/self/fd >{left.home}/said")
     tree.begin()
     slow.touch()

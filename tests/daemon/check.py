@@ -11,12 +11,10 @@ import itertools
 import os
 import random
 import re
-import shlex
 import shutil
 import signal
 import socket
 import struct
-import subprocess
 import sys
 import time
 
@@ -43,14 +41,7 @@ def settings_reach_all_and_what_is_removed_is_gone(tree):
     tree.publish("by_command", "two")
     # (what wait says is so at once)
     sure(not tree.wrong(), tree.wrong())
-    mask = os.umask(0o022)
-    os.umask(mask)
-    mode = (tree.root.truth / "by_command").stat().st_mode & 0o777
-    sure(mode == 0o640 & ~mask, oct(mode))
     sure(tree["left1"].files()["by_command"] == b"two")
-    number = tree.root.ask("publish", "raw", value=bytes(range(256)))["sequence"]
-    tree["right2"].ask("wait", number)
-    sure(tree["right2"].files()["raw"] == bytes(range(256)))
     number = tree.root.ask("unset", "by_command")["sequence"]
     (tree.root.truth / "key0").unlink()
     tree.wait(number)
@@ -86,16 +77,12 @@ def connections_that_break_lose_nothing():
 
 
 def spoil(folder, draw):
-    """Puts garbage where an agent keeps its settings, in each way of trial.py."""
+    """Spoils what an agent keeps, in ways of trial.py."""
     if draw.randrange(4) == 0:
-        return shutil.rmtree(folder)
-    ways = list(trial.OF_FILES.values())
-    for path in sorted(folder.iterdir()):
-        # (without the marker, an agent that starts then takes the folder for somebody else's)
-        if path.is_file() and path.name != ".rignolda" and draw.randrange(5):
-            draw.choice(ways)(path, draw)
-    trial.extra_files(folder, draw)
-    (folder / ".pending" / "nothing").parent.mkdir(exist_ok=True)
+        return trial.spoil(folder, "gone", draw)
+    for way in draw.sample([*trial.OF_FILES, *trial.OF_TWO], 6):
+        trial.spoil(folder, way, draw)
+    (folder / "extra").write_text("1")
 
 
 @of_tree(None, root_has(round="1h"))
@@ -170,16 +157,14 @@ def only_the_right_certificate_is_let_in(tree, root, false, leaf, strange, liar,
     for agent in bad:
         sure(agent.files() == {} and not agent.said("connected the parent"), agent.name)
     # a leaf's certificate must not do for its parent
-    false.kill()
     false.tables["tls"], real = {**leaf.tables["tls"]}, false.tables["tls"]
     taken = leaf.said("connected the parent")
-    false.start()
+    false.restart()
     leaf.says("its certificate has another name")
     sure(leaf.status()["parent"] is None and leaf.said("connected the parent") == taken,
          "it took another one for its parent")
-    false.kill()
     false.tables["tls"] = real
-    false.start()
+    false.restart()
     tree.write("last", "one")
     tree.settles(*good)
 
@@ -204,12 +189,9 @@ def what_a_false_parent_sends_is_bounded_and_checked(tree, root, leaf):
     parent.meet()
     draw = random.Random(9)
     one = entry(b"a", b"1")
-    odd = [b"", b"T", b"?" * 40, body(b"H", 1, b"x"), body(b"C", 1, b"\xff"),
-           body(b"T", 1, b"\xff" * 30), body(b"T", 1, [entry(b"../a", b"1")]),
-           body(b"C", 1, [entry(b".pending", b"1")]), body(b"C", 1, [one, one]),
-           body(b"C", 1, [entry(b"b", b"1"), one]), body(b"C", 1, [one]) + b"x",
-           body(b"C", 1, [one])[:-1], body(b"T", 1, [entry(b"", b"1")]),
-           body(b"C", 1, [entry(b"k" * 129, b"1")]), body(b"C", 1, [entry(b"\xff", b"1")])]
+    # (wire.rs has more of them, one by one)
+    odd = [b"", body(b"H", 1, b"x"), body(b"T", 1, [entry(b"../a", b"1")]),
+           body(b"C", 1, [entry(b".pending", b"1")]), body(b"C", 1, [one]) + b"x"]
     odd += [draw.randbytes(draw.randrange(200)) for _ in range(30)]
     for text in odd:
         send(text)
@@ -312,8 +294,7 @@ def the_control_socket_is_bounded(tree):
     sure(modes == [0o660, 0o660], *map(oct, modes))
     before = memory(root, "VmRSS")
     for text in [b"\n", b"{}\n", b"[1]\n", b'{"do":"drop-all"}\n',
-                 b'{"do":"publish","key":"a"}\n',
-                 b'{"do":"publish","key":"a","value":"abc"}\n', b'{"do":"status","x":1}\n',
+                 b'{"do":"publish","key":"a"}\n', b'{"do":"status","x":1}\n',
                  b'{"do":"publish","key":"../a","value":"00"}\n', b"\xff\xfe\n",
                  b"[" * 100_000 + b"\n"] + [draw.randbytes(99) + b"\n" for _ in range(30)]:
         with root.client() as sock:
@@ -351,8 +332,6 @@ def the_control_socket_is_bounded(tree):
 @of_tree({"left": "root", "leaf": "left"}, root_has(round="200ms", harmless=4))
 def commands_say_what_they_did(tree, root, left, leaf):
     """Rounds begin all the time, with too few harmless items."""
-    left.refuses("", "publish", "a", "b")
-    root.refuses("", "publish", "../a", "b")
     root.refuses("", "publish", status=2)
     root.refuses("", "child", "add", "left")
     leaf.refuses("", "bounds")
@@ -403,27 +382,23 @@ def commands_say_what_they_did(tree, root, left, leaf):
 @of_tree({}, counted)
 def a_reload_that_is_not_taken_is_shown(tree, root):
     unit = (PACKAGING / "rignoldad.service").read_text()
-    lines = re.findall("^ExecReload=(.*)$", unit, re.M)
+    lines = re.findall("^ExecReload=[-+!@:]*(.*)$", unit, re.M)
 
     def reload():
         """Does what systemd does: each line of the unit, unless the one before it fails."""
-        for line in lines:
-            for old, new in [(r"^[-+!@:]+", ""), (r" --user \S+", ""),
-                             ("/usr/bin/rignoldad", f"{tree.bin}/rignoldad --user root"),
-                             ("/etc/rignolda/agent.toml", str(root.file)),
-                             (r"\$MAINPID", str(root.process.pid))]:
-                line = re.sub(old, new, line)
-            done = ran(*shlex.split(line))
-            if done[0]:
-                return done
-        return 0, ""
+        words = "\n".join(lines)
+        for old, new in [(r" --user \S+", ""),
+                         ("/usr/bin/rignoldad", f"{tree.bin}/rignoldad --user root"),
+                         ("/etc/rignolda/agent.toml", str(root.file))]:
+            words = re.sub(old, new, words)
+        return ran("sh", "-ec", words, env={**os.environ, "MAINPID": str(root.process.pid)})
 
     def shows(text):
         says = root.status()["reload_failed"]
         is_counted = f"\nrignolda_reload_failed {int(bool(text))}\n" in root.counts()
         return text in says and bool(says) == bool(text) and is_counted
 
-    sure(len(lines) == 2 and reload() == (0, "") and shows(""), lines)
+    sure(len(lines) == 2 and not reload()[0] and shows(""), lines)
     good = root.file.read_text()
     # what cannot work is found before the agent hears of it
     root.file.write_text(good.replace("round =", "rund ="))
@@ -435,10 +410,10 @@ def a_reload_that_is_not_taken_is_shown(tree, root):
     sure("root.rund" in root.status()["reload_failed"], root.status())
     # what is right, but counts from a start alone
     root.file.write_text(good.replace("metrics =", "#metrics ="))
-    sure(reload() == (0, ""))
+    sure(not reload()[0])
     sure(until(lambda: shows("from a start alone: metrics")), root.status())
     root.file.write_text(good)
-    sure(reload() == (0, "") and until(lambda: shows("")), root.status())
+    sure(not reload()[0] and until(lambda: shows("")), root.status())
 
 
 @of_tree({"left": "root"}, counted)
@@ -483,8 +458,7 @@ def it_is_installed_packed_and_removed(tree):
     # (else systemd gives it up after five starts that failed soon)
     sure("StartLimitIntervalSec=0" in unit.partition("[Service]")[0], unit)
     example = house / "usr/local/share/doc/rignoldad/examples/agent.toml"
-    words = [house / "usr/local/bin/rignoldad", "--check", example]
-    faults = subprocess.run(words, capture_output=True, text=True).stderr.splitlines()
+    _, *faults = ran(house / "usr/local/bin/rignoldad", "--check", example)[1].splitlines()
     # (it names certificates, which are not there yet)
     sure(faults and all(it.endswith("is not there") for it in faults), faults)
     make("uninstall", f"DESTDIR={house}")
@@ -492,9 +466,7 @@ def it_is_installed_packed_and_removed(tree):
     if not shutil.which("dpkg-deb"):
         return print("  (there is no dpkg-deb here, so no package was made)")
     make("deb", f"PACKAGE={tree.home}/rignoldad.deb")
-    listed = subprocess.run(["dpkg-deb", "-c", tree.home / "rignoldad.deb"], check=True,
-                            capture_output=True, text=True,
-                            env={**os.environ, "TZ": "UTC"}).stdout
+    listed = ran("dpkg-deb", "-c", tree.home / "rignoldad.deb", env={**os.environ, "TZ": "UTC"})[1]
     changes = (PACKAGING.parents[2] / "CHANGELOG.md").read_text()
     day = re.search(r"^## [0-9.]+, ([0-9-]+)", changes, re.M)[1]
     for line in listed.splitlines():

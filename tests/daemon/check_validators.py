@@ -9,14 +9,13 @@ import json
 import os
 import re
 import shutil
-import subprocess
 import sys
 import tempfile
 from pathlib import Path
 
 from daemons import HOME, PACKAGING, Tree, binaries, counted
 from runner import HERE
-from programs import Cases, ran
+from programs import Cases, answered, ran
 
 ALARMS = PACKAGING / "alarms.yml"
 # When an alarm is tried, where it is not this.
@@ -93,10 +92,8 @@ def prometheus(cases, room):
         tree.start()
         cases.holds("a tree is ready", tree.ready())
         for agent in tree:
-            said = subprocess.run(["promtool", "check", "metrics"], input=agent.counts(),
-                                  text=True, capture_output=True)
-            cases.holds(f"Prometheus likes the counts of {agent.name}", said.returncode == 0,
-                        said.stdout + said.stderr)
+            status, *said = answered("promtool", "check", "metrics", given=agent.counts())
+            cases.holds(f"Prometheus likes the counts of {agent.name}", status == 0, said)
     panels = json.loads((PACKAGING / "dashboard.json").read_text())["panels"]
     asked = [target["expr"] for panel in panels for target in panel["targets"]]
     rules = [{"record": f"asked{at}", "expr": it} for at, it in enumerate(asked)]

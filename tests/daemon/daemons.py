@@ -4,8 +4,10 @@ Each agent has a folder of its own under one temporary folder: its configuration
 control socket and its log. An agent is known by a name such as `root`, `left`, `left1`.
 """
 import atexit
+import concurrent.futures
 import contextlib
 import functools
+import glob
 import http.client
 import itertools
 import json
@@ -56,22 +58,15 @@ USUAL = 15.0
 def until(what, seconds=USUAL, pause=0.01):
     """Whether something comes to hold within `seconds` seconds, and some patience."""
     end = time.monotonic() + seconds * PATIENCE
-    while True:
-        if what():
-            return True
-        if time.monotonic() >= end:
-            return False
+    while not (holds := what()) and time.monotonic() < end:
         time.sleep(pause)
+    return bool(holds)
 
 
 def becomes(value, expected, *words, pause=0.01):
     """Asserts that what a function gives comes to be what is expected, and says what it gave."""
-    given = []
-
-    def holds():
-        given[:] = [value()]
-        return given == [expected]
-    sure(until(holds, pause=pause), *words, *given, "is not", expected)
+    holds = until(lambda: value() == expected, pause=pause)
+    sure(holds, *words, holds or value(), "is not", expected)
 
 
 def during(seconds):
@@ -87,19 +82,18 @@ def took(act):
     return time.monotonic() - begun
 
 
-GIVEN = set()
+# (of these ports the system gives none to a connection)
+PORTS = iter(random.SystemRandom().sample(range(12_000, 32_000), 20_000))
 
 
 def free_port():
-    """A port that nobody has, and that no connection is given by the system."""
-    while True:
-        port = random.SystemRandom().randrange(12_000, 32_000)
+    """A port that nobody has."""
+    for port in PORTS:
         with socket.socket() as sock, contextlib.suppress(OSError):
             sock.setsockopt(socket.SOL_SOCKET, socket.SO_REUSEADDR, 1)
             sock.bind(("127.0.0.1", port))
-            if port not in GIVEN:
-                GIVEN.add(port)
-                return port
+            return port
+    raise RuntimeError("no port is free")
 
 
 def toml(table):
@@ -253,13 +247,11 @@ class Agent:
 
     def ask(self, *words, value=None, check=True):
         """What rignoldactl prints, as JSON; where it is refused, `error`."""
-        given = {"stdin": subprocess.DEVNULL} if value is None else {"input": value}
-        end = time.monotonic() + USUAL * PATIENCE
-        while True:
-            done = self.run("--json", *words, text=False, **given)
-            # (on a machine with much else to do it may get no answer in its ten seconds: EAGAIN)
-            if b"(os error 11)" not in done.stderr or time.monotonic() >= end:
-                break
+        run = functools.partial(self.run, "--json", *words, text=False, input=value or b"")
+        done, end = run(), time.monotonic() + USUAL * PATIENCE
+        # (on a machine with much else to do it may get no answer in its ten seconds: EAGAIN)
+        while b"(os error 11)" in done.stderr and time.monotonic() < end:
+            done = run()
         if check and done.returncode:
             raise RuntimeError(f"{self.name}: {' '.join(map(str, words))}: {done.stderr.decode()}")
         return json.loads(done.stdout or "{}")
@@ -317,10 +309,8 @@ class Agent:
 
 def read(folder):
     """The regular files of a folder; what else is there has no bytes."""
-    found, names = {}, []
-    with contextlib.suppress(OSError):
-        names = [name for name in os.listdir(folder) if not name.startswith(".")]
-    for name in names:
+    found = {}
+    for name in glob.glob("*", root_dir=folder):
         try:
             file = os.open(folder / name, os.O_RDONLY | os.O_NOFOLLOW | os.O_NONBLOCK)
         except OSError as error:
@@ -374,24 +364,27 @@ class Tree:
 
     def __exit__(self, kind, value, trace):
         panicked = [agent.name for agent in self if agent.said("panicked")]
-        self.close(keep=bool(kind and os.environ.get("KEEP")))
+        self.close()
         sure(kind or not panicked, "these panicked:", panicked)
 
-    def close(self, keep=False):
+    def close(self):
         for agent in self:
             agent.kill()
         self.ends.close()
-        if not keep:
-            shutil.rmtree(self.home, ignore_errors=True)
+        shutil.rmtree(self.home, ignore_errors=True)
 
     def start(self, agents=None):
         for agent in agents or self:
             agent.start()
 
-    def begin(self, without=()):
-        """Starts all but some agents, and waits until they have the settings of the root."""
+    def fill(self):
+        """Gives the root eight settings."""
         for at in range(8):
             self.write(f"key{at}", f"value {at}")
+
+    def begin(self, without=()):
+        """Starts all but some agents, and waits until they have the settings of the root."""
+        self.fill()
         there = [agent for agent in self if agent.name not in without]
         self.start(there)
         self.is_ready(*there)
@@ -458,23 +451,12 @@ class Tree:
 
     def reaches(self, *names):
         """Has a change reach these agents."""
-        value = f"probe {next(NUMBERS)}"
+        value = f"probe {time.monotonic_ns()}"
         self.write("probe", value)
         for name in names:
             file = self[name].settings / "probe"
             sure(until(lambda: file.exists() and file.read_text() == value),
                  "a change does not reach", name)
-
-
-NUMBERS = itertools.count()
-
-
-@contextlib.contextmanager
-def running(shape=None, *before, without=()):
-    """A tree whose agents, but for some, are there and have their settings."""
-    with Tree(shape, *before) as tree:
-        tree.begin(without)
-        yield tree
 
 
 def of_tree(shape=None, *before, without=(), runs=True, **how):
@@ -522,69 +504,59 @@ def meanwhile(*acts):
         while not done.is_set():
             with contextlib.suppress(OSError):
                 act()
-    threads = [threading.Thread(target=go_on, args=(act,)) for act in acts]
-    for thread in threads:
-        thread.start()
-    try:
-        yield
-    finally:
-        done.set()
-        for thread in threads:
-            thread.join()
+    with concurrent.futures.ThreadPoolExecutor(len(acts)) as pool:
+        ends = pool.map(go_on, acts)
+        try:
+            yield
+        finally:
+            done.set()
+    list(ends)
 
 
 # ---- What is measured of a process
 
 def memory(agent, what="VmHWM"):
-    """The MiB that it had in memory at most since `forget`, or, as `VmRSS`, that it has."""
+    """The MiB that it had in memory at most, or, as `VmRSS`, that it has."""
     text = pathlib.Path(f"/proc/{agent.process.pid}/status").read_text()
     return int(re.search(rf"{what}:\s+(\d+)", text)[1]) / 1024
-
-
-def forget(agent):
-    """Begins to measure anew."""
-    pathlib.Path(f"/proc/{agent.process.pid}/clear_refs").write_text("5")
-    return memory(agent)
 
 
 @contextlib.contextmanager
 def bounded(agent, most):
     """Asserts that meanwhile an agent's memory grows by so many MiB at most."""
-    before = forget(agent)
+    # (what it had at most is measured anew)
+    pathlib.Path(f"/proc/{agent.process.pid}/clear_refs").write_text("5")
+    before = memory(agent)
     yield
     grew = memory(agent) - before
     sure(grew < most, agent.name, "grew by", grew, "MiB, of", most)
 
 
-def descriptors(agent):
-    """How many of them it has."""
-    return len(os.listdir(f"/proc/{agent.process.pid}/fd"))
-
-
 # ---- Certificates
+
+def openssl(home, *words):
+    subprocess.run(["openssl", *words], check=True, capture_output=True, cwd=home)
+
 
 def certify(home, name, seconds=86_400, authority="authority", more=""):
     """A certificate of one authority that ends in so many seconds, and may have more names than
     one: the table of a configuration."""
-    def run(*words):
-        subprocess.run(["openssl", *words], check=True, capture_output=True, cwd=home)
-
     key = ["-newkey", "ec", "-pkeyopt", "ec_paramgen_curve:P-256", "-nodes"]
     if not (home / "ca.crt").exists():
         home.mkdir(exist_ok=True)
-        run("req", "-x509", *key, "-days", "90", "-subj", f"/CN={authority}", "-keyout", "ca.key",
-            "-out", "ca.crt")
+        openssl(home, "req", "-x509", *key, "-days", "90", "-subj", f"/CN={authority}", "-keyout",
+                "ca.key", "-out", "ca.crt")
         (home / "index").touch()
         (home / "ca.cnf").write_text(
             "[ca]\ndefault_ca = d\n[d]\nnew_certs_dir = .\ndatabase = index\ndefault_md = sha256\n"
             "policy = p\nrand_serial = yes\nunique_subject = no\ncopy_extensions = copy\n[p]\n"
             "commonName = supplied\n")
     when = lambda add: time.strftime("%Y%m%d%H%M%SZ", time.gmtime(time.time() + add))
-    run("req", *key, "-subj", f"/CN={name}", "-addext", f"subjectAltName=DNS:{name}{more}",
-        "-keyout", f"{name}.key", "-out", f"{name}.csr")
-    run("ca", "-batch", "-config", "ca.cnf", "-cert", "ca.crt", "-keyfile", "ca.key", "-in",
-        f"{name}.csr", "-out", f"{name}.crt", "-startdate", when(-3_600), "-enddate", when(seconds),
-        "-notext")
+    openssl(home, "req", *key, "-subj", f"/CN={name}", "-addext",
+            f"subjectAltName=DNS:{name}{more}", "-keyout", f"{name}.key", "-out", f"{name}.csr")
+    openssl(home, "ca", "-batch", "-config", "ca.cnf", "-cert", "ca.crt", "-keyfile", "ca.key",
+            "-in", f"{name}.csr", "-out", f"{name}.crt", "-startdate", when(-3_600), "-enddate",
+            when(seconds), "-notext")
     return {"certificate": str(home / f"{name}.crt"), "key": str(home / f"{name}.key"),
             "authority": str(home / "ca.crt")}
 

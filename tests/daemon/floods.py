@@ -10,10 +10,10 @@ import resource
 import socket
 import ssl
 import struct
-import subprocess
 import time
 
-from daemons import PATIENCE, USUAL, bounded, by_tls, certify, during, of_tree, patient, tls, until
+from daemons import (PATIENCE, USUAL, bounded, by_tls, certify, during, of_tree, openssl, patient,
+                     tls, until)
 from protocol import hello
 from runner import sure
 
@@ -130,17 +130,15 @@ def flooding(kind, tree):
 def many_certificates(home):
     """Certificates by the name of `many`: the first one, and 330 any of which could have issued the
     others."""
-    def openssl(*words):
-        subprocess.run(["openssl", *words], check=True, capture_output=True, cwd=home)
-
-    openssl("genpkey", "-algorithm", "ed25519", "-out", "many.key")
-    of_all = ["req", "-new", "-key", "many.key", "-addext", "basicConstraints=critical,CA:TRUE"]
+    openssl(home, "genpkey", "-algorithm", "ed25519", "-out", "many.key")
     for name in ("one", "two"):
-        openssl(*of_all, "-subj", f"/CN={name}", "-out", f"{name}.csr")
-        openssl(*of_all, "-subj", f"/CN={name}", "-x509", "-out", f"{name}.crt")
+        request = ["req", "-new", "-key", "many.key", "-subj", f"/CN={name}", "-addext",
+                   "basicConstraints=critical,CA:TRUE"]
+        openssl(home, *request, "-out", f"{name}.csr")
+        openssl(home, *request, "-x509", "-out", f"{name}.crt")
     (home / "many").mkdir()
     for name, other in (("one", "two"), ("two", "one")):
-        openssl("ca", "-batch", "-config", "ca.cnf", "-cert", f"{other}.crt", "-keyfile",
+        openssl(home, "ca", "-batch", "-config", "ca.cnf", "-cert", f"{other}.crt", "-keyfile",
                 "many.key", "-outdir", "many", "-days", "2", "-notext", "-infiles",
                 *[f"{name}.csr"] * 165)
     texts = [path.read_text() for path in (home / "many").iterdir()]

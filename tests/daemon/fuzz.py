@@ -21,6 +21,7 @@ from protocol import body, entry, frame, hello, look, report, way
 from runner import HERE, options, sum_up
 from programs import ran
 
+# (targets.rs knows them by their numbers)
 TARGETS = ["messages", "body", "configuration", "control", "agent"]
 TRIPLE = "x86_64-unknown-linux-gnu"
 # (where it lies, cargo finds the settings that name Debian's crates)
@@ -121,7 +122,7 @@ def tried(name, seconds, work):
     return ran("prlimit", "--as=4096000000", work / "fuzzer", f"-max_total_time={seconds}",
                "-max_len=4096", "-timeout=300", "-rss_limit_mb=512", "-print_final_stats=1",
                "-verbosity=1", f"-artifact_prefix={work}/harm-{name}-", *folders,
-               env={**os.environ, "RIGNOLDA_FUZZ": name, "TMPDIR": str(work)})
+               env={**os.environ, "RIGNOLDA_FUZZ": str(TARGETS.index(name)), "TMPDIR": str(work)})
 
 
 def is_harmless(name, minutes, work):

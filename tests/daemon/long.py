@@ -6,13 +6,12 @@
 
 With --loss the agents have a network of their own (unshare), where nft drops PERCENT percent of
 the packets; that needs root. With --store seven agents have some of their links in a store of
-Redis, and two thirds of the faults are the store's. Each agent's log says what it received. What
-stands between two moments at which all processes were stopped at once is a job for `rignolda
-judge`, of each agent whose links were begun before the first one: it received at most C + E bodies
-of before, and then published ones in their order, each once, and of those before its last one only
-some of the first are missing. At the end, two rounds later, every agent has the settings of the
-root's folder. With --runs each run has the next seed. What a run that failed has judged is kept in
-a file that it names. The last line is 'N passed, M failed'.
+Redis, and two thirds of the faults are the store's. What the logs have between two moments at which
+all processes were stopped at once is a job for `rignolda judge`, of each agent whose links were
+begun before the first one: it received at most C + E bodies of before, and then published ones in
+their order, each once, and of those before its last one only some of the first are missing. At the
+end every agent has the settings of the root's folder. Each run has the next seed; what a run that
+failed has judged is kept in a file that it names. The last line is 'N passed, M failed'.
 """
 import contextlib
 import itertools
@@ -24,6 +23,7 @@ import signal
 import sys
 import tempfile
 import time
+from pathlib import Path
 
 import store
 from daemons import Tree, during, fan, meanwhile, until
@@ -36,6 +36,11 @@ LIMIT = 60                  # of a backlog
 GARBAGE = 2 ** 32 - 1       # an item that nobody publishes
 
 
+def signal_all(agents, number):
+    for agent in agents:
+        agent.signal(number)
+
+
 class Trial:
     """A tree, what is done to it, and how long its logs were when all were stopped at once."""
 
@@ -43,9 +48,8 @@ class Trial:
         self.chosen, self.draw = chosen, random.Random(seed)
         self.ends = contextlib.ExitStack()
         self.redis = self.ends.enter_context(store.Redis()) if chosen.store else None
-        shape = None if chosen.store else fan(chosen.nodes)
-        acts = [store.in_store(self.redis)] if chosen.store else []
-        self.tree = self.ends.enter_context(Tree(shape, *acts))
+        self.tree = self.ends.enter_context(
+            Tree(None, store.in_store(self.redis)) if chosen.store else Tree(fan(chosen.nodes)))
         self.tree.root.tables["root"]["harmless"] = 11
         for agent in self.tree:
             agent.tables["link"] = {"ack_timeout": "500ms", "evict": "30s", "backlog": LIMIT}
@@ -64,8 +68,7 @@ class Trial:
 
     def stop_all(self):
         living = [agent for agent in self.tree if agent.alive()]
-        for agent in living:
-            agent.signal(signal.SIGSTOP)
+        signal_all(living, signal.SIGSTOP)
         for agent in living:
             until(lambda: not agent.alive() or stands_still(agent.process.pid), 5, 0.0005)
         return living
@@ -76,9 +79,7 @@ class Trial:
         self.cuts.append({agent.name: len(lines_of(agent.text())) for agent in self.tree})
         for victim in victims:
             victim.kill()
-        for agent in living:
-            if agent not in victims:
-                agent.signal(signal.SIGCONT)
+        signal_all(set(living).difference(victims), signal.SIGCONT)
 
     def connects(self):
         """Asserts that each agent comes to be connected. Not all need be at once: on a machine
@@ -115,8 +116,7 @@ class Trial:
             redis.spoil(self.draw)
             redis.make_old()
         self.cut()
-        for agent in living:
-            agent.signal(signal.SIGCONT)
+        signal_all(living, signal.SIGCONT)
 
     def kill(self):
         """Some agents end at one moment, or all of them, and begin anew."""
@@ -129,14 +129,12 @@ class Trial:
 
     def goes_on(self):
         """Waits for a while, in which some may stand still."""
-        stops = self.chosen.stops
         for _ in during(self.draw.uniform(0.3, 1.0)):
-            frozen = self.draw.sample(list(self.tree), 2 if stops else 0)
-            for agent in frozen:
-                agent.signal(signal.SIGSTOP)
-            time.sleep(self.draw.uniform(0.05, 0.7) if stops else 0)
-            for agent in frozen:
-                agent.signal(signal.SIGCONT)
+            if self.chosen.stops:
+                frozen = self.draw.sample(list(self.tree), 2)
+                signal_all(frozen, signal.SIGSTOP)
+                time.sleep(self.draw.uniform(0.05, 0.7))
+                signal_all(frozen, signal.SIGCONT)
             time.sleep(0.1)
 
     def run(self, file):
@@ -160,10 +158,9 @@ class Trial:
         above = {agent.name: agent.parent.name for agent in self.tree if agent.parent}
         wrong, judged, left_out = judge(file, self.cuts, logs, above)
         if wrong:
-            with tempfile.NamedTemporaryFile("w", prefix="rignolda-judged-", suffix=".json",
-                                             delete=False) as kept:
-                json.dump({"cuts": self.cuts, "logs": logs, "above": above}, kept)
-            print(f"what was judged is in {kept.name}")
+            kept = tempfile.mkstemp(prefix="rignolda-judged-", suffix=".json")[1]
+            Path(kept).write_text(json.dumps({"cuts": self.cuts, "logs": logs, "above": above}))
+            print(f"what was judged is in {kept}")
         print(f"{self.chosen.kills} faults, {self.changes} changes: {judged} counts of agents "
               f"judged, {left_out} left out since a link began anew in them; not as the laws say: "
               f"{wrong[:5]}; settings right: {good} {self.tree.wrong()}", flush=True)
@@ -275,8 +272,8 @@ def first_offered(root, before, since, name):
     last one that the child had, or, where the link began anew and nothing came by it yet, the first
     one that comes in this count. Where none comes in it, there is none, and all that comes to those
     below the child was on its way or in a backlog."""
-    before = [number for number in numbers(before, "received") if number is not None]
-    after = [number for number in numbers(since, "received") if number is not None]
+    before, after = ([number for number in numbers(log, "received") if number is not None]
+                     for log in (before, since))
     anew = max([at for at, line in enumerate(root)
                 if line.startswith(f"connected {name}, a new count")], default=0)
     published = numbers(root[:anew], "published")
@@ -287,14 +284,8 @@ def first_offered(root, before, since, name):
 
 def numbers(lines, fact):
     """The numbers of the bodies in some lines; None where one was garbage."""
-    found = []
-    for line in lines:
-        match = re.match(rf"{fact} (\d+)$", line)
-        if match:
-            found.append(int(match[1]))
-        elif line.startswith("garbage item"):
-            found.append(None)
-    return found
+    found = [re.match(rf"{fact} (\d+)$|garbage item", line) for line in lines]
+    return [it[1] and int(it[1]) for it in found if it]
 
 
 def began_anew(part, child, parent):

@@ -3,16 +3,13 @@
 
     tests/daemon/memory_faults.py [--trials 100] [--seed 1] [--trees 4] [KIND..]
 
-A tree has a root, a hub below it and two leaves below that, with a round each half second. While
-one of them is stopped, something is written into its memory; then the root's folder is changed. An
-agent that ends, or hangs, is started again as systemd would. From two rounds later on, and for two
-minutes at most, since a machine may have much else to do, it is asked for: whether each agent has
-applied what the root's folder has, also after one more change, and whether `tree` and `wait` say
-so. What never comes to be so is stuck, or, where the folders alone are right, wrong that lasts.
-
-A fault is a bit, a byte, a word or 64 bytes anywhere in the heap, something in the data or on a
-stack, or it is aimed: at the agent itself, at what lies about an end of a link, about a name, at a
-time or a number.
+While one of four agents is stopped, something is written into its memory: a bit, a byte, a word or
+64 bytes anywhere in the heap, something in the data or on a stack, or it is aimed: at the agent
+itself, at what lies about an end of a link, about a name, at a time or a number. An agent that ends
+or hangs is started again, as systemd would. After two rounds of half a second, and within two
+minutes, since a machine may have much else to do, each agent has applied what the root's folder
+has, also after one more change, and `tree` and `wait` say so. What never comes to be so is stuck,
+or, where the folders alone are right, wrong that lasts.
 """
 import collections
 import concurrent.futures
@@ -27,13 +24,13 @@ import struct
 import sys
 import time
 
-from daemons import Tree, counting, of_tree, root_has
+from daemons import PATIENCE, Tree, counting, of_tree, root_has, until
 from memory import stopped, writable
 from runner import options, sure, test
 from trial import KEY
 
 ROUND = 0.5
-PATIENCE = 120.0
+LONG = 120.0
 # An agent that says no sign for so long hangs.
 HANGS = 6.0
 SHAPE = {"hub": "root", "one": "hub", "two": "hub"}
@@ -139,7 +136,7 @@ def spoiled(old, draw):
     return (new % most).to_bytes(length, "little")
 
 
-def each_link(memory, number, _):
+def each_link(memory, number, *_):
     """Of the words about the ends of links, each in its turn, and what it becomes."""
     number, how = divmod(number, 3)
     ends = [it for it in memory.found(PARAMETERS) if it < HEAPS]
@@ -148,13 +145,13 @@ def each_link(memory, number, _):
     return (place + 4, bytes(4)) if how == 2 else (place, [bytes(8), b"\xff" * 8][how])
 
 
-def each_time(memory, number, _):
+def each_time(memory, number, *_):
     """Each of the times in its turn, and one that comes in years."""
     places = memory.times()
     return places[number % len(places)], struct.pack("<q", int(time.monotonic()) + 10**9)
 
 
-def each_number(memory, number, status):
+def each_number(memory, number, status, *_):
     """Each of the numbers of bodies in its turn, and one half of all numbers away: since they are
     on a circle, neither of the two is newer."""
     places = memory.words({status[key] for key in ("sequence", "applied", "round", "changed")})
@@ -163,27 +160,22 @@ def each_number(memory, number, status):
     return place, struct.pack("<Q", old ^ 1 << 63)
 
 
-def fault(memory, draw, kind, status):
+def fault(memory, _, status, draw, kind):
     """Where to write, and what."""
-    if kind in ("bit", "byte", "word", "run"):
-        place = memory.anywhere(draw, "heap")
-    elif kind == "agent":
+    if kind == "agent":
         # (it lies on the stack of the thread that runs it, with the links)
         ends = [place for place in memory.found(PARAMETERS) if place > HEAPS]
         place = ends and draw.randrange(ends[0] - 2_048, ends[-1] + 2_048, 8)
-    elif kind in ("data", "stack"):
-        place = memory.anywhere(draw, kind)
-    elif kind == "links":
-        place = about(memory.found(PARAMETERS), draw)
-    elif kind == "names":
-        place = about(memory.names(), draw)
-    elif kind == "times":
-        place = draw.choice([0, *memory.times()])
-        if draw.random() < 0.7:
+    elif kind in ("links", "names"):
+        place = about(memory.names() if kind == "names" else memory.found(PARAMETERS), draw)
+    elif kind in ("times", "numbers"):
+        known = memory.times() if kind == "times" else memory.numbers(status)
+        place = draw.choice([0, *known])
+        if kind == "times" and draw.random() < 0.7:
             seconds = draw.choice([-3_600, -60, 60, 3_600, 10**6, 10**9])
             return place, struct.pack("<q", int(time.monotonic()) + seconds)
     else:
-        place = draw.choice([0, *memory.numbers(status)])
+        place = memory.anywhere(draw, kind if kind in ("data", "stack") else "heap")
     length = {"byte": 1, "word": 8, "run": 64}.get(kind) or draw.choice([1, 1, 2, 4, 8, 8])
     place = (place or 0) + (0 if length == 64 else draw.randrange(0, 8, length))
     old = memory.at(place, length)
@@ -199,9 +191,8 @@ def fault(memory, draw, kind, status):
 class Unit:
     """What systemd does for an agent: it starts it again when it ends or hangs."""
 
-    def __init__(self, agent):
-        self.agent, self.seen, self.is_killed = agent, 0.0, False
-        self.whys = collections.Counter()
+    def __init__(self, agent, whys):
+        self.agent, self.seen, self.whys = agent, 0.0, whys
         self.socket = socket.socket(socket.AF_UNIX, socket.SOCK_DGRAM)
         self.socket.bind(str(agent.home / "notify"))
         self.socket.setblocking(False)
@@ -210,12 +201,9 @@ class Unit:
                      "MALLOC_ARENA_MAX": "1", "MALLOC_MMAP_THRESHOLD_": "131072"}
 
     def start(self):
-        self.agent.start()
+        """Starts it, after its end."""
+        self.agent.restart()
         self.seen = time.monotonic()
-
-    def kill(self):
-        self.is_killed = True
-        self.agent.signal(signal.SIGKILL)
 
     def tend(self):
         """How it ended by itself, where it did. It runs again then."""
@@ -226,28 +214,27 @@ class Unit:
         if not self.agent.alive():
             how = "ended" if self.agent.process.returncode == 1 else "crashed"
             said = re.findall("^rignoldad: .*", self.agent.text(), re.M)
-            self.whys.update(said[-1:] if how == "ended" else [])
+            self.whys += said[-1:] if how == "ended" else []
         elif now > self.seen + HANGS:
-            self.agent.kill()
             how = "hung"
         if how:
             self.start()
-        killed, self.is_killed = self.is_killed and bool(how), self.is_killed and not how
-        return None if killed else how
+        return how
 
 
 class Trials:
-    """A tree, and faults in it one after the other."""
+    """A tree, and faults in it one after the other: of each kind what came of it, in a list, and in
+    another one why agents ended."""
 
-    def __init__(self, seed):
-        self.seed, self.tree, self.made, self.ends = seed, None, 0, []
-        self.counts = collections.defaultdict(collections.Counter)
-        self.whys = collections.Counter()
+    def __init__(self, seed, came, whys):
+        self.seed, self.came, self.whys = seed, came, whys
+        self.tree, self.made = None, 0
 
     def make(self):
         """A new tree that is right."""
         self.tree = Tree(SHAPE, root_has(round=f"{int(ROUND * 1_000)}ms"))
-        self.what, self.units = [], [Unit(agent) for agent in self.tree]
+        self.what, self.ends = [], []
+        self.units = [Unit(agent, self.whys) for agent in self.tree]
         for at in range(6):
             self.tree.write(f"key{at}", f"value {at}")
         # (one agent has another value, and each tells a hook of some)
@@ -262,20 +249,14 @@ class Trials:
     def end(self):
         if self.tree:
             self.tree.close()
-            for unit in self.units:
-                self.whys.update(unit.whys)
         self.tree = None
 
-    def holds(self, what, seconds=PATIENCE):
+    def holds(self, what, seconds=LONG):
         """Whether this comes to hold; meanwhile whoever ends is started again."""
-        end = time.monotonic() + seconds
-        while True:
+        def tended():
             self.ends += filter(None, [unit.tend() for unit in self.units])
-            if what():
-                return True
-            if time.monotonic() >= end:
-                return False
-            time.sleep(0.04)
+            return what()
+        return until(tended, seconds / PATIENCE, 0.04)
 
     def says_right(self):
         """Whether `tree` shows four agents that are up, each below its parent."""
@@ -302,10 +283,10 @@ class Trials:
         words = "wait", "--everywhere", "--timeout", f"{seconds}s"
         return self.tree.root.run(*words).returncode == 0
 
-    def change(self):
+    def change(self, draw):
         """Changes the root's folder."""
         self.made += 1
-        self.tree.write(f"key{self.made % 6}", f"{self.made} {self.draw.randrange(10**9)}")
+        self.tree.write(f"key{self.made % 6}", f"{self.made} {draw.randrange(10**9)}")
         other = self.tree.root.truth / f"other{self.made % 4}"
         if other.exists():
             other.unlink()
@@ -314,39 +295,35 @@ class Trials:
 
     def trial(self, kind, number):
         """One fault: what came of it."""
-        self.draw = random.Random(f"{self.seed} {kind} {number}")
-        agent = self.draw.choice(list(self.tree))
+        draw = random.Random(f"{self.seed} {kind} {number}")
+        agent, of_kind = draw.choice(list(self.tree)), fault
         if kind in EACH:
-            number, at = divmod(number, len(AGENTS[kind]))
-            agent = self.tree[AGENTS[kind][at]]
+            of_kind, names = EACH[kind]
+            number, at = divmod(number, len(names))
+            agent = self.tree[names[at]]
         status = agent.status(2) or self.tree.root.status()
         with stopped(agent.process.pid) as memory:
             pieces = Memory(agent.process.pid, memory)
-            if kind in EACH:
-                place, new = EACH[kind](pieces, number, status)
-            else:
-                place, new = fault(pieces, self.draw, kind, status)
+            place, new = of_kind(pieces, number, status, draw, kind)
             old = os.pread(memory, len(new), place) if place and new else b""
             if not old or old == new:
-                return None
+                return []
             os.pwrite(memory, new, place)
         self.what.append(f"{kind} {number}: {agent.name} at {place:x}: {old.hex()} is {new.hex()}")
-        begun, self.ends, count = time.monotonic(), [], self.counts[kind]
-        self.change()
+        begun, self.ends = time.monotonic(), []
+        self.change(draw)
         self.holds(lambda: time.monotonic() >= begun + 2 * ROUND)
-        self.holds(lambda: not self.wrong(), 0.1)
-        late = bool(self.wrong())
+        came = ["trials"] if self.holds(lambda: not self.wrong(), 0.1) else ["trials", "late"]
         # (what `wait` says is so at once)
-        count["lied"] += late and self.waits(0.1) and bool(self.wrong())
-        if self.draw.random() < 0.25:
+        came += ["lied"] if "late" in came and self.waits(0.1) and self.wrong() else []
+        if draw.random() < 0.25:
             # (what is wrong may be needed by those alone who connect anew)
-            self.draw.choice(self.units).kill()
-        self.change()
+            draw.choice(self.units).start()
+        self.change(draw)
         is_right = self.holds(lambda: not self.wrong())
         says = is_right and self.holds(self.says_right) and self.holds(lambda: self.waits(1))
-        count["lied"] += says and bool(self.wrong())
-        count.update(["trials", *["late"] * late, *set(self.ends)])
-        return None if says else "wrong" if is_right else "stuck"
+        came += ["lied"] if says and self.wrong() else []
+        return [*came, *set(self.ends), *([] if says else ["wrong"] if is_right else ["stuck"])]
 
     def run(self, faults):
         """Takes faults from a list, as long as there are some."""
@@ -355,55 +332,52 @@ class Trials:
             if not self.tree:
                 self.make()
             try:
-                end = self.trial(kind, number)
+                came = self.trial(kind, number)
             except (OSError, RuntimeError, KeyError) as error:
                 print(f"{kind} {number}: an agent ends before it is written to: {error}")
                 self.end()
                 continue
-            if end:
-                self.counts[kind][end] += 1
-                print(f"{end}: {self.wrong()}; {self.ends}; after", *self.what[-4:], flush=True)
-                for agent in self.tree:
-                    said = {key: agent.status(2).get(key) for key in SHOWN}
-                    print(f"  {agent.name}: {said}", flush=True)
+            self.came += [(kind, it) for it in came]
+            if {"wrong", "stuck"} & {*came}:
+                print(came, self.wrong(), "after", *self.what[-4:], flush=True)
+                print(*(f"  {agent.name}: {agent.status(2)}\n" for agent in self.tree), flush=True)
                 self.end()
         self.end()
 
 
-# What of the status is shown where something lasts.
-SHOWN = ["sequence", "files", "applied", "ahead", "changed", "round", "whole", "failing", "parent"]
 KINDS = ["bit", "byte", "word", "run", "data", "stack", "agent", "links", "names", "times",
          "numbers"]
 # Those that take all places in their turn, and of which agents. (The ends of a leaf are on the
 # stack of the thread that runs it.)
-AGENTS = {"each-link": ["hub", "root"], "each-time": ["hub", "root"],
-          "each-number": ["hub", "root", "one"]}
-EACH = {"each-link": each_link, "each-time": each_time, "each-number": each_number}
+EACH = {"each-link": (each_link, ["hub", "root"]), "each-time": (each_time, ["hub", "root"]),
+        "each-number": (each_number, ["hub", "root", "one"])}
 COLUMNS = ["trials", "late", "ended", "crashed", "hung", "wrong", "lied", "stuck"]
 
 
-def table(counts):
-    total = sum(counts.values(), collections.Counter())
-    lines = [["kind", *COLUMNS]]
-    lines += [[kind, *(count[it] for it in COLUMNS)] for kind, count in (*counts.items(),
-                                                                         ("all", total))]
-    return "\n".join(" ".join(f"{word:>8}" for word in line) for line in lines)
+def table(came):
+    counts = collections.Counter([*came, *(("all", what) for _, what in came)])
+    rows = [["kind", *COLUMNS]]
+    rows += [[kind, *(counts[kind, it] for it in COLUMNS)] for kind, what in counts
+             if what == "trials"]
+    return "\n".join(" ".join(f"{word:>8}" for word in row) for row in rows)
 
 
 def run(faults, seed, trees):
-    """Faults in several trees at once: the counts of each kind, and why agents ended."""
-    all_trees = [Trials(seed) for _ in range(trees)]
-    kinds, faults = dict.fromkeys(kind for kind, _ in faults), collections.deque(faults)
+    """Faults in several trees at once: what came of each kind, and why agents ended."""
+    came, whys, faults = [], [], collections.deque(faults)
     with concurrent.futures.ThreadPoolExecutor(trees) as pool:
-        list(pool.map(lambda it: it.run(faults), all_trees))
-    none = collections.Counter()
-    counts = {kind: sum((it.counts[kind] for it in all_trees), none) for kind in kinds}
-    return counts, sum((it.whys for it in all_trees), none)
+        list(pool.map(lambda _: Trials(seed, came, whys).run(faults), range(trees)))
+    return came, whys
 
 
-def lasting(counts):
+def count(came, *words):
+    """Of how many faults one of these came."""
+    return sum(what in words for _, what in came)
+
+
+def lasting(came):
     """How many faults did lasting harm."""
-    return sum(count[it] for count in counts.values() for it in ("stuck", "wrong", "lied"))
+    return count(came, "stuck", "wrong", "lied")
 
 
 @test(begins=True)
@@ -411,19 +385,18 @@ def trees_come_back_from_faults_of_memory():
     faults = [("each-link", at) for at in range(96)] + [("each-time", at) for at in range(50)]
     faults += [("each-number", at) for at in range(60)]
     faults += [(kind, at) for at in range(6) for kind in KINDS]
-    counts, _ = run(random.Random(1).sample(faults, len(faults)), "gate", 6)
-    trials = sum(count["trials"] for count in counts.values())
-    aimed = {kind: counts[kind] for kind in EACH}
+    came, _ = run(random.Random(1).sample(faults, len(faults)), "gate", 6)
+    aimed = lasting([it for it in came if it[0] in EACH])
     # (of what strikes anywhere, a few in a hundred may be past what an agent can see of itself)
-    few = lasting(counts) - lasting(aimed) <= 2
-    sure(not lasting(aimed) and few and trials > len(faults) / 2, "\n" + table(counts))
+    sure(not aimed and lasting(came) <= 2 and count(came, "trials") > len(faults) / 2,
+         "\n" + table(came))
 
 
 @of_tree()
 def who_finds_its_configuration_spoiled_ends_and_says_so(tree):
-    units = [Unit(agent) for agent in tree]
+    whys = []
+    units = [Unit(agent, whys) for agent in tree]
     for unit in units:
-        unit.agent.kill()
         unit.start()
     tree.is_ready()
     for turn in range(2):
@@ -438,7 +411,6 @@ def who_finds_its_configuration_spoiled_ends_and_says_so(tree):
             unit.tend()
         tree.is_ready()
         tree.settles()
-    whys = sum((unit.whys for unit in units), collections.Counter())
     begins = "rignoldad: its memory is spoiled: "
     sure(whys and all(why.startswith(begins) for why in whys), whys)
 
@@ -447,12 +419,12 @@ def main():
     chosen = options("kind", trials=100, seed="1", trees=4)
     kinds = chosen.kind or KINDS
     faults = [(kinds[at % len(kinds)], at // len(kinds)) for at in range(chosen.trials)]
-    counts, whys = run(faults, chosen.seed, chosen.trees)
-    print(table(counts))
-    for why, count in whys.most_common():
-        print(f"{count} times {why}")
-    bad = lasting(counts)
-    print(f"{sum(it['trials'] for it in counts.values())} passed, {bad} failed")
+    came, whys = run(faults, chosen.seed, chosen.trees)
+    print(table(came))
+    for why, times in collections.Counter(whys).most_common():
+        print(f"{times} times {why}")
+    bad = lasting(came)
+    print(f"{count(came, 'trials')} passed, {bad} failed")
     return 1 if bad else 0
 
 

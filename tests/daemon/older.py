@@ -3,7 +3,7 @@ import contextlib
 import struct
 import time
 
-from blocked import SLOW_RENAME, preload
+from blocked import preload
 from daemons import Tree, root_has, until
 from memory import write_over
 from runner import sure, test
@@ -89,7 +89,7 @@ def the_disk_has_the_number_before_the_files():
     with begun({"leaf": "root"}) as tree:
         root, leaf = tree
         leaf.kill()
-        slow = preload(leaf, SLOW_RENAME)
+        slow = preload(leaf, "rename")
         leaf.start()
         tree.is_ready()
         rests(tree)

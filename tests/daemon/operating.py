@@ -81,30 +81,28 @@ def who_has_what_is_shown(tree, root, left, leaf, relay):
 
 @of_tree({"left": "root", "leaf": "left"}, counted)
 def what_somebody_else_did_to_files_is_counted_and_named(tree, root, _, leaf):
+    mended = lambda: [agent.status()["mended"] for agent in tree]
 
-    def rounds():
-        """Waits for two whole rounds at the leaf."""
+    def stays(*counts):
+        """It is these counts after two whole rounds at the leaf too."""
         for _ in range(2):
             last = leaf.status()["round"]
             sure(until(lambda: leaf.status()["round"] > last))
         leaf.ask("wait")
+        sure(mended() == [*counts], mended())
 
-    mended = lambda: [agent.status()["mended"] for agent in tree]
-    rounds()
     # what was published is none: a change, an unset one, one that was never there
     tree.publish("key1", "new")
     root.ask("unset", "key2")
     tree.wait()
-    rounds()
-    sure(mended() == [0, 0, 0], mended())
+    stays(0, 0, 0)
     (leaf.settings / "key1").write_text("drifted")
     (leaf.settings / "key3").unlink()
     (leaf.settings / "stranger").write_text("1")
     leaf.becomes(mended=3)
     tree.settles()
     sure(leaf.said("mended "), leaf.text()[-500:])
-    rounds()
-    sure(mended() == [0, 0, 3], mended())
+    stays(0, 0, 3)
     sure("\nrignolda_mended_total 3\n" in leaf.counts(), leaf.counts())
     becomes(lambda: [it["mended"] for it in root.ask("tree")], [0, 0, 3])
     text = [line.split() for line in root.run("tree").stdout.splitlines()]
@@ -113,15 +111,7 @@ def what_somebody_else_did_to_files_is_counted_and_named(tree, root, _, leaf):
     leaf.tables["apply"]["mode"] = "0600"
     leaf.reload()
     becomes(lambda: (leaf.settings / "key1").stat().st_mode & 0o777, 0o600)
-    rounds()
-    sure(mended() == [0, 0, 3], mended())
-    # of what happened while it was away nobody knows whose it is
-    leaf.kill()
-    (leaf.settings / "key1").write_text("drifted")
-    leaf.start()
-    tree.settles()
-    rounds()
-    sure(mended() == [0, 0, 0], mended())
+    stays(0, 0, 3)
 
 
 def mount(tree, files):
@@ -185,20 +175,17 @@ def a_half_mounted_folder_empties_nobody(tree, root, left, leaf):
 @of_tree({"left": "root"}, root_has(round="500ms", hold=True), runs=False, needs="git")
 def a_folder_under_git_goes_back(tree, root, left):
     """Each change is looked at, and confirmed; the way back is another change."""
-    for at in range(8):
-        tree.write(f"key{at}", f"value {at}")
+    tree.fill()
     whole = tree.truth()
     tree.start()
-    sure(until(root.status), root.text())
     root.becomes(held=8)
     root.ask("confirm")
     tree.is_ready()
     tree.settles()
 
     def git(*words):
-        who = {f"GIT_{who}_{what}": "x" for who in ("AUTHOR", "COMMITTER")
-               for what in ("NAME", "EMAIL")}
-        done = ran("git", *words, cwd=root.truth, env={**os.environ, **who, "HOME": str(tree.home)})
+        done = ran("git", "-c", "user.name=x", "-c", "user.email=x", *words, cwd=root.truth,
+                   env={**os.environ, "HOME": str(tree.home)})
         sure(not done[0], done)
 
     def commit(words):
@@ -206,10 +193,8 @@ def a_folder_under_git_goes_back(tree, root, left):
         git("commit", "-qm", words)
 
     def differs(**bytes_of):
-        change = [{"key": key, "bytes": count} for key, count in bytes_of.items()]
-        diff = root.ask("diff")
-        sure(diff["changes"] == change, diff)
-        return diff
+        changes = {it["key"]: it["bytes"] for it in root.ask("diff")["changes"]}
+        sure(changes == bytes_of, changes)
 
     git("init", "-q")
     commit("As it was")
@@ -232,8 +217,7 @@ def a_folder_under_git_goes_back(tree, root, left):
     differs(key1=7, key2=7)
     root.ask("confirm")
     tree.wait()
-    as_it_was = {**whole, "key3": b"new"}
-    sure(left.files() == as_it_was, left.files())
+    sure(left.files() == {**whole, "key3": b"new"}, left.files())
     # one that begins anew has confirmed what it applied
     root.restart()
     tree.is_ready()
@@ -275,7 +259,7 @@ def a_terminal_sees_who_is_missing(tree, root, _, leaf):
                              stdin=theirs, stdout=theirs, stderr=theirs)
     os.close(theirs)
     said = b""
-    # (what is read waits for what is written, and at the end nobody has the other end)
+    # (at the end nobody has the other end)
     while b"2 of 3 agents have it: leaf is not connected" not in said:
         said += os.read(ours, 4_096)
     leaf.start()
@@ -286,5 +270,4 @@ def a_terminal_sees_who_is_missing(tree, root, _, leaf):
     # (at the end the line is gone)
     sure(waits.wait() == 0 and said.endswith(b"\r\x1b[K3 of 3 agents have it\r\x1b[K"), said)
     sure(b"\n" not in said, said)
-    done = root.run("wait", "--everywhere", number)
-    sure((done.returncode, done.stdout, done.stderr) == (0, "", ""), done)
+    sure(ran(*root.command("wait", "--everywhere", number)) == (0, ""), "it says something")

@@ -5,10 +5,9 @@
     tests/daemon/planted.py --fits [NAME..]  whether each fits the code and names a test, at once
 
 A file has the lines `file:`, `old:`, `new:`, as the planted bugs of the crates, and `by:`, the test
-that finds it: one of check.py; of the library or the daemon's crate, as FILE::TEST; or a target of
-fuzz.py in two minutes, as fuzz::TARGET. Before that, the daemon as it is has to pass each of these
-tests. The copy is built in a folder of its own: PLANTED_TARGET, or one beside other temporary
-files.
+that finds it, and that the daemon passes as it is: one of check.py; of the library or the daemon's
+crate, as FILE::TEST; or a target of fuzz.py in two minutes, as fuzz::TARGET. The copy is built in
+PLANTED_TARGET, or in a folder beside other temporary files.
 """
 import os
 import pathlib
@@ -20,10 +19,10 @@ import time
 
 import check  # noqa: F401 (which tells all tests)
 import fuzz
+from daemons import HOME
 from programs import ran
 from runner import HERE, TESTS, options, sum_up
 
-HOME = HERE.parents[1]
 TARGET = os.environ.get("PLANTED_TARGET", tempfile.gettempdir() + "/rignolda-planted")
 
 

@@ -107,10 +107,8 @@ def listener(agent):
 class Child:
     """A child that takes all, acknowledges it as long as it may, and sends what it is told to."""
 
-    def __init__(self, parent, name, context=None):
-        self.lock = threading.Lock()
-        sock = parent.connect()
-        self.sock = context.wrap_socket(sock) if context else sock
+    def __init__(self, parent, name):
+        self.lock, self.sock = threading.Lock(), parent.connect()
         self.sock.sendall(hello(name, parent.name))
         self.closed, self.may = threading.Event(), threading.Event()
         self.may.set()
@@ -133,7 +131,7 @@ class Child:
             self.sock.sendall(text)
 
     def close(self):
-        # (what waits in OpenSSL for a descriptor would read from whoever is given that one next)
+        # (what waits for a descriptor would read from whoever is given that one next)
         with contextlib.suppress(OSError):
             self.sock.shutdown(socket.SHUT_RDWR)
         self.may.set()

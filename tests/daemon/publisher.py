@@ -1,4 +1,4 @@
-#!/usr/bin/env python3
+#!/usr/bin/env -S python3 -B
 """What a root publishes, worked out without the library: rows for a test of it.
 
     tests/daemon/publisher.py > rust/rignolda/tests/publisher.txt
@@ -11,8 +11,9 @@ hold tables back or no more, `above9` goes on above 9, or a quarter of all numbe
 """
 import random
 import re
-import struct
 import zlib
+
+from protocol import body, entry
 
 CHANGES, MANY, LONG = 4096, 64, 1 << 20
 
@@ -69,27 +70,19 @@ class Root:
             return "-"
         self.number = self.number % (2 ** 64 - 1) + 1
         queue = list(self.queue)
-        keys = {"T": sorted(self.settings), "H": [], "C": sorted(queue[:CHANGES])}[kind]
-        body = kind.encode() + struct.pack(">Q", self.number)
-        if kind != "H":
-            body += struct.pack(">I", len(keys))
-        for key in keys:
-            value = self.settings.get(key)
-            body += (b"U" if value is None else b"S") + bytes([len(key)]) + key.encode()
-            if value is not None:
-                body += struct.pack(">I", len(value)) + value
-        self.since.append(len(body))
+        keys = sorted(self.settings if kind == "T" else queue[:CHANGES])
+        entries = [entry(key.encode(), self.settings.get(key)) for key in keys]
+        text = body(kind.encode(), self.number, b"" if kind == "H" else entries)
+        self.since.append(len(text))
         if kind == "H":
             self.harmless -= 1
-            self.changes_had_it = False
         elif kind == "C":
             self.queue = dict.fromkeys(queue[CHANGES:])
-            self.changes_had_it = True
         else:
-            self.queue, self.since, self.table_bytes = {}, [], len(body)
-            if self.in_round and self.harmless == 0:
-                self.in_round = False
-        return f"{kind}{self.number}:{zlib.crc32(body):08x}"
+            self.queue, self.since, self.table_bytes = {}, [], len(text)
+            self.in_round = self.in_round and self.harmless > 0
+        self.changes_had_it = kind == "C" or kind == "T" and self.changes_had_it
+        return f"{kind}{self.number}:{zlib.crc32(text):08x}"
 
     def step(self, step):
         word, sign, rest = re.fullmatch("([a-z]*)([-=*?]?)(.*)", step).groups()
@@ -137,17 +130,16 @@ def main():
     rows = [list(steps(draw, busy, limit, large)) for busy, limit, large in [
         (.2, 100, False), (.5, 100, False), (.8, 100, False), (.5, 1, False), (.6, 0, False),
         (.5, 2, False), (.4, 7, False), (.6, 1000, True), (.3, 5, True)]]
-    # (changes without end hold no round up, and no change)
-    rows.append(["?9", "round5"] + [it for at in range(20) for it in (f"a={at}", "?9")])
-    rows.append(["?100", "z=1", "all=10000", "?100", "all=9000", "y=2", "round1"]
-                + ["?100", "all=9000"] * 9)
-    rows.append(["hold", "z=1", "all=9000"] + ["?3"] * 4 + ["round2", "go"] + ["?3"] * 5)
-    rows.append(["?9", "round70000", "?9", "a=1", "?9", "?9", "round2"] + ["?9"] * 5)
-    # (numbers of agents, also those behind, and the circle's end)
-    rows.append(["?9", "above5", "a=1", "?9", "above99999", "a=2", "?9", "above0", "a=3", "?9",
-                 f"above{2 ** 63}", "a=4", "?9", f"above{2 ** 63}", "a=5", "?9",
-                 f"above{2 ** 64 - 2}", "?9", f"above{2 ** 64 - 2}", "a=6", "?9", "a=7", "?9",
-                 "a=8", "?9", "above7", "a=9", "?9"])
+    half, last = 2 ** 63, 2 ** 64 - 2
+    rows += [row.split() for row in (
+        # (changes without end hold no round up, and no change)
+        "?9 round5" + "".join(f" a={at} ?9" for at in range(20)),
+        "?100 z=1 all=10000 ?100 all=9000 y=2 round1" + " ?100 all=9000" * 9,
+        "hold z=1 all=9000 ?3 ?3 ?3 ?3 round2 go ?3 ?3 ?3 ?3 ?3",
+        "?9 round70000 ?9 a=1 ?9 ?9 round2 ?9 ?9 ?9 ?9 ?9",
+        # (numbers of agents, also those behind, and the circle's end)
+        f"?9 above5 a=1 ?9 above99999 a=2 ?9 above0 a=3 ?9 above{half} a=4 ?9 above{half} a=5 ?9 "
+        f"above{last} ?9 above{last} a=6 ?9 a=7 ?9 a=8 ?9 above7 a=9 ?9")]
     for number, row in enumerate(rows):
         root = Root(1000 * number)
         print(*row)

@@ -6,26 +6,24 @@
 The agents are a hub, four racks whose parents are the hub and the next rack, and ten leaves whose
 parents are their own rack, the next one and the hub; one of them is dialled by its rack alone, and
 one rack listens on IPv6. All speak TLS. While settings change, faults are drawn: kills, ends,
-stops, restarts of the hub of 0.2 s, folders spoilt in the ways of SPOILS, and old copies of whole
-folders.
-
-After the last one all folders come to be the hub's, and all agents to the hub by their parents.
-Then a change is published, `wait --everywhere` ends well, and all folders have it at once; no agent
-has ended by itself. With --runs each run has the next seed. The last line is 'N passed, M failed'.
+stops, restarts of the hub of 0.2 s, and folders spoilt in the ways of SPOILS. After the last one
+all folders come to be the hub's, and all agents to the hub by their parents. Then a change is
+published, `wait --everywhere` ends well, and all folders have it at once; no agent has ended by
+itself. Each run has the next seed. The last line is 'N passed, M failed'.
 """
 import collections
 import contextlib
 import os
 import random
 import re
-import shutil
 import signal
 import socket
+import subprocess
 import sys
 import time
 
 import runner
-from daemons import Tree, becomes, by_tls, during, meanwhile, read, until
+from daemons import Tree, becomes, by_tls, during, meanwhile, until
 from runner import sure, test
 
 RACKS, LEAVES = 4, 10
@@ -43,15 +41,11 @@ def parents_of(name):
     return [f"rack{own}"] if name == DIALLED else [f"rack{own}", f"rack{own % RACKS + 1}", "root"]
 
 
-def has_ipv6():
-    with contextlib.suppress(OSError), socket.create_server(("::1", 0), family=socket.AF_INET6):
-        return True
-    return False
-
-
 def in_rings(tree):
-    six = has_ipv6()
-    host = lambda name: "[::1]" if six and name == BY_IPV6 else "127.0.0.1"
+    hosts = {}
+    with contextlib.suppress(OSError), socket.create_server(("::1", 0), family=socket.AF_INET6):
+        hosts[BY_IPV6] = "[::1]"
+    host = lambda name: hosts.get(name, "127.0.0.1")
     at = lambda name: f"{name}@{host(name)}:{tree[name].port}"
     tree.root.tables["root"]["harmless"] = 15
     for agent in tree:
@@ -75,99 +69,47 @@ def in_rings(tree):
 KEY = re.compile(r"[A-Za-z0-9_][A-Za-z0-9._-]{0,127}")
 
 
-def some(folder, draw):
-    """Some files of a folder."""
-    files = [path for path in sorted(folder.iterdir())
-             if path.is_file() and not path.is_symlink() and not path.name.startswith(".")]
-    return draw.sample(files, min(len(files), draw.choice([1, 2, 5, 30])))
-
-
-def longer(path, draw):
-    with open(path, "ab") as file:
-        file.write(draw.randbytes(draw.randrange(1, 3_000)))
-
-
-def other_bytes(path, draw):
-    before = path.stat()
-    path.write_bytes(draw.randbytes(before.st_size))
-    os.utime(path, ns=(before.st_atime_ns, before.st_mtime_ns))
-
-
-def a_deep_folder(path):
-    (path / "deep" / "er").mkdir(parents=True)
-    (path / "deep" / "file").write_text("x")
-
-
-def a_link_to_a_copy(path, draw):
-    away = path.parent.parent / "away"
-    away.mkdir(exist_ok=True)
-    path.replace(away / path.name)
-    path.symlink_to(away / path.name)
-
-
-def replaced(make):
-    """Something else is in the place of a file."""
-    return lambda path, draw: (path.unlink(), make(path))
-
-
-def exchanged(one, other):
-    spare = one.parent / ".spare"
-    one.replace(spare)
-    other.replace(one)
-    spare.replace(other)
-
-
-# How a file is spoilt, two of them, and a folder.
+# How a file is spoilt, two of them, and a folder: what a shell does there, with the names of the
+# files, and a number that was drawn as $N.
 OF_FILES = {
-    "removed": lambda path, draw: path.unlink(),
-    "truncated": lambda path, draw: os.truncate(path, draw.randrange(path.stat().st_size + 1)),
-    "longer": longer, "other bytes of the same length and time": other_bytes,
-    "a folder in its place": replaced(a_deep_folder), "a pipe in its place": replaced(os.mkfifo),
-    "a link to nowhere": replaced(lambda path: path.symlink_to("/nowhere/at/all")),
-    "a link to a copy": a_link_to_a_copy, "of mode 0": lambda path, draw: path.chmod(0)}
-OF_TWO = {"exchanged": exchanged,
-          "one file for two": lambda one, other: (other.unlink(), os.link(one, other))}
-
-
-def extra_files(folder, draw):
-    for _ in range(draw.choice([1, 3, 40])):
-        (folder / f"extra{draw.randrange(1000)}").write_bytes(draw.randbytes(draw.randrange(99)))
-
-
-def extra_odd_names(folder, draw):
-    (folder / f"odd{draw.randrange(9)}").mkdir(exist_ok=True)
-    for name in (".hidden", "no key", ".new", "é", "-x", "x" * 200):
-        (folder / name).write_text("odd")
-
-
-def emptied(folder, draw):
-    for path in folder.iterdir():
-        if path.is_file() or path.is_symlink():
-            path.unlink()
-
-
-def a_file_where_pending_is(folder, draw):
-    shutil.rmtree(folder / ".pending", ignore_errors=True)
-    (folder / ".pending").write_text("x")
-
-
-OF_FOLDERS = {"extra files": extra_files, "extra odd names": extra_odd_names, "emptied": emptied,
-              "gone": lambda folder, draw: shutil.rmtree(folder),
-              "a file where pending is": a_file_where_pending_is}
-SPOILS = [*OF_FILES, *OF_TWO, *OF_FOLDERS]
+    "removed": 'rm "$1"',
+    "truncated": 'truncate -s $((N % ($(stat -c %s "$1") + 1))) "$1"',
+    "longer": 'head -c $((N % 3000 + 1)) /dev/urandom >>"$1"',
+    "other bytes of the same length and time":
+        'cp -p "$1" ../before; head -c "$(stat -c %s ../before)" /dev/urandom >"$1"; '
+        'touch -r ../before "$1"',
+    "a folder in its place": 'rm "$1"; mkdir -p "$1/deep/er"; echo x >"$1/deep/file"',
+    "a pipe in its place": 'rm "$1"; mkfifo "$1"',
+    "a link to nowhere": 'ln -sf /nowhere/at/all "$1"',
+    "a link to a copy": 'mkdir -p ../away; mv "$1" ../away; ln -s "$PWD/../away/$1" "$1"',
+    "of mode 0": 'chmod 0 "$1"'}
+OF_TWO = {"exchanged": 'mv "$1" .spare; mv "$2" "$1"; mv .spare "$2"',
+          "one file for two": 'ln -f "$1" "$2"'}
+OF_FOLDERS = {
+    "extra files": 'for at in $(seq $((N % 40 + 1))); do '
+                   'head -c $((N % 99)) /dev/urandom >extra$((N % 900 + at)); done',
+    "extra odd names": 'mkdir -p odd$((N % 9)); '
+                       'for name in .hidden "no key" .new é -x "$(printf %0200d 0)"; do '
+                       'echo odd >"./$name"; done',
+    "emptied": 'find . -maxdepth 1 ! -type d -delete',
+    "gone": 'rm -rf "$PWD"',
+    "a file where pending is": 'rm -rf .pending; echo x >.pending',
+    "an old copy": 'rm -rf ../new; cp -r ../old ../new && rm -rf "$PWD" && mv ../new "$PWD"'}
+SPOILS = {**OF_FILES, **OF_TWO, **OF_FOLDERS}
 
 
 def spoil(folder, how, draw):
-    """Spoils a folder, while its agent may write in it."""
-    # (where the agent was faster, a file that was to be spoilt is another one by now)
+    """Spoils a folder, or some files in it, while its agent may write in it."""
+    words = SPOILS[how]
+    if how not in OF_FOLDERS:
+        words = f"while [ $# -ge {1 if how in OF_FILES else 2} ]; do {words}; shift; done"
+    # (where the agent was faster, what was to be spoilt is another file by now, or none)
     with contextlib.suppress(OSError):
-        if how in OF_FOLDERS:
-            return OF_FOLDERS[how](folder, draw)
-        files = some(folder, draw)
-        for path in files if how in OF_FILES else []:
-            OF_FILES[how](path, draw)
-        for two in zip(files, files[1:]) if how in OF_TWO else []:
-            OF_TWO[how](*two)
+        names = sorted(path.name for path in folder.glob("[!.]*")
+                       if path.is_file() and not path.is_symlink())
+        names = draw.sample(names, min(len(names), draw.choice([1, 2, 5, 30])))
+        subprocess.run(["sh", "-c", words, "sh", *names], cwd=folder, stderr=subprocess.DEVNULL,
+                       env={**os.environ, "N": str(draw.randrange(1 << 30))})
 
 
 # ---- One run
@@ -180,7 +122,6 @@ class Run:
         self.below = [agent for agent in tree if agent is not tree.root]
         self.undo = []          # (when, the agent, what ends its fault)
         self.counts = collections.Counter()
-        self.copies = {}        # old ones of folders, by the names of their agents
 
     def change(self):
         """Changes one setting, by a file or by a command."""
@@ -224,24 +165,15 @@ class Run:
             is_gentle = kind == "end" or draw.random() < 0.3
             victim.kill(signal.SIGTERM if is_gentle else signal.SIGKILL)
             if draw.random() < 0.3 and victim is not self.tree.root:
-                spoil(victim.settings, draw.choice(SPOILS), draw)
+                spoil(victim.settings, draw.choice([*SPOILS]), draw)
             away = 0.2 if kind == "hub" else draw.choice([0, 0.1, 0.5, 2, 5])
             self.undo.append((time.monotonic() + away, victim, victim.start))
         else:
-            folder = draw.choice(self.below).settings
-            if kind == "copy" and folder in self.copies:
-                shutil.rmtree(folder, ignore_errors=True)
-                with contextlib.suppress(OSError):
-                    folder.mkdir(exist_ok=True)
-                    for name, value in self.copies[folder].items():
-                        (folder / name).write_bytes(value)
-            else:
-                spoil(folder, draw.choice(SPOILS), draw)
-        # (what will be an old copy)
-        folder = draw.choice(self.below).settings
-        if folder not in self.copies:
-            files = read(folder).items()
-            self.copies[folder] = {name: value for name, value in files if value is not None}
+            how = "an old copy" if kind == "copy" else draw.choice([*SPOILS])
+            spoil(draw.choice(self.below).settings, how, draw)
+        old = draw.choice(self.below).home / "old"
+        if not old.exists():
+            subprocess.run(["cp", "-r", old.with_name("settings"), old], stderr=subprocess.DEVNULL)
 
     def differing(self):
         """Whose settings are others. What lies there and is no file, or has no key for its name, is
@@ -253,15 +185,11 @@ class Run:
 
     def lost(self):
         """Who does not come to the hub by its parents."""
-        parents = {agent.name: agent.status().get("parent") for agent in self.tree}
-        lost = []
-        for name in NAMES:
-            at, seen = name, set()
-            while at not in ("root", None) and at not in seen:
-                seen.add(at)
-                at = parents[at]
-            lost += [name] if at != "root" else []
-        return lost
+        above = {agent.name: agent.status().get("parent") for agent in self.below}
+        ends = NAMES
+        for _ in NAMES:
+            ends = [above.get(name, name) for name in ends]
+        return [name for name, end in zip(NAMES, ends) if end != "root"]
 
     def go(self, faults):
         tree, draw = self.tree, random.Random(self.draw.random())

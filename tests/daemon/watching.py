@@ -5,7 +5,7 @@ import signal
 import subprocess
 import time
 
-from blocked import SPOILS, preload
+from blocked import preload
 from daemons import PATIENCE, becomes, of_tree, root_has, took, until, very_patient
 from protocol import Child
 from runner import sure
@@ -57,7 +57,7 @@ def files_that_differ_are_seen(tree, root, left, leaf, relay):
     """A disk spoils what an agent gives it: the agent's numbers say that all is applied. And of a
     folder that is gone, and in whose place a file lies, nothing is known."""
     del relay.tables["apply"]
-    spoils = preload(leaf, SPOILS)
+    spoils = preload(leaf, "write")
     root.tables["root"]["round"] = "500ms"
     tree.write("size", 1)
     tree.start()

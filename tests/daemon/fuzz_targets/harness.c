@@ -1,10 +1,9 @@
-/* The fuzzer's side: libFuzzer calls it with bytes, and it hands them to a target of targets.rs. A
- * single piece of memory that the daemon's code asks for has to be in proportion to the input. */
-#include <errno.h>
+/* The fuzzer's side: libFuzzer calls it with bytes, and it hands them to the target of targets.rs
+ * whose number is in RIGNOLDA_FUZZ. A single piece of memory that the daemon's code asks for has to
+ * be in proportion to the input. */
 #include <stdint.h>
 #include <stdio.h>
 #include <stdlib.h>
-#include <string.h>
 
 void rignolda_fuzz_byte(uint8_t byte);
 void rignolda_fuzz_run(uint32_t target);
@@ -13,8 +12,6 @@ void *__real_calloc(size_t count, size_t size);
 void *__real_realloc(void *old, size_t size);
 int __real_posix_memalign(void **to, size_t alignment, size_t size);
 
-static const char *const targets[] = {"messages", "body", "configuration", "control", "agent"};
-static uint32_t target;
 static size_t most = SIZE_MAX;
 
 static void check(size_t size) {
@@ -44,26 +41,14 @@ int __wrap_posix_memalign(void **to, size_t alignment, size_t size) {
     return __real_posix_memalign(to, alignment, size);
 }
 
-int LLVMFuzzerInitialize(int *count, char ***words) {
-    const char *name = getenv("RIGNOLDA_FUZZ");
-    (void)count;
-    (void)words;
-    for (target = 0; target < sizeof targets / sizeof *targets; target++) {
-        if (name && !strcmp(name, targets[target])) {
-            return 0;
-        }
-    }
-    fprintf(stderr, "RIGNOLDA_FUZZ names no target\n");
-    exit(2);
-}
-
 int LLVMFuzzerTestOneInput(const uint8_t *bytes, size_t size) {
+    const char *target = getenv("RIGNOLDA_FUZZ");
     size_t at;
     most = 65536 + 64 * size;
     for (at = 0; at < size; at++) {
         rignolda_fuzz_byte(bytes[at]);
     }
-    rignolda_fuzz_run(target);
+    rignolda_fuzz_run(target ? atoi(target) : 0);
     most = SIZE_MAX;
     return 0;
 }
