@@ -381,30 +381,26 @@ def link_ended(seconds):
 
 @test(needs="redis-server")
 def who_writes_to_a_store_harms_its_own_link_alone():
-    with store.Redis() as redis:
-        def before(tree):
-            patient(tree)
-            redis.at(tree.root)
-            tree.root.top["children"] = [f"evil@{redis.address}", "left"]
-
-        with Tree({"evil": "root", "left": "root"}, before) as tree:
-            tree.begin(without=["evil"])
-            fill(tree)
-            stats = lambda: int(re.search(rb"total_net_input_bytes:(\d+)",
-                                          redis.ask("INFO", "stats"))[1])
-            key, written = "tree:root:evil:up", stats()
-            with bounded(tree.root, MOST):
-                for times in during(4):
-                    # (another life each time: a child that begins anew)
-                    word = hello("evil", "root", label=times % 255) + struct.pack(">I", times)
-                    redis.ask(lines=[f"SET {key} {store.quoted(word)}"])
-                    if times % 40 == 39:
-                        tree.reaches("left")
-                written = (stats() - written) >> 20
-                sure(written < 200, "for", times, "words it wrote", written, "MiB")
-                for lines in ([f"SET {key} {'x' * 5_000_000}"], [f"SETRANGE {key} 60000000 x"],
-                              [f"DEL {key}", f"LPUSH {key} a"], [f'SET {key} "RGND\\x01"'],
-                              [f"SET tree:root:evil:report {'[' * 3_000_000}"], [f'SET {key} ""']):
-                    redis.ask(lines=lines)
-                    time.sleep(0.3)
+    with store.Redis() as redis, Tree({"evil": "root", "left": "root"}, patient) as tree:
+        redis.at(tree.root)
+        tree.root.top["children"] = [f"evil@{redis.address}", "left"]
+        tree.begin(without=["evil"])
+        fill(tree)
+        stats = lambda: int(re.search(rb"total_net_input_bytes:(\d+)",
+                                      redis.ask("INFO", "stats"))[1])
+        key, written = "tree:root:evil:up", stats()
+        with bounded(tree.root, MOST):
+            for times in during(4):
+                # (another life each time: a child that begins anew)
+                word = hello("evil", "root", label=times % 255) + struct.pack(">I", times)
+                redis.ask(lines=[f"SET {key} {store.quoted(word)}"])
+                if times % 40 == 39:
                     tree.reaches("left")
+            written = (stats() - written) >> 20
+            sure(written < 200, "for", times, "words it wrote", written, "MiB")
+            for lines in ([f"SET {key} {'x' * 5_000_000}"], [f"SETRANGE {key} 60000000 x"],
+                          [f"DEL {key}", f"LPUSH {key} a"], [f'SET {key} "RGND\\x01"'],
+                          [f"SET tree:root:evil:report {'[' * 3_000_000}"], [f'SET {key} ""']):
+                redis.ask(lines=lines)
+                time.sleep(0.3)
+                tree.reaches("left")

@@ -14,7 +14,6 @@ end every agent has the settings of the root's folder. Each run has the next see
 failed has judged is kept in a file that it names. The last line is 'N passed, M failed'.
 """
 import contextlib
-import itertools
 import json
 import os
 import random
@@ -192,13 +191,12 @@ def lines_of(text):
 
 
 def counts_of(cuts, texts, above):
-    """Each count of an agent between two moments: which, the agent, and what is to be judged. That
-    is what the root published, the place in it where the count begins, and what the agent received;
-    or nothing, where a link of the path began anew."""
+    """Between each two moments what the root published and, for each agent that is judged, where in
+    that its count begins, and what it received. It is not where a link of its path began anew."""
     logs = {name: lines_of(text) for name, text in texts.items()}
     root = logs["root"]
-    for at, (start, end) in enumerate(zip(cuts, cuts[1:])):
-        part = {name: log[start[name]:end[name]] for name, log in logs.items()}
+    for start, end in zip(cuts, cuts[1:]):
+        counts, part = {}, {name: log[start[name]:end[name]] for name, log in logs.items()}
         begun = max([place for place, line in enumerate(root[:end["root"]])
                      if line.startswith("start ")], default=0)
         published = numbers(root[begun:end["root"]], "published")
@@ -207,12 +205,12 @@ def counts_of(cuts, texts, above):
             while above[path[0]] in above:
                 path.insert(0, above[path[0]])
             if begun >= start["root"] or any(began_anew(part, it, above[it]) for it in path):
-                yield at, name, None
                 continue
             first = first_offered(root[begun:start["root"]], logs[path[0]][:start[path[0]]],
                                   part[path[0]], path[0])
             place = len(published) if first is None else sum(it < first for it in published)
-            yield at, name, (published, place, numbers(part[name], "received"))
+            counts[name] = place, numbers(part[name], "received")
+        yield published, counts
 
 
 def job_of(above, published, counts):
@@ -257,12 +255,9 @@ def judge(file, cuts, texts, above):
     and the parent of each agent but the root. It returns what is wrong, as (part, agent, text), and
     how many counts of agents were judged and left out."""
     wrong, judged, left_out = [], 0, 0
-    for at, group in itertools.groupby(counts_of(cuts, texts, above), lambda it: it[0]):
-        group = list(group)
-        counts = {name: count[1:] for _, name, count in group if count}
-        judged, left_out = judged + len(counts), left_out + len(group) - len(counts)
+    for at, (published, counts) in enumerate(counts_of(cuts, texts, above)):
+        judged, left_out = judged + len(counts), left_out + len(above) - len(counts)
         if counts:
-            published = next(count[0] for _, _, count in group if count)
             wrong += [(at, *it) for it in broken_in(file, above, published, counts).items()]
     return wrong, judged, left_out
 

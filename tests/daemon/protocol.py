@@ -145,7 +145,6 @@ class Parent:
 
     def __init__(self, agent):
         self.agent, self.numbers = agent, itertools.count(1)
-        self.name = agent.parent.name
         self.listener, self.sock = listener(agent.parent), None
         self.life = random.getrandbits(64)
         # (what is said here at once is to come in time)
@@ -164,23 +163,23 @@ class Parent:
                 break
             self.sock.recv(4096)
             self.sock.close()
-        self.sock.sendall(hello(self.name, self.agent.name, self.life, label=0))
+        self.sock.sendall(hello(self.agent.parent.name, self.agent.name, self.life, label=0))
         take_hello(self.sock)
         return self
 
-    def send(self, text, item=None, label=None):
-        """Sends a body, and waits until it is acknowledged. It answers with which label."""
-        label = next(self.numbers) % 255 if label is None else label
+    def send(self, text, item=None):
+        """Sends a body, and waits until it is acknowledged."""
+        label = next(self.numbers) % 255
         self.sock.sendall(frame(label, text, item))
-        while True:
+        acknowledged = None
+        while acknowledged != label:
             kind = exactly(self.sock, 1)
+            sure(kind in b"AR", "it sends", kind)
+            number = int.from_bytes(exactly(self.sock, 2 if kind == b"A" else 4), "big")
             if kind == b"A":
-                if struct.unpack(">H", exactly(self.sock, 2))[0] == label:
-                    return label
-            elif kind == b"R":
-                exactly(self.sock, struct.unpack(">I", exactly(self.sock, 4))[0])
+                acknowledged = number
             else:
-                raise AssertionError(f"it sends {kind}")
+                exactly(self.sock, number)
 
     def gives_way(self):
         """Leaves the agent to its real parent, which has to come through to all."""

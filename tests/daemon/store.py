@@ -118,9 +118,8 @@ def settings_travel_through_a_store():
     with Redis() as redis, Tree(None, in_store(redis)) as tree:
         tree.begin()
         for at in range(5):
-            number = tree.root.ask("publish", "key1", f"again {at}")["sequence"]
+            tree.publish("key1", f"again {at}")
             tree.settles()
-            tree.wait(number)
         big = random.Random(1).randbytes(1 << 20)
         tree.publish("big", value=big)
         sure(tree["left1"].files()["big"] == big, "it is another one")
@@ -191,8 +190,8 @@ def faults_of_a_store_are_mended_by_rounds():
             redis.kill()
             redis.restore()
             tree.write("key7", f"down {turn}")
-            if victims:
-                tree.start(victims)
+            for victim in victims:
+                victim.start()
             redis.start()
             redis.make_old()
             tree.settles()
