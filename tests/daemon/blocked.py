@@ -1,6 +1,4 @@
-"""What an agent must not wait for: a standard error that nobody reads, a disk, a pipe, a hook, a
-store; and files that are not its own.
-"""
+"""What an agent must not wait for, as a disk or who reads; and files that are not its own."""
 import os
 import re
 import signal
@@ -188,8 +186,7 @@ def a_file_where_a_socket_is_to_be_is_kept(tree, root):
 
 @of_tree({"left": "root"}, runs=False, needs="cc")
 def a_hooks_mark_that_cannot_go_yet_stops_nobody(tree, root, left):
-    """The disk of the applied settings hangs where a hook has ended: the agent answers. And no
-    descriptor of the agent is the hook's."""
+    """A disk hangs where a hook has ended, and no descriptor of the agent is the hook's."""
     slow = preload(left, "unlink")
     left.hook(f"ls -l /proc/self/fd >{left.home}/said")
     tree.begin()

@@ -29,8 +29,8 @@ from relay import between
 from runner import sure, test
 
 # (each of them tells its tests)
-for name in ("blocked", "floods", "groups", "hooks", "hostile", "memory_faults", "older",
-             "operating", "paged", "parents", "roots", "rounds", "store", "watching"):
+for name in ("blocked", "floods", "groups", "hooks", "hostile", "memory_faults", "operating",
+             "parents", "roots", "rounds", "store", "watching"):
     importlib.import_module(name)
 
 

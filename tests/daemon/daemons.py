@@ -539,8 +539,7 @@ def openssl(home, *words):
 
 
 def certify(home, name, seconds=86_400, authority="authority", more=""):
-    """A certificate of one authority that ends in so many seconds, and may have more names than
-    one: the table of a configuration."""
+    """A certificate that ends in so many seconds, as the table of a configuration."""
     key = ["-newkey", "ec", "-pkeyopt", "ec_paramgen_curve:P-256", "-nodes"]
     if not (home / "ca.crt").exists():
         home.mkdir(exist_ok=True)

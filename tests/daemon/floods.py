@@ -1,5 +1,4 @@
-"""Floods by TLS: key updates, hellos, certificates and sessions that are to stop an agent's loop.
-"""
+"""Floods by TLS: key updates, hellos, certificates and sessions that are to stop an agent."""
 import contextlib
 import ctypes
 import functools
@@ -128,8 +127,7 @@ def flooding(kind, tree):
 
 
 def many_certificates(home):
-    """Certificates by the name of `many`: the first one, and 330 any of which could have issued the
-    others."""
+    """Certificates by the name of `many`: 330, any of which could have issued the others."""
     openssl(home, "genpkey", "-algorithm", "ed25519", "-out", "many.key")
     for name in ("one", "two"):
         request = ["req", "-new", "-key", "many.key", "-subj", f"/CN={name}", "-addext",

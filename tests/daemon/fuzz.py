@@ -79,14 +79,12 @@ def piece(at, text):
 
 
 def seeds():
-    """Inputs to begin with, by their target: messages as the program writes them, and the example
-    of a configuration."""
+    """Inputs to begin with, by their target, as the program writes them or an example has them."""
     late, nothing = b"\7\310", frame(3, b"")
     leaf = report(b'[{"name":"leaf"}]    ')
     whole = re.search('^const WHOLE.*?\n(.*?)^"#;',
                       (HOME / "rust/rignoldad/tests/config.rs").read_text(), re.M | re.S)[1]
-    # (the first byte of a message says what is expected: a hello, a way, what a parent sends, or
-    # what a child does)
+    # (the first byte says what is expected: a hello, a way, what a parent sends, or a child)
     return {
         "messages": [
             b"\0" + hello("host31", "rack3", LIFE), b"\0" + look("host31", ""),

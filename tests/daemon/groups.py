@@ -1,5 +1,4 @@
-"""Settings that have another value for some groups of agents, and how such a value becomes all's.
-"""
+"""Settings that have another value for some groups of agents, and how that becomes all's."""
 import shutil
 
 from daemons import of_tree, patient, read, root_has

@@ -97,8 +97,7 @@ class Trial:
                 relay.calm = False
 
     def strike(self):
-        """One fault of the store. It ends first, so that no agent has anything in hand that it got.
-        """
+        """One fault of the store. It ends first, so that no agent has in hand what it got."""
         redis, how = self.redis, self.draw.randrange(4)
         if how == 0:
             redis.backup()
@@ -341,8 +340,7 @@ def judged(file, *parts, broken=()):
 
 MANY = list(range(13, 113))
 OLD = list(range(1000, 1000 + 1 + LIMIT))
-# The child begins anew at the whole table 10, and has what was published up to 30; the leaf lacks
-# the last 10 of them.
+# The child begins anew at the whole table 10, and has all up to 30; the leaf lacks the last 10.
 ANEW = {"root": ["connected inner, a new count"],
         "inner": start("inner", 4) + ["connected the parent root, a new count",
                                       "connected leaf, a new count"] + received(*range(10, 31)),

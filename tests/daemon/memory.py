@@ -38,8 +38,7 @@ def stopped(process):
 
 
 def write_over(process, texts):
-    """Writes over each copy of some texts in the memory of a process, each by one of its length:
-    how many copies there were."""
+    """Writes over each copy of some texts in a process, by others as long: how many there were."""
     sought = re.compile(b"|".join(map(re.escape, texts)))
     longest = max(map(len, texts))
     count = 0

@@ -92,8 +92,7 @@ class Memory:
                            for place in self.found(re.escape(name.encode()))})
 
     def times(self):
-        """Where there is a time of the clock that only goes on: seconds near now, and nanoseconds.
-        """
+        """Where there is a time of the monotonic clock: seconds near now, and nanoseconds."""
         now, places = int(time.monotonic()), []
         for place in self.words(range(now - 120, now + 120)):
             after = self.at(place + 8, 4)
@@ -223,8 +222,7 @@ class Unit:
 
 
 class Trials:
-    """A tree, and faults in it one after the other: of each kind what came of it, in a list, and in
-    another one why agents ended."""
+    """A tree, and faults in it: what came of each kind, and why agents ended, as two lists."""
 
     def __init__(self, seed, came, whys):
         self.seed, self.came, self.whys = seed, came, whys

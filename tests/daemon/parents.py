@@ -57,8 +57,7 @@ def who_has_another_parent_leaves_one_that_lost_the_root(tree, root, rack0, rack
 
 
 def rests(agents):
-    """Asserts that agents stay where they are for a while, and their journals as long as they are.
-    """
+    """Asserts that agents stay where they are for a while, and say nothing."""
     moves = lambda: [agent.status()["reconnects"] for agent in agents]
     lines = lambda: sum(agent.text().count("\n") for agent in agents)
     before, length = moves(), lines()

@@ -140,8 +140,7 @@ class Child:
 
 
 class Parent:
-    """The parent of an agent, which it starts: it sends what it is told to, and waits for each
-    acknowledgement."""
+    """The parent of an agent, which it starts: of what it sends it waits for acknowledgements."""
 
     def __init__(self, agent):
         self.agent, self.numbers = agent, itertools.count(1)

@@ -1,5 +1,4 @@
-"""What lies between a child and its parent: relays, one connection for one, that can lose and
-delay, and a network that loses packets."""
+"""What lies between a child and its parent: relays that can lose and delay, and a bad network."""
 import contextlib
 import math
 import random
@@ -20,8 +19,7 @@ def lose(percent):
 
 
 def between(agent, by_parent=False, **more):
-    """From its next start on an agent connects to its parent by a relay, or that to the agent,
-    until their tree ends."""
+    """From its next start on an agent connects to its parent by a relay, or that to the agent."""
     relay = Relay(agent.port if by_parent else agent.parent.port, **more)
     agent.tree.ends.callback(relay.close)
     if by_parent:

@@ -56,8 +56,7 @@ def lacking(needs):
 
 
 def main():
-    """Runs what the command line says: files here without their ending, or parts of the names of
-    tests."""
+    """Runs what the command line says: all, files without their ending, or parts of names."""
     names = options("words").words
     os.chdir(HERE)
     begun = time.monotonic()

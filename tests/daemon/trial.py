@@ -176,8 +176,7 @@ class Run:
             subprocess.run(["cp", "-r", old.with_name("settings"), old], stderr=subprocess.DEVNULL)
 
     def differing(self):
-        """Whose settings are others. What lies there and is no file, or has no key for its name, is
-        nobody's setting."""
+        """Whose settings are others. What is no file, or has no key for its name, is no setting."""
         truth = self.tree.truth()
         own = lambda agent: {key: value for key, value in agent.files().items()
                              if key in truth or value is not None and KEY.fullmatch(key)}

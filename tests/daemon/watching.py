@@ -1,5 +1,4 @@
-"""What is said of a tree is so: where an agent is, what it has, and when a change is everywhere.
-"""
+"""What is said of a tree is so: where an agent is, what it has, when a change is everywhere."""
 import shutil
 import signal
 import subprocess
