@@ -194,6 +194,11 @@ class Agent:
         hook.chmod(0o755)
         return str(hook)
 
+    def noted(self, name):
+        """The lines that its hooks have written to a file of this name."""
+        path = self.home / name
+        return path.read_text().splitlines() if path.exists() else []
+
     # ---- What it is asked
 
     def connect(self):
@@ -344,6 +349,7 @@ class Tree:
         self.ends = contextlib.ExitStack()      # what ends with it
         self.agents = {"root": Agent(self, "root", None)}
         self.root = self.agents["root"]
+        self.write = self.root.write
         for name, parent in (SEVEN if shape is None else shape).items():
             self.add(name, parent)
         for act in before:
@@ -419,9 +425,6 @@ class Tree:
     def settles(self, *agents):
         """Asserts that they do, or these agents."""
         sure(self.right(agents=agents), "other settings than the root's:", self.wrong(agents))
-
-    def write(self, key, value):
-        self.root.write(key, value)
 
     def wait(self, *number):
         """Waits until all agents have what the root's folder has, or a change of this number."""

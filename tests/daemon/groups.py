@@ -19,11 +19,8 @@ def notes_changes(tree):
 
 def told(tree, key):
     """What each agent's hook was told of a key."""
-    all = {}
-    for agent in tree:
-        lines = [line.split() for line in (agent.home / "told").read_text().splitlines()]
-        all[agent.name] = [line[-1] for line in lines if line[1] == key]
-    return all
+    return {agent.name: [line[-1] for line in map(str.split, agent.noted("told")) if line[1] == key]
+            for agent in tree}
 
 
 def here(tree, *words):

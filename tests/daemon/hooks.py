@@ -20,8 +20,8 @@ def hook(agent, name, *keys):
 
 def runs(agent, name):
     """What each run was told."""
-    path, said = agent.home / name, []
-    for line in path.read_text().splitlines() if path.exists() else []:
+    said = []
+    for line in agent.noted(name):
         folder, here, words, keys = line.split(":")
         sure(folder == here == str(agent.settings) and words == "0", line)
         said.append(keys.split())
@@ -33,7 +33,7 @@ def keys_that_changed_together_have_one_run(tree, root, leaf):
     hook(leaf, "app", "app.*", "colour")
     hook(leaf, "all", "*")
     leaf.hook(f'echo $1 $2 >>{leaf.home}/own')
-    own = lambda: sorted((leaf.home / "own").read_text().splitlines())
+    own = lambda: sorted(leaf.noted("own"))
     pending = lambda: sorted(it.name for it in (leaf.settings / ".pending").iterdir())
     lacks = lambda: root.lacks("--everywhere", number)
     for key in ("app.a", "app.b", "colour", "other", "yapp.c"):

@@ -18,7 +18,6 @@ import os
 import pathlib
 import random
 import re
-import signal
 import socket
 import struct
 import sys
@@ -119,12 +118,6 @@ class Memory:
         return start + at
 
 
-def about(places, draw):
-    """A word about one of these places, mostly near it."""
-    far = draw.choice([NEAR, ABOUT])
-    return places and (draw.choice(places) & ~7) + draw.randrange(-far, far, 8)
-
-
 def spoiled(old, draw):
     """Another value in the place of these bytes."""
     length, number = len(old), int.from_bytes(old, "little")
@@ -166,7 +159,10 @@ def fault(memory, _, status, draw, kind):
         ends = [place for place in memory.found(PARAMETERS) if place > HEAPS]
         place = ends and draw.randrange(ends[0] - 2_048, ends[-1] + 2_048, 8)
     elif kind in ("links", "names"):
-        place = about(memory.names() if kind == "names" else memory.found(PARAMETERS), draw)
+        # (a word about one of these places, mostly near it)
+        known = memory.names() if kind == "names" else memory.found(PARAMETERS)
+        far = draw.choice([NEAR, ABOUT])
+        place = known and (draw.choice(known) & ~7) + draw.randrange(-far, far, 8)
     elif kind in ("times", "numbers"):
         known = memory.times() if kind == "times" else memory.numbers(status)
         place = draw.choice([0, *known])
@@ -225,8 +221,7 @@ class Trials:
     """A tree, and faults in it: what came of each kind, and why agents ended, as two lists."""
 
     def __init__(self, seed, came, whys):
-        self.seed, self.came, self.whys = seed, came, whys
-        self.tree, self.made = None, 0
+        self.seed, self.came, self.whys, self.made = seed, came, whys, 0
 
     def make(self):
         """A new tree that is right."""
@@ -243,11 +238,6 @@ class Trials:
             unit.start()
         if not self.holds(lambda: not self.wrong() and self.says_right(), 60):
             raise RuntimeError("a new tree does not come to be right")
-
-    def end(self):
-        if self.tree:
-            self.tree.close()
-        self.tree = None
 
     def holds(self, what, seconds=LONG):
         """Whether this comes to hold; meanwhile whoever ends is started again."""
@@ -323,24 +313,27 @@ class Trials:
         came += ["lied"] if says and self.wrong() else []
         return [*came, *set(self.ends), *([] if says else ["wrong"] if is_right else ["stuck"])]
 
+    def goes_on(self, kind, number):
+        """Whether the tree comes back from a fault, of which it notes what came."""
+        try:
+            came = self.trial(kind, number)
+        except (OSError, RuntimeError, KeyError) as error:
+            print(f"{kind} {number}: an agent ends before it is written to: {error}")
+            return False
+        self.came += [(kind, it) for it in came]
+        if not {"wrong", "stuck"} & {*came}:
+            return True
+        print(came, self.wrong(), "after", *self.what[-4:], flush=True)
+        print(*(f"  {agent.name}: {agent.status(2)}\n" for agent in self.tree), flush=True)
+        return False
+
     def run(self, faults):
         """Takes faults from a list, as long as there are some."""
         while faults:
-            kind, number = faults.popleft()
-            if not self.tree:
-                self.make()
-            try:
-                came = self.trial(kind, number)
-            except (OSError, RuntimeError, KeyError) as error:
-                print(f"{kind} {number}: an agent ends before it is written to: {error}")
-                self.end()
-                continue
-            self.came += [(kind, it) for it in came]
-            if {"wrong", "stuck"} & {*came}:
-                print(came, self.wrong(), "after", *self.what[-4:], flush=True)
-                print(*(f"  {agent.name}: {agent.status(2)}\n" for agent in self.tree), flush=True)
-                self.end()
-        self.end()
+            self.make()
+            with contextlib.closing(self.tree):
+                while faults and self.goes_on(*faults.popleft()):
+                    pass
 
 
 KINDS = ["bit", "byte", "word", "run", "data", "stack", "agent", "links", "names", "times",

@@ -21,15 +21,11 @@ def racks(count, further=1, leaf=()):
     return {**{name: "root" for name in names}, **({"leaf": leaf[0]} if leaf else {})}, before
 
 
-def has_parent(agent, name):
-    becomes(lambda: agent.status().get("parent"), name, agent.name, pause=0.1)
-
-
 @of_tree(*racks(2, further=0, leaf=("rack1", "rack0")), begins=True)
 def who_has_another_parent_leaves_one_that_lost_the_root(tree, root, rack0, rack1, leaf):
     """Or one that stands still."""
     # (it may have begun after the other one)
-    has_parent(leaf, "rack1")
+    leaf.becomes(parent="rack1")
     root.ask("child", "remove", "rack1")
     tree.write("two", "2")
     tree.settles(rack0, leaf)
@@ -46,7 +42,7 @@ def who_has_another_parent_leaves_one_that_lost_the_root(tree, root, rack0, rack
     tree.write("three", "3")
     tree.settles(rack1, leaf)
     root.ask("child", "add", "rack0")
-    has_parent(leaf, "rack1")
+    leaf.becomes(parent="rack1")
     sure(until(rack0.up), rack0.text())
     rack1.signal(signal.SIGSTOP)
     tree.write("four", "4")
@@ -76,7 +72,7 @@ def agents_without_a_root_rest_and_come_back_to_it(tree):
         root.start()
         tree.write("back", time.monotonic())
         for agent in ring:
-            has_parent(agent, "root")
+            agent.becomes(parent="root")
         tree.settles()
 
     root.kill(signal.SIGTERM)

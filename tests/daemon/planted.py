@@ -73,7 +73,7 @@ def fuzzed(name, rust):
 
 
 def run(test, rust):
-    """Builds the copy and runs a test: whether it passed, or None where it was not tried, and why."""
+    """Builds the copy and runs a test: whether it passed, None where it was not tried; and why."""
     file, _, name = test.rpartition("::")
     if file == "fuzz":
         return fuzzed(name, rust)

@@ -196,8 +196,8 @@ def begun(shape):
         rests(tree)
         tree.settles()
         for agent in tree:
-            applied = [int(line) for line in (agent.home / "applied").read_text().split()]
-            sure(applied == sorted(applied), agent.name, "applied something older:", applied)
+            applied = [*map(int, agent.noted("applied"))]
+            sure(applied and applied == sorted(applied), agent.name, "applied older ones:", applied)
 
 
 def number(agent):

@@ -10,12 +10,6 @@ from protocol import Child
 from runner import sure
 
 
-def calls(agent):
-    """What its hook notes."""
-    path = agent.home / "calls"
-    return path.read_text().splitlines() if path.exists() else []
-
-
 @of_tree({"left": "root", "inner": "left", "leaf": "inner"}, runs=False)
 def nothing_is_everywhere_before_it_is_applied(tree, root, left, inner, leaf):
     """A new agent, and one that was away: each has older changes to apply when it already has a
@@ -35,20 +29,15 @@ def nothing_is_everywhere_before_it_is_applied(tree, root, left, inner, leaf):
         tree.settles()
         inner.becomes(whole=True)
         sure("inner" in root.lacks("--everywhere", number) and inner.lacks(number),
-             f"an agent that {what}: done, and its hooks ran for", calls(inner))
-        sure(calls(inner) == [], calls(inner))
+             f"an agent that {what}: done, and its hooks ran for", inner.noted("calls"))
+        sure(inner.noted("calls") == [], inner.noted("calls"))
         go.touch()
         tree.wait(number)
-        sure(set(calls(inner)) == {"k0", "k1", "k2", "k3"}, calls(inner))
+        sure(set(inner.noted("calls")) == {"k0", "k1", "k2", "k3"}, inner.noted("calls"))
         inner.kill()
         shutil.rmtree(inner.settings)
         go.unlink()
         (inner.home / "calls").unlink()
-
-
-def compared(tree):
-    """What the root says of each agent's files."""
-    return {it["name"]: it["compared"] for it in tree.root.ask("tree")}
 
 
 @of_tree({"left": "root", "leaf": "left", "relay": "left"}, runs=False, needs="cc")
@@ -63,7 +52,8 @@ def files_that_differ_are_seen(tree, root, left, leaf, relay):
     tree.is_ready()
 
     def is_seen(as_):
-        becomes(lambda: compared(tree),
+        """The root comes to say this of the leaf's files."""
+        becomes(lambda: {it["name"]: it["compared"] for it in root.ask("tree")},
                 {"root": "same", "left": "same", "relay": "nothing", "leaf": as_})
 
     is_seen("same")
