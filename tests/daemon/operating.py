@@ -340,8 +340,8 @@ def the_page_says_what_the_tree_is(tree, root, left, right, leaf):
     sure(until(lambda: any(it["name"] == "host-0295" for it in list())))
     counted_there = lambda: {name: int(count) for name, count in re.findall(
         r"<dd id=(\w+)[^>]*>(\d+)", root.page("/")[2])}
-    sure(until(lambda: counts(list())["moved"] > 1), list())
-    becomes(lambda: counted_there() == counts(list()), True, counted_there(), counts(list()))
+    becomes(lambda: counts(list())["moved"] > 1 and counted_there() == counts(list()), True,
+            counted_there(), counts(list()))
     status, headers, text = root.page("/")
     agents = agents_of(text)
     sure(status == 200 and len(text) <= 40_000 and len(agents) == 301, len(text), len(agents))
