@@ -228,8 +228,7 @@ class Trials:
         self.tree = Tree(SHAPE, root_has(round=f"{int(ROUND * 1_000)}ms"))
         self.what, self.ends = [], []
         self.units = [Unit(agent, self.whys) for agent in self.tree]
-        for at in range(6):
-            self.tree.write(f"key{at}", f"value {at}")
+        self.tree.fill()
         # (one agent has another value, and each tells a hook of some)
         self.tree.write("key2@canary", "another")
         self.tree["two"].top["groups"] = ["canary"]

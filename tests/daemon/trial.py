@@ -169,8 +169,10 @@ class Run:
             away = 0.2 if kind == "hub" else draw.choice([0, 0.1, 0.5, 2, 5])
             self.undo.append((time.monotonic() + away, victim, victim.start))
         else:
-            how = "an old copy" if kind == "copy" else draw.choice([*SPOILS])
-            spoil(draw.choice(self.below).settings, how, draw)
+            agent = draw.choice(self.below)
+            is_back = kind == "copy" and (agent.home / "old").exists()
+            spoil(agent.settings, "an old copy" if is_back else draw.choice([*SPOILS]), draw)
+        # (what will be an old copy)
         old = draw.choice(self.below).home / "old"
         if not old.exists():
             subprocess.run(["cp", "-r", old.with_name("settings"), old], stderr=subprocess.DEVNULL)
