@@ -341,6 +341,9 @@ def commands_say_what_they_did(tree, root, left, leaf):
     sure(text()[3].startswith("    leaf"), text())
     # (2 * 2 + 1 can be missing at depth 2, and two more are for an agent's own numbers)
     sure(until(lambda: "needs 7" in root.run("tree").stderr), root.run("tree"))
+    # the bounds of a link over connections, at depths 1 and 2
+    found = {b["name"]: (b["C"], b["M"], b["N"]) for b in root.ask("bounds")}
+    sure(found == {"root": (0, 0, 0), "left": (1, 3, 3), "leaf": (2, 6, 5)}, found)
     leaf.kill()
     number = root.ask("publish", "a", "b")["sequence"]
     late = lambda: root.run("wait", "--everywhere", "--timeout", "300ms", number)

@@ -17,7 +17,7 @@ import time
 
 import store
 from daemons import (PATIENCE, Tree, becomes, bounded, by_tls, certify, during, meanwhile,
-                      memory, of_tree, patient, took, until)
+                     memory, of_tree, patient, took, until)
 from protocol import (Child, Parent, body, closed, entry, exactly, frame, hello, listener, look,
                       report, take_hello, the_root_comes, way)
 from runner import sure, test
@@ -149,6 +149,9 @@ def a_hello_of_garbage_is_refused(tree, root):
     root.says("closed evil: it connected anew")
     # a slow one is dropped, and so are too many
     slow = [connect() for _ in range(150)]
+    for sock in slow:
+        with contextlib.suppress(OSError):
+            sock.sendall(b"RGN")
     tree.reaches("left")
     sure(all(closed(sock) for sock in slow), "a slow hello was kept")
     sure(root.status()["refused"] >= 150, root.status())
