@@ -2,26 +2,21 @@
 import signal
 import time
 
-from daemons import becomes, of_tree, until
+from daemons import becomes, of_tree, patient, until
 from runner import sure
 
 
-def racks(count, further=1, leaf=()):
-    """A root, and racks with the parents root and the next rack, or further ones."""
-    names = [f"rack{at}" for at in range(count)]
-
-    def before(tree):
-        for agent in tree:
-            agent.tables["link"] = {"ack_timeout": "500ms", "evict": "2s"}
-        for at, name in enumerate(names):
-            tree[name].below(*(tree[names[(at + step) % count]] for step in range(1, further + 1)))
-        if leaf:
-            tree["leaf"].below(*(tree[name] for name in leaf[1:]))
-
-    return {**{name: "root" for name in names}, **({"leaf": leaf[0]} if leaf else {})}, before
+def also(name, *parents):
+    """What gives an agent further parents, before a tree starts."""
+    return lambda tree: tree[name].below(*(tree[it] for it in parents))
 
 
-@of_tree(*racks(2, further=0, leaf=("rack1", "rack0")), begins=True)
+def hasty(tree):
+    patient(tree, ack_timeout="500ms", evict="2s")
+
+
+@of_tree({"rack0": "root", "rack1": "root", "leaf": "rack1"}, hasty, also("leaf", "rack0"),
+         begins=True)
 def who_has_another_parent_leaves_one_that_lost_the_root(tree, root, rack0, rack1, leaf):
     """Or one that stands still."""
     # (it may have begun after the other one)
@@ -62,7 +57,9 @@ def rests(agents):
     sure(moves() == before and lines() - length < 4, [agent.text()[-500:] for agent in agents])
 
 
-@of_tree(*racks(3, leaf=("rack0", "rack1")), begins=True)
+@of_tree({"rack0": "root", "rack1": "root", "rack2": "root", "leaf": "rack0"}, hasty,
+         also("rack0", "rack1"), also("rack1", "rack2"), also("rack2", "rack0"),
+         also("leaf", "rack1"), begins=True)
 def agents_without_a_root_rest_and_come_back_to_it(tree):
     """What goes round in a ring while the root is away would be strays."""
     root, *ring, leaf = tree
