@@ -42,19 +42,19 @@ int fsync(int file)
 int unlink(const char *path)
 {
     if (strstr(path, "/.pending/"))
-        waits("of_unlink");
+        waits("of_unlink");     /* the mark of a hook that has ended */
     return syscall(SYS_unlinkat, AT_FDCWD, path, 0);
 }
 int rename(const char *from, const char *to)
 {
     if (strstr(to, "/colour"))
-        waits("of_rename");
+        waits("of_rename");     /* the file of a setting does not come to its place */
     return syscall(SYS_renameat2, AT_FDCWD, from, AT_FDCWD, to, 0);
 }
 ssize_t write(int file, const void *bytes, size_t length)
 {
     if (length == 4 && !memcmp(bytes, "blue", 4) && is_on("of_write"))
-        bytes = "glue";
+        bytes = "glue";         /* and the call says that all is well */
     return syscall(SYS_write, file, bytes, length);
 }
 """

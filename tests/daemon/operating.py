@@ -85,7 +85,7 @@ def what_somebody_else_did_to_files_is_counted_and_named(tree, root, _, leaf):
     mended = lambda: [agent.status()["mended"] for agent in tree]
 
     def stays(*counts):
-        """It is these counts after two whole rounds at the leaf too."""
+        """Asserts that these are the counts, after two whole rounds at the leaf."""
         for _ in range(2):
             last = leaf.status()["round"]
             sure(until(lambda: leaf.status()["round"] > last))
