@@ -86,11 +86,12 @@ OF_FILES = {
 OF_TWO = {"exchanged": 'mv "$1" .spare; mv "$2" "$1"; mv .spare "$2"',
           "one file for two": 'ln -f "$1" "$2"'}
 OF_FOLDERS = {
-    "extra files": 'for at in $(seq $((N % 40 + 1))); do '
+    # (a pipe may be there, which nobody reads)
+    "extra files": 'for at in $(seq $((N % 40 + 1))); do rm -f extra$((N % 900 + at)); '
                    'head -c $((N % 99)) /dev/urandom >extra$((N % 900 + at)); done',
     "extra odd names": 'mkdir -p odd$((N % 9)); '
                        'for name in .hidden "no key" .new é -x "$(printf %0200d 0)"; do '
-                       'echo odd >"./$name"; done',
+                       'rm -f "./$name"; echo odd >"./$name"; done',
     "emptied": 'find . -maxdepth 1 ! -type d -delete',
     "gone": 'rm -rf "$PWD"',
     "a file where pending is": 'rm -rf .pending; echo x >.pending',
