@@ -77,11 +77,12 @@ def connections_that_break_lose_nothing():
 
 
 def spoil(folder, draw):
-    """Spoils what an agent keeps, in ways of trial.py."""
+    """Spoils what an agent keeps, most files, and each of them in one of the ways of trial.py."""
     if draw.randrange(4) == 0:
         return trial.spoil(folder, "gone", draw)
-    for way in draw.sample([*trial.OF_FILES, *trial.OF_TWO], 6):
-        trial.spoil(folder, way, draw)
+    for path in sorted(folder.glob("[!.]*")):
+        if path.is_file() and draw.randrange(5):
+            trial.spoil(folder, draw.choice([*trial.OF_FILES]), draw, [path.name])
     (folder / "extra").write_text("1")
 
 

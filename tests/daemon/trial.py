@@ -99,16 +99,17 @@ OF_FOLDERS = {
 SPOILS = {**OF_FILES, **OF_TWO, **OF_FOLDERS}
 
 
-def spoil(folder, how, draw):
-    """Spoils a folder, or some files in it, while its agent may write in it."""
+def spoil(folder, how, draw, names=None):
+    """Spoils a folder, or these files in it or some, while its agent may write in it."""
     words = SPOILS[how]
     if how not in OF_FOLDERS:
         words = f"while [ $# -ge {1 if how in OF_FILES else 2} ]; do {words}; shift; done"
     # (where the agent was faster, what was to be spoilt is another file by now, or none)
     with contextlib.suppress(OSError):
-        names = sorted(path.name for path in folder.glob("[!.]*")
-                       if path.is_file() and not path.is_symlink())
-        names = draw.sample(names, min(len(names), draw.choice([1, 2, 5, 30])))
+        if names is None:
+            names = sorted(path.name for path in folder.glob("[!.]*")
+                           if path.is_file() and not path.is_symlink())
+            names = draw.sample(names, min(len(names), draw.choice([1, 2, 5, 30])))
         subprocess.run(["sh", "-c", words, "sh", *names], cwd=folder, stderr=subprocess.DEVNULL,
                        env={**os.environ, "N": str(draw.randrange(1 << 30))})
 
