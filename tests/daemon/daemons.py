@@ -93,7 +93,6 @@ def free_port():
             sock.setsockopt(socket.SOL_SOCKET, socket.SO_REUSEADDR, 1)
             sock.bind(("127.0.0.1", port))
             return port
-    raise RuntimeError("no port is free")
 
 
 def toml(table):
@@ -393,9 +392,7 @@ class Tree:
         self.fill()
         there = [agent for agent in self if agent.name not in without]
         self.start(there)
-        self.is_ready(*there)
-        self.settles(*there)
-        return there
+        self.is_well(*there)
 
     def ready(self, agents=()):
         """Whether each agent comes to have its parent and a whole table."""
@@ -425,6 +422,11 @@ class Tree:
     def settles(self, *agents):
         """Asserts that they do, or these agents."""
         sure(self.right(agents=agents), "other settings than the root's:", self.wrong(agents))
+
+    def is_well(self, *agents):
+        """Asserts that they come to be ready, and to have the settings of the root's folder."""
+        self.is_ready(*agents)
+        self.settles(*agents)
 
     def wait(self, *number):
         """Waits until all agents have what the root's folder has, or a change of this number."""

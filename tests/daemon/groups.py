@@ -32,15 +32,10 @@ def here(tree, *words):
 
 @of_tree(SHAPE, notes_changes, patient, root_has(round="1h"), runs=False)
 def a_group_has_its_own_value_until_it_is_that_of_all(tree, root, left, leaf, right):
-
-    def is_right():
-        tree.is_ready()
-        tree.settles()
-
     for name, value in (("colour", "green"), ("size@eu", 1), ("size@us", 2), ("other", 3)):
         tree.write(name, value)
     tree.start()
-    is_right()
+    tree.is_well()
     here(tree, "publish", "colour@canary", "blue")
     here(tree, "publish", "colour@eu", "white")
     # that of the group which an agent names first
@@ -61,7 +56,7 @@ def a_group_has_its_own_value_until_it_is_that_of_all(tree, root, left, leaf, ri
     shutil.rmtree(right.settings)
     for agent in (right, left, root):
         agent.restart()
-    is_right()
+    tree.is_well()
     sure(not root.status()["held"], root.status())
     tree.wait()
     # (it may have begun with the table, and been told what changed since after that)
@@ -75,7 +70,7 @@ def a_group_has_its_own_value_until_it_is_that_of_all(tree, root, left, leaf, ri
                        ("canary", "the time is up: left is not connected\n")):
         root.refuses(why, "wait", "--group", group, "--timeout", "1s")
     tree.start([left, leaf])
-    is_right()
+    tree.is_well()
     # the one for all is there at once where the others go
     here(tree, "unset", "colour@eu")
     sure(right.files()["colour"] == b"grey", right.files())

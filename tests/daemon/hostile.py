@@ -87,8 +87,7 @@ def what_a_child_reports_of_others_harms_nobody(tree, root, left, right, evil):
     above = lambda agent: agent.parent.name if agent.parent else ""
     becomes(seen, sorted((it.name, above(it), 77 * (it is evil)) for it in tree))
     evil.start()
-    tree.settles()
-    tree.is_ready()
+    tree.is_well()
 
 
 def fill(tree):
@@ -160,8 +159,7 @@ def a_hello_of_garbage_is_refused(tree, root):
     with bounded(root, 32):
         by_the_thousand(tree)
     tree["evil"].start()
-    tree.settles()
-    tree.is_ready()
+    tree.is_well()
 
 
 def by_the_thousand(tree):

@@ -399,8 +399,7 @@ def who_finds_its_configuration_spoiled_ends_and_says_so(tree):
         time.sleep(3)
         for unit in units:
             unit.tend()
-        tree.is_ready()
-        tree.settles()
+        tree.is_well()
     begins = "rignoldad: its memory is spoiled: "
     sure(whys and all(why.startswith(begins) for why in whys), whys)
 

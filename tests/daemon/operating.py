@@ -181,8 +181,7 @@ def a_folder_under_git_goes_back(tree, root, left):
     tree.start()
     root.becomes(held=8)
     root.ask("confirm")
-    tree.is_ready()
-    tree.settles()
+    tree.is_well()
 
     def git(*words):
         done = ran("git", "-c", "user.name=x", "-c", "user.email=x", *words, cwd=root.truth,

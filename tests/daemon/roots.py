@@ -27,8 +27,7 @@ def begin(tree):
     tree.start()
     sure(until(tree.root.status), tree.root.text())
     tree.root.ask("promote", "--as-is")
-    tree.is_ready()
-    tree.settles()
+    tree.is_well()
 
 
 def alive(tree):

@@ -77,8 +77,7 @@ def the_last_release_and_this_one_make_a_tree(tree):
             # (by the oldest version that both know, no way would be said)
             becomes(lambda: [it.status().get("way") for it in agents], whole, agent.name)
         tree.root.ask("round")
-        tree.is_ready()
-        tree.settles()
+        tree.is_well()
 
 
 def passed(tree, relays, act=lambda: None):
@@ -188,8 +187,7 @@ def begun(shape):
         # (a small table would come again after a few items)
         tree.write("bulk", b"x" * 500_000)
         tree.start()
-        tree.is_ready()
-        tree.settles()
+        tree.is_well()
         rests(tree)
         yield tree
         tree.root.ask("round")

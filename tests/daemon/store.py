@@ -167,8 +167,7 @@ def losses_in_a_store_lose_nothing():
         sure(states == (["connected", "closed"] * len(states))[:len(states)], text)
         for agent in (tree.root, tree["left"]):
             agent.restart()
-        tree.is_ready()
-        tree.settles()
+        tree.is_well()
 
 
 @test()
