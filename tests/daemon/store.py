@@ -33,7 +33,6 @@ class Redis:
         self.password = self.home / "password"
         self.password.write_text("a word\n")
         self.file, self.kept = self.home / "dump.rdb", self.home / "backup"
-        self.process = None
 
     def __enter__(self):
         self.start()
@@ -51,10 +50,8 @@ class Redis:
         sure(until(lambda: self.ask("PING") == b"PONG\n"), "there is no server")
 
     def kill(self):
-        if self.process:
-            self.process.kill()
-            self.process.wait()
-            self.process = None
+        self.process.kill()
+        self.process.wait()
 
     def at(self, agent):
         """From its next start on an agent knows how to ask it."""
