@@ -29,8 +29,6 @@
  *     hand ITEM            an item that is not yet handed on
  *     item ITEM            an item was received, or at the root published
  *     acked NAME N         how many items this child has acknowledged in the count that ends
- *     ignored NAME N       how many acknowledgements of this child changed nothing, in this life
- *     old N                how many frames were not new, in this life
  *     ended WHY            upstream: all is acknowledged after TERM; turns: the end came before
  */
 #define _GNU_SOURCE
@@ -250,10 +248,9 @@ static void publish(void) {
 static void end_count(void) {
     for (unsigned i = 0; i < count_of_children; i++) {
         struct child *child = &children[i];
-        fprintf(log_file, "acked %s %" PRIu64 "\nignored %s %" PRIu64 "\n", child->name,
-                child->link.acknowledged - child->acked_before, child->name, child->link.ignored);
+        fprintf(log_file, "acked %s %" PRIu64 "\n", child->name,
+                child->link.acknowledged - child->acked_before);
     }
-    fprintf(log_file, "old %" PRIu64 "\n", node.old_frames);
 }
 
 /* Writes what is not yet handed on to the slowest child. The first item of it may be in the child's

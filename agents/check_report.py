@@ -6,28 +6,24 @@ that `stab tree` accepts. Where it has backlogs, the report counts from a moment
 them is what the parent of its node had for the node. Prints `obeys`, or the first point that is
 broken, and ends with 0 or 1.
 """
+import itertools
 import json
 import re
 import sys
+from pathlib import Path
 
 NUMBER = "(?:0|[1-9][0-9]*)"
-
-
-def is_subsequence(part, whole):
-    """Whether some items of `whole`, in their order, are `part`."""
-    rest = iter(whole)
-    return all(item in rest for item in part)
 
 
 def longest_prefix_within(items, whole):
     """How many of the first `items` are some items of `whole`, in their order."""
     rest = iter(whole)
-    count = 0
-    for item in items:
-        if item not in rest:
-            break
-        count += 1
-    return count
+    return sum(1 for _ in itertools.takewhile(lambda item: item in rest, items))
+
+
+def is_subsequence(part, whole):
+    """Whether some items of `whole`, in their order, are `part`."""
+    return longest_prefix_within(part, whole) == len(part)
 
 
 def obeys_link_law(parent, delivered, acked, capacity, frames):
@@ -50,11 +46,7 @@ def obeys_link_law(parent, delivered, acked, capacity, frames):
 
 def depth_of(name, parents):
     """How many links there are from the root to a node."""
-    depth = 0
-    while parents[name] is not None:
-        name = parents[name]
-        depth += 1
-    return depth
+    return 0 if parents[name] is None else 1 + depth_of(parents[name], parents)
 
 
 def parts_of(job):
@@ -159,9 +151,8 @@ def tree_fault(job, report):
 
 
 def main():
-    with open(sys.argv[1], encoding="utf-8") as job, \
-            open(sys.argv[2], encoding="utf-8", newline="") as report:
-        found = fault(json.load(job), report.read())
+    job, report = (Path(word).read_bytes().decode() for word in sys.argv[1:])
+    found = fault(json.loads(job), report)
     print(found or "obeys")
     return 1 if found else 0
 

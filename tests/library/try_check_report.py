@@ -12,28 +12,22 @@ sys.path.insert(0, f"{TOP}/agents")
 import check_report  # noqa: E402
 
 
-# What the logs have when b is killed alone, and what comes then: r is the root, a its child, and b
-# and c are those of a. a has 7 and 8, which c has acknowledged, and b has acknowledged 7 alone; r
-# has 9 as well, and begins with a when all begin. b comes back with nothing.
-LOGS = {
-    "r": ["count -", "child a 0 0", "item 7", "item 8", "item 9", "count -", "child a 2 2",
-          "hand 9"],
-    "a": ["count 5", "child b 0 0", "child c 0 0", "item 7", "item 8", "count 1", "child b 1 1",
-          "child c 2 2", "hand 8"],
-    "b": ["count 9"],
-    "c": ["count 4", "item 7", "item 8"],
-}
-LATER = {
-    "r": ["acked a 1", "ended upstream"],
-    "a": ["item 9", "acked b 2", "acked c 1", "ended upstream"],
-    "b": ["item 66", "item 8", "item 9", "ended upstream"],
-    "c": ["item 9", "ended upstream"],
-}
+# What the logs have when all begin, what more when b is killed alone, and what comes then: r is the
+# root, a its child, and b and c are those of a. a has 7 and 8, which c has acknowledged, and b has
+# acknowledged 7 alone; r has 9 as well. b comes back with nothing.
+FIRST = {"r": ["count -", "child a 0 0"], "a": ["count 5", "child b 0 0", "child c 0 0"],
+         "b": ["count 9"], "c": ["count 4"]}
+THEN = {"r": ["item 7", "item 8", "item 9", "count -", "child a 2 2", "hand 9"],
+        "a": ["item 7", "item 8", "count 1", "child b 1 1", "child c 2 2", "hand 8"],
+        "c": ["item 7", "item 8"]}
+LATER = {"r": ["acked a 1", "ended upstream"],
+         "a": ["item 9", "acked b 2", "acked c 1", "ended upstream"],
+         "b": ["item 66", "item 8", "item 9", "ended upstream"], "c": ["item 9", "ended upstream"]}
 
 
-def write(logs, mode):
+def write(logs):
     for name, lines in logs.items():
-        with open(f"{name}.log", mode, encoding="ascii") as file:
+        with open(f"{name}.log", "a", encoding="ascii") as file:
             file.write("".join(line + "\n" for line in lines))
 
 
@@ -50,14 +44,13 @@ def counts():
         frames = [[2, 66]] if agent is b else []
         agent.frames = SimpleNamespace(contents=lambda frames=frames: frames)
         agent.acks = SimpleNamespace(contents=list)
-    write({name: lines[:lines.index("item 7")] if "item 7" in lines else lines
-           for name, lines in LOGS.items()}, "w")
+    write(FIRST)
     first = {agent: run_tree.Found(agent) for agent in tree.agents}
-    write(LOGS, "w")
+    write(THEN)
     then = {agent: run_tree.Found(agent) for agent in (r, a, b)}
     for agent in tree.agents:
         agent.since = {above: (then if agent is b else first)[above] for above in agent.path()}
-    write(LATER, "a")
+    write(LATER)
     return {agents[-1].name: tree.job_and_report(agents, since)
             for agents, since in tree.counts()}
 
