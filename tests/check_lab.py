@@ -4,11 +4,10 @@ break the law is played again here, with objects of the ends themselves, and the
 its lists. The last line is 'N passed, M failed'."""
 import ast
 import base64
-import importlib.util
 import json
 import os
 import re
-import subprocess
+import runpy
 import sys
 import tempfile
 from pathlib import Path
@@ -16,7 +15,7 @@ from pathlib import Path
 TOP = Path(__file__).resolve().parent.parent
 sys.path.insert(0, str(TOP / "tools"))
 sys.path.insert(0, str(TOP / "lab/ends"))
-from programs import Cases  # noqa: E402
+from programs import Cases, ran  # noqa: E402
 
 NOT_DELIVERED = "counts as acknowledged and was not delivered"
 NOT_FIRST = NOT_DELIVERED + ", and it is not among the first 3"
@@ -165,8 +164,7 @@ SPOILED = [
 
 
 def judged(ends, *words, **more):
-    return subprocess.run([sys.executable, TOP / "lab/check_ends.py", ends, *words],
-                          capture_output=True, text=True, timeout=400, **more)
+    return ran(sys.executable, TOP / "lab/check_ends.py", ends, *words, timeout=400, **more)
 
 
 # ---- a run, played again
@@ -183,19 +181,16 @@ def broken(delivered, offered, acked, strays, may_miss):
 
 def replayed(file, said, page, misses):
     """What is wrong with a run that the lab says to break the law, or None."""
-    packed = re.search(r"#run=([\w-]+)", page)[1]
-    job = json.loads(base64.urlsafe_b64decode(packed + "=="))["job"]
-    played = re.search(r"#job=([\w-]+)", page)[1]
-    if json.loads(base64.urlsafe_b64decode(played + "==")) != job:
+    run, job = (json.loads(base64.urlsafe_b64decode(packed + "=="))
+                for packed in re.findall(r"#(?:run|job)=([\w-]+)", page))
+    if run["job"] != job:
         return "the two links have other events"
     lines = [line for line in said.splitlines() if re.match(r" *\d+  ", line)]
     if not said.startswith(f"BROKEN after {len(lines)} events") or len(lines) != len(job["events"]):
         return "there are more or fewer events"
-    spec = importlib.util.spec_from_file_location("played", file)
-    module = importlib.util.module_from_spec(spec)
-    spec.loader.exec_module(module)
+    ends = runpy.run_path(str(file))
     begun = re.search(r"^start: .*, sender (\{.*\}), receiver (\{.*\})$", said, re.M)
-    sender, receiver = (kind.__new__(kind) for kind in (module.Sender, module.Receiver))
+    sender, receiver = (ends[kind].__new__(ends[kind]) for kind in ("Sender", "Receiver"))
     for end, memory in zip((sender, receiver), begun.groups()):
         vars(end).update(ast.literal_eval(memory))
     frames = [tuple(frame) for frame in job["start"]["frames"]]
@@ -253,13 +248,11 @@ def main():
 
         def holds(name, file, words, status, text):
             page.unlink(missing_ok=True)
-            said = judged(file, "-o", page, *words.split())
-            wrong = None
-            if said.returncode != status or text not in said.stdout + said.stderr:
-                wrong = said.stdout + said.stderr
-            elif status == 1:
-                wrong = replayed(file, said.stdout, page.read_text(), "--miss" not in words)
-            cases.holds(name, wrong is None, wrong)
+            found, said = judged(file, "-o", page, *words.split())
+            wrong = None if found == status and text in said else said
+            if not wrong and status == 1:
+                wrong = replayed(file, said, page.read_text(), "--miss" not in words)
+            cases.holds(name, not wrong, wrong)
 
         for name, words, status, text in CASES:
             holds(f"{name} {words}: {text.strip()}", TOP / f"lab/ends/{name}.py", words, status,
@@ -272,17 +265,18 @@ def main():
         browser, opened = Path(folder, "browser"), Path(folder, "opened")
         browser.write_text(f'#!/bin/sh\nprintf "%s" "$1" > "{opened}"\n')
         browser.chmod(0o755)
-        said = judged(TOP / "lab/ends/two_labels.py", "--open",
-                      env={**os.environ, "BROWSER": str(browser), "TMPDIR": folder})
+        two = TOP / "lab/ends/two_labels.py"
+        _, said = judged(two, "--open",
+                         env={**os.environ, "BROWSER": str(browser), "TMPDIR": folder})
         file = Path(opened.read_text().removeprefix("file://")) if opened.exists() else None
         cases.holds("--open", file and file.parent.parent == Path(folder)
-                    and "#run=" in file.read_text() and str(file) in said.stdout, said)
-        said = judged(TOP / "lab/ends/two_labels.py", "-o", Path(folder, "no/run.html"))
-        cases.holds("-o to a folder that is not there", said.returncode == 1
-                    and "the run cannot be written" in said.stderr, said)
-        said = judged(TOP / "lab/ends/two_labels.py")
-        longest = max(map(len, said.stdout.splitlines()))
-        cases.holds("no line is an address", longest < 160 and "#run" not in said.stdout, longest)
+                    and "#run=" in file.read_text() and str(file) in said, said)
+        status, said = judged(two, "-o", Path(folder, "no/run.html"))
+        cases.holds("-o to a folder that is not there",
+                    status == 1 and "the run cannot be written" in said, said)
+        _, said = judged(two)
+        longest = max(map(len, said.splitlines()))
+        cases.holds("no line is an address", longest < 160 and "#run" not in said, longest)
     return cases.sum_up()
 
 

@@ -4,7 +4,7 @@ from __future__ import annotations
 import functools
 import itertools
 from collections import deque
-from typing import Any, Callable, Iterable, Iterator, NamedTuple, Optional, Tuple
+from typing import Callable, Iterable, Iterator, NamedTuple, Optional, Tuple
 
 from judge.ends import End, Left
 
@@ -128,11 +128,9 @@ class Link:
         if not frames:
             return state
         given, receiver = self.receiver.call(receiver, "frame", *frames[0])
-        frames = frames[leaves:]
-        if given is None:
-            return frames, acks, sender, receiver, offered, acked, last, free
-        then = frames, acks, sender, receiver, offered, acked, given, free
-        if given > last:
+        newest = last if given is None else given
+        then = frames[leaves:], acks, sender, receiver, offered, acked, newest, free
+        if given is None or given > last:
             return then
         if given == self.oldest:
             return Broken(then, "an item is delivered that was not offered, nor on the line at the "
@@ -175,13 +173,6 @@ class Link:
         entries = entries[:place] + entries[place + 1:]
         return (entries, *state[1:]) if queue == 0 else (state[0], entries, *state[2:])
 
-    def after(self, state: State, events: list[Event]) -> Any:
-        """The state after these events, with the true numbers of its items, or how the last one
-        breaks the law."""
-        for event in events:
-            state = self.by_event[event](state)
-        return state
-
     def nearest(self, state: State) -> State:
         """The state with its items counted down, once no more of them may be missing: older ones
         may come no more, whatever their number."""
@@ -213,17 +204,22 @@ class Link:
             known[one] = count
         return count
 
+    def course(self, state: State) -> tuple[dict[State, bool], State]:
+        """The states after rounds from here on, each with whether its next round brings an item
+        more; and the first of them that comes again."""
+        passed: dict[State, bool] = {}
+        while state not in passed:
+            then, passed[state] = self.round(state)
+            state = then
+        return passed, state
+
     def exchanges(self) -> float:
         """How many rounds an item takes at last, where nothing is lost."""
         sender, receiver = next(iter(self.begun["sender"])), list(self.begun["receiver"])[-1]
-        state: State = ((), (), sender, receiver, 0, 0, self.oldest, self.most_missing)
-        seen: dict[State, tuple[int, int]] = {}
-        count = items = 0
-        while state not in seen:
-            seen[state] = count, items
-            state, more = self.round(state)
-            count, items = count + 1, items + more
-        return (count - seen[state][0]) / (items - seen[state][1])
+        passed, again = self.course(((), (), sender, receiver, 0, 0, self.oldest,
+                                     self.most_missing))
+        brought = list(passed.values())[list(passed).index(again):]
+        return len(brought) / sum(brought)
 
 
 class Search:
@@ -274,7 +270,10 @@ class Search:
                 if then.__class__ is Broken:
                     start, events = self.events_to(state)
                     events.append(link.moves[moves.index(move)][0])
-                    return Finding(start, events, link.after(start, events).why)
+                    # (once more, with the true numbers of the items)
+                    then = functools.reduce(lambda at, event: link.by_event[event](at), events,
+                                            start)
+                    return Finding(start, events, then.why)
                 if then[5] > most_acked:
                     then = link.nearest(then)
                 if then not in before:
@@ -293,20 +292,13 @@ class Search:
             count = link.rounds(state)
             if count is None or most and count > most:
                 start, events = self.events_to(state)
-                count = most or self.until_again(state)
+                # (without a bound they go on until all is as it was before)
+                count = most or len(link.course(state)[0])
                 return Finding(start, events + self.in_rounds(state, count),
                                f"in the last {count} rounds nothing was lost, and no item counts "
                                "as acknowledged")
             self.most_rounds = max(self.most_rounds, count)
         return None
-
-    def until_again(self, state: State) -> int:
-        """After how many rounds all is as it was at some moment before."""
-        passed: set[State] = set()
-        while state not in passed:
-            passed.add(state)
-            state, _ = self.link.round(state)
-        return len(passed)
 
     def in_rounds(self, state: State, count: int) -> list[Event]:
         """The events of so many rounds from here, without arrivals where nothing is on the line."""
