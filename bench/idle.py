@@ -7,11 +7,12 @@ they have by themselves, of whose folder nothing changes; and what one change co
 Each folder has the two programs of a daemon; all of them are measured at the same time, and the
 changes are made in turn, so that other work on the machine slows them alike. Without one it is what
 cargo built, or what is kept. The seconds are to be some rounds, which are 30 s here. Printed are
-seconds of processor an hour, as the kernel counts them for each thread, and how often in a second a
-thread waited, of leaves the median; and the same for each of the changes, which are published one
-after the other.
+seconds of processor an hour, and how often in a second a thread waited, of leaves the median; and
+the same for each of the changes, which are published one after the other.
 """
+import contextlib
 import pathlib
+import re
 import statistics
 import sys
 import time
@@ -23,13 +24,11 @@ from runner import options  # noqa: E402
 
 
 def spent(process):
-    """Nanoseconds of processor, and how often a thread waited."""
-    ran = waits = 0
-    for task in pathlib.Path(f"/proc/{process}/task").iterdir():
-        ran += int((task / "schedstat").read_text().split()[0])
-        lines = (task / "status").read_text().splitlines()
-        waits += next(int(line.split()[1]) for line in lines if line.startswith("voluntary"))
-    return ran, waits
+    """Nanoseconds of processor, by the clock that clock_getcpuclockid(3) names, and how often a
+    thread waited."""
+    tasks = pathlib.Path(f"/proc/{process}/task").glob("*/status")
+    waits = (re.search(r"^voluntary.*\s(\d+)", task.read_text(), re.M)[1] for task in tasks)
+    return time.clock_gettime_ns(~process << 3 | 2), sum(map(int, waits))
 
 
 def begin(folder, children):
@@ -48,8 +47,7 @@ def begin(folder, children):
 
 def cost_of_changes(trees, changes):
     """Prints what each change costs the root, where a tenth of them is made at each in turn."""
-    publishers = [tree.root.publisher() for tree in trees]
-    publishes = [it.__enter__() for it in publishers]
+    publishes = [tree.ends.enter_context(tree.root.publisher()) for tree in trees]
     costs = [[] for _ in trees]
     for _ in range(10):
         for tree, publish, cost in zip(trees, publishes, costs):
@@ -65,9 +63,9 @@ def cost_of_changes(trees, changes):
 
 def main():
     words = options("folders", children=2, seconds=60, changes=0)
-    folders = map(pathlib.Path, words.folders or [binaries()])
-    trees = [begin(folder, words.children) for folder in folders]
-    try:
+    with contextlib.ExitStack() as ends:
+        trees = [ends.enter_context(begin(pathlib.Path(folder), words.children))
+                 for folder in words.folders or [binaries()]]
         for tree in trees:
             if not until(lambda it=tree: not it.wrong(), 60):
                 sys.exit(f"idle: {len(tree.wrong())} agents of {tree.bin} lack settings")
@@ -87,9 +85,6 @@ def main():
                       f"{waits / took:.2f} waits a second")
         if words.changes:
             cost_of_changes(trees, words.changes)
-    finally:
-        for tree in trees:
-            tree.close()
 
 
 if __name__ == "__main__":

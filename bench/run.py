@@ -3,9 +3,8 @@
 
 Makes the jobs in bench/build/ (the same bytes each time), runs each job five times, and prints the
 median of the processor time, the events per second and the peak memory. Nothing is subtracted: a
-time is that of the whole process. Run it by hand; the gate does not. It needs Python 3.9 or later,
-and Debian's package time.
-It measures the program of ./stab, or the one that PROGRAM_STAB names.
+time is that of the whole process. It needs Debian's package time, and measures the program of
+./stab, or the one that PROGRAM_STAB names.
 
 With --runs it measures runs of worker threads instead, in turn with the same tree of threads over
 channels (channels.rs, which rustc builds): alone, and beside one busy loop for each processor.
@@ -21,12 +20,12 @@ import statistics
 import subprocess
 import sys
 import time
+from pathlib import Path
 
 HERE = os.path.dirname(os.path.abspath(__file__))
-BUILD = os.path.join(HERE, "build")
-TOP = os.path.dirname(HERE)
+BUILD = f"{HERE}/build"
 sys.dont_write_bytecode = True
-sys.path[:0] = [os.path.join(TOP, "tools"), os.path.join(TOP, "tests", "hostile")]
+sys.path[:0] = [f"{HERE}/../tools", f"{HERE}/../tests/hostile"]
 from largest import run  # noqa: E402
 from programs import built, options  # noqa: E402
 
@@ -40,22 +39,18 @@ def full_start(draw, capacity, labels):
     """A start with both queues full, and labels of which a quarter is out of range."""
     def label():
         return draw.randrange(65536) if draw.random() < 0.25 else draw.randrange(labels)
-    return {
-        "frames": [[label(), 4_000_000_000 + i] for i in range(capacity)],
-        "acks": [label() for _ in range(capacity)],
-        "send": label(),
-        "recv": label(),
-    }
+    return {"frames": [[label(), 4_000_000_000 + i] for i in range(capacity)],
+            "acks": [label() for _ in range(capacity)], "send": label(), "recv": label()}
 
 
 def acts(draw, capacity):
-    """The acts of one noisy round, as names with a place where a loss needs one."""
+    """The acts of one noisy round: a name, and of a loss the place."""
     for name in ("send_frame", "recv_frame", "send_ack", "recv_ack"):
         for _ in range(1 + draw.randrange(1 + capacity // 4)):
             keep = name.startswith("recv") and draw.random() < 0.1
-            yield (name + "_keep" if keep else name), None
+            yield [name + "_keep" * keep]
         if name.startswith("send") and draw.random() < 0.1:
-            yield name.replace("send", "lose"), draw.randrange(capacity)
+            yield [name.replace("send", "lose"), draw.randrange(capacity)]
 
 
 def link_job(capacity, count):
@@ -65,8 +60,7 @@ def link_job(capacity, count):
     while len(events) < count:
         events.append(["offer", item])
         item += 1
-        for name, place in acts(draw, capacity):
-            events.append(name if place is None else [name, place])
+        events += [act if len(act) > 1 else act[0] for act in acts(draw, capacity)]
     return {"capacity": capacity, "labels": labels, "start": start, "events": events[:count]}
 
 
@@ -80,17 +74,11 @@ def tree_job(count, capacity=4):
     steps = []
     while len(steps) < count:
         child = names[1 + draw.randrange(63)]
-        steps.extend([[child, "offer"]] * 4)
-        for name, place in acts(draw, 1):
-            steps.append([child, name] if place is None else [child, name, place])
-    return {
-        "capacity": capacity,
-        "labels": labels,
-        "tree": nodes,
-        "items": list(range(min(10_000, count // 10))),
-        "starts": [full_start(draw, capacity, labels) for _ in range(63)],
-        "schedule": steps[:count],
-    }
+        steps += [[child, "offer"]] * 4 + [[child, *act] for act in acts(draw, 1)]
+    return {"capacity": capacity, "labels": labels, "tree": nodes,
+            "items": list(range(min(10_000, count // 10))),
+            "starts": [full_start(draw, capacity, labels) for _ in range(63)],
+            "schedule": steps[:count]}
 
 
 def scripts_job():
@@ -102,49 +90,43 @@ def scripts_job():
 
 
 def jobs(quick):
-    """Yields the words of the program, the job's name, how many events it has, and the job."""
-    sizes = (1_000, 10_000, 100_000) if quick else (1_000, 10_000, 100_000, 1_000_000)
+    """Yields the command, the job's name, how many events it has, and what makes it."""
+    sizes = (1_000, 10_000, 100_000, 1_000_000)[:3 if quick else 4]
     for capacity in (1, 8, 64):
         for count in sizes:
             name = f"link of capacity {capacity}"
-            yield ["link"], name, count, lambda c=capacity, n=count: link_job(c, n)
+            yield "link", name, count, lambda c=capacity, n=count: link_job(c, n)
     for count in sizes:
         count = min(count, MAX_TREE_STEPS)
-        yield ["tree"], "64 nodes", count, lambda n=count: tree_job(n)
-    yield ["tree"], "64 nodes, no schedule", 0, lambda: tree_job(0)
-    yield ["tree"], "4 x 100,000 letters", 400_000, scripts_job
+        yield "tree", "64 nodes", count, lambda n=count: tree_job(n)
+    yield "tree", "64 nodes, no schedule", 0, lambda: tree_job(0)
+    yield "tree", "4 x 100,000 letters", 400_000, scripts_job
 
 
-def run_jobs():
-    """Yields a name for each run of worker threads, its number of items, and the places of the
-    parents of all nodes but the first."""
-    yield "chain of 2", 10_000, [0]
-    yield "chain of 64", 1_000, list(range(63))
-    yield "star of 64", 1_000, [0] * 63
-    yield "binary tree of 64", 1_000, [node // 2 for node in range(63)]
+# Of each run of worker threads the name, the number of items, and the places of the parents of all
+# nodes but the first.
+THREADS = [("chain of 2", 10_000, [0]), ("chain of 64", 1_000, [*range(63)]),
+           ("star of 64", 1_000, [0] * 63),
+           ("binary tree of 64", 1_000, [node // 2 for node in range(63)])]
 
 
 def run_job(items, parents):
     """The job of a run of capacity 1 from a clean start, without loss."""
-    tree = [{"name": "n0"}]
-    for node, parent in enumerate(parents):
-        tree.append({"name": f"n{node + 1}", "parent": f"n{parent}"})
-    return {"capacity": 1, "labels": 4, "tree": tree, "items": list(range(items))}
+    tree = [{"name": f"n{node}", "parent": f"n{parent}"} for node, parent in enumerate(parents, 1)]
+    return {"capacity": 1, "labels": 4, "tree": [{"name": "n0"}, *tree],
+            "items": list(range(items))}
 
 
 @contextlib.contextmanager
 def busy_loops(beside):
     """A busy loop for each processor, or none. A loop ends by itself after some minutes."""
-    loops = []
-    try:
+    words = ["sh", "-c", "ulimit -t 300; while :; do :; done"]
+    with contextlib.ExitStack() as loops:
         for _ in range(os.cpu_count() if beside else 0):
-            loops.append(subprocess.Popen(["sh", "-c", "ulimit -t 300; while :; do :; done"],
-                                          start_new_session=beside == "other sessions"))
+            loop = loops.enter_context(subprocess.Popen(
+                words, start_new_session=beside == "other sessions"))
+            loops.callback(loop.kill)
         yield
-    finally:
-        for loop in loops:
-            loop.kill()
-            loop.wait()
 
 
 def wall_of(words, all_items):
@@ -160,27 +142,26 @@ def wall_of(words, all_items):
 
 def measure_runs(program):
     """Measures each run of worker threads in turn with its channels, alone and beside loops."""
-    channels = os.path.join(BUILD, "channels")
-    subprocess.run(["rustc", "-O", "-o", channels, os.path.join(HERE, "channels.rs")], check=True)
+    channels = f"{BUILD}/channels"
+    subprocess.run(["rustc", "-O", "-o", channels, f"{HERE}/channels.rs"], check=True)
     print(f"{'run':18} {'beside':15} {'channels ms':>11} {'locks':>8} {'ratio':>6} {'words':>8} "
           f"{'ratio':>6}")
-    for name, items, parents in run_jobs():
-        path = path_of(["run"], name, items, lambda: run_job(items, parents))
-        nodes = len(parents) + 1
+    for name, items, parents in THREADS:
+        path = path_of("run", name, items, lambda: run_job(items, parents))
         full = f" received {items} acked ".encode()
-        columns = [([channels, str(items), *map(str, parents)], lambda _: True)]
-        for words in (["run"], ["run", "--words"]):
-            columns.append(([program, *words, path], lambda text: text.count(full) == nodes))
+        has_all = lambda said: said.count(full) == len(parents) + 1
+        columns = [([channels, str(items), *map(str, parents)], lambda _: True),
+                   ([program, "run", path], has_all), ([program, "run", "--words", path], has_all)]
         for beside in ("", "this session", "other sessions"):
             taken = [[] for _ in columns]
             for turn in range(TURNS):
                 with busy_loops(beside):
-                    for place in range(len(columns)):
-                        place = (place + turn) % len(columns)
-                        wall, all_delivered = wall_of(*columns[place])
-                        taken[place].append(wall)
+                    for place in range(turn, turn + len(columns)):
+                        words, all_items = columns[place % len(columns)]
+                        wall, all_delivered = wall_of(words, all_items)
+                        taken[place % len(columns)].append(wall)
                         if not all_delivered:
-                            print(f"{' '.join(columns[place][0][1:3])} has not delivered all")
+                            print(f"{' '.join(words[1:3])} has not delivered all")
             line = f"{name:18} {beside or 'nothing':15} {statistics.median(taken[0]) * 1000:11.0f}"
             for walls in taken[1:]:
                 ratio = statistics.median(it / peer for it, peer in zip(walls, taken[0]))
@@ -188,12 +169,11 @@ def measure_runs(program):
             print(line, flush=True)
 
 
-def path_of(words, name, count, job):
+def path_of(command, name, count, job):
     """The file of a job, made where it is not there yet."""
-    path = os.path.join(BUILD, f"{words[0]} {name} {count}.json".replace(" ", "_").replace(",", ""))
-    if not os.path.exists(path):
-        with open(path, "w", encoding="ascii") as out:
-            json.dump(job(), out, separators=(",", ":"))
+    path = Path(BUILD, f"{command} {name} {count}.json".replace(" ", "_").replace(",", ""))
+    if not path.exists():
+        path.write_text(json.dumps(job(), separators=(",", ":")))
     return path
 
 
@@ -207,18 +187,16 @@ def main():
         measure_runs(program)
         return
     print(f"{'job':24} {'events':>9} {'MB':>6} {'ms':>8} {'events/s':>11} {'peak MB':>8}")
-    for words, name, count, job in jobs(chosen.quick):
-        path = path_of(words, name, count, job)
-        runs = [run(program, words, path) for _ in range(RUNS)]
-        found = [(processor, peak) for _, processor, peak, status, _ in runs if status == 0]
-        if not found:
+    for command, name, count, job in jobs(chosen.quick):
+        path = path_of(command, name, count, job)
+        _, times, peaks, statuses, _ = zip(*(run(program, [command], path) for _ in range(RUNS)))
+        if any(statuses):
             print(f"{name:24} {count:9} refused")
             continue
-        seconds, peak = statistics.median(one[0] for one in found), max(one[1] for one in found)
+        seconds = statistics.median(times)
         rate = f"{count / seconds:11.0f}" if seconds and count else f"{'-':>11}"
-        megabytes = os.path.getsize(path) / 1e6
-        times = f"{seconds * 1000:8.1f} {rate} {peak / 2**20:8.1f}"
-        print(f"{name:24} {count:9} {megabytes:6.2f} {times}")
+        print(f"{name:24} {count:9} {path.stat().st_size / 1e6:6.2f} {seconds * 1000:8.1f} {rate} "
+              f"{max(peaks) / 2**20:8.1f}")
 
 
 if __name__ == "__main__":
