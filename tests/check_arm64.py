@@ -45,8 +45,8 @@ def tries_rows(cases, files):
     seed = int(os.environ.get("SEED") or random.SystemRandom().randrange(10**6))
     drawn = random.Random(seed)
     print(f"the rows are drawn from SEED={seed}")
-    rows = [(table.PROGRAM, row) for table in check_tables.TABLES for row in table.ROWS
-            if table is stab_examples or drawn.randrange(OF_ROWS) == 0]
+    rows = [("stab", row) for row in stab_examples.ROWS]
+    rows += [it for it in check_tables.ROWS if drawn.randrange(OF_ROWS) == 0]
     rows = [(called, row) for called, row in rows if called in files]
     with ThreadPoolExecutor(2) as threads:
         faults = threads.map(lambda of: check_tables.tried(of[0], files[of[0]], of[1]), rows)
@@ -117,7 +117,7 @@ def tried(cases, room):
     if before is None:
         print("arm64 is NOT TRIED: Debian's qemu-user and its libc6 for arm64 cannot be had here")
         return
-    files = {name: kept(room, name, "arm64/") for name in check_tables.PROGRAMS}
+    files = {name: kept(room, name, "arm64/") for name in check_tables.TABLES}
     for name in [it for it in files if files[it] is None]:
         print(f"{name} for arm64 is NOT TRIED: none was released of these sources")
         del files[name]

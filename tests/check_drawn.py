@@ -23,10 +23,10 @@ import sys
 from pathlib import Path
 
 TOP = Path(__file__).resolve().parent.parent
-sys.path[:0] = [str(TOP / "tools"), str(TOP / "tests/faults")]
+sys.path.insert(0, str(TOP / "tools"))
 
+from faults.reference import Link
 from programs import answered, counted, run_with
-from reference import Link
 from tree_picture import drawn
 
 DATA = TOP / "crates/gate_checks/data"

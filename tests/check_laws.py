@@ -19,10 +19,10 @@ import sys
 from pathlib import Path
 
 TOP = Path(__file__).resolve().parent.parent
-sys.path[:0] = [str(TOP / "tests/faults"), str(TOP / "tools")]
+sys.path.insert(0, str(TOP / "tools"))
+from faults.reference import ACTS, ROUND, Count, Link, Tree  # noqa: E402
+from faults.reference import random_tree, reading_round, strike_at_random  # noqa: E402
 from programs import Cases  # noqa: E402
-from reference import ACTS, ROUND, Count, Link, Tree  # noqa: E402
-from reference import random_tree, reading_round, strike_at_random  # noqa: E402
 
 EXTRA = ["send_frame", "send_ack", "recv_frame_keep", "recv_ack_keep"]
 

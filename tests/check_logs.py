@@ -23,10 +23,10 @@ from concurrent.futures import ThreadPoolExecutor
 from pathlib import Path
 
 TOP = Path(__file__).resolve().parent.parent
-sys.path[:0] = [str(TOP / part) for part in ("tests/faults", "tests/daemon", "tools")]
+sys.path[:0] = [str(TOP / part) for part in ("tests/daemon", "tools")]
 
 import long
-from logs import delivered, kept, path_of, text_of
+from faults.logs import delivered, kept, path_of, text_of
 from programs import answered, counted, run_with
 
 TREE = [{"name": "r"}, {"name": "a", "parent": "r"}]

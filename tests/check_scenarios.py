@@ -21,11 +21,11 @@ from concurrent.futures import ThreadPoolExecutor
 from pathlib import Path
 
 TOP = Path(__file__).resolve().parent.parent
-sys.path[:0] = [str(TOP / "tests/faults"), str(TOP / "tools")]
+sys.path.insert(0, str(TOP / "tools"))
 
+from faults.scenario import drawn_text, link_text, random_job, schedule_text, text_of
 from jobs import drawn_link
 from programs import answered, counted, run_with
-from scenario import drawn_text, link_text, random_job, schedule_text, text_of
 
 VALUES = [None, True, -1, 0, 1, 70000, 0.5, "", "x", "offer", "publish", "lose_frame", [], [0],
           [[0]], {}, {"send": 0, "recv": 1}, {"send": 0, "recv": 1, "acks": [1, 1, 1, 1]}]

@@ -19,23 +19,19 @@ import subprocess
 import sys
 import tempfile
 from concurrent.futures import ThreadPoolExecutor
+from importlib import import_module
 from pathlib import Path
 
 sys.path.insert(0, str(Path(__file__).resolve().parent.parent / "tools"))
 
 from programs import BUILT, TOP, answered, counted, run_with
-from tables import rignolda_bounds, rignolda_check, rignolda_draw, rignolda_explain
-from tables import rignolda_files, rignolda_jobs, rignolda_lines, rignolda_moment
-from tables import rignolda_scenario, stab_examples, stab_limits, stab_lines, stab_links
-from tables import stab_trees
-from tables.rows import Printed, Repeated
+from tables import stab_examples
 
-TABLES = [
-    rignolda_lines, rignolda_explain, rignolda_bounds, rignolda_check, rignolda_draw,
-    rignolda_files, rignolda_jobs, rignolda_moment, rignolda_scenario,
-    stab_examples, stab_lines, stab_links, stab_trees, stab_limits,
-]
-PROGRAMS = sorted({table.PROGRAM for table in TABLES})
+# The tables of each program, and each row with its program.
+TABLES = {"rignolda": "lines explain bounds check draw files jobs scenario",
+          "stab": "examples lines links trees limits"}
+ROWS = [(program, row) for program, names in TABLES.items() for name in names.split()
+        for row in import_module(f"tables.{program}_{name}").ROWS]
 # The faults of docs/FORMATS.md that no row brings about: those of reading, writing, memory and
 # threads, and the differences of links behind locks, which never come.
 WITHOUT_ROW = {
@@ -48,12 +44,6 @@ WITHOUT_ROW = {
 LONGEST = 60
 # How many rows run at the same time.
 THREADS = 4
-# How much is shown of a text that is wrong.
-SHOWN = 1000
-
-
-class Refused(Exception):
-    """A run that another one needs did not end well."""
 
 
 def fault_of(called, file, row, folder):
@@ -63,33 +53,19 @@ def fault_of(called, file, row, folder):
         # (its help names the program as it was called, and a file that was kept has a longer name)
         return answered(called, *words, given=given, executable=file, cwd=folder, timeout=LONGEST)
 
-    def printed(words):
+    def prints(words):
         """What a run with these words prints."""
         status, out, err = run(words)
         if status != 0 or err:
-            raise Refused(f"{' '.join(words)} ends with status {status}: {err}")
+            raise ValueError(f"{' '.join(words)} ends with status {status}: {err}")
         return out
 
     for beside, text in row.files.items():
         path = Path(folder) / beside
         path.parent.mkdir(exist_ok=True)
         path.write_bytes(text.encode())
-    given = row.given
-    if isinstance(given, Printed):
-        given = printed(given.words)
-    elif isinstance(given, Repeated):
-        given = given.text()
-    status, out, err = run(row.words, given)
-    if status != row.status:
-        return f"status {status}, and not {row.status}; it printed {(out + err)[:SHOWN]!r}"
-    for where, text, wanted in [("output", out, row.out), ("error", err, row.err)]:
-        if isinstance(wanted, str):
-            fault = None if text == wanted else f"it has to be {wanted!r}"
-        else:
-            fault = wanted.fault(text, printed)
-        if fault:
-            return f"standard {where}: {fault}; it is {text[:SHOWN]!r}"
-    return None
+    given = row.given(prints) if callable(row.given) else row.given
+    return row.fault(*run(row.words, given), prints)
 
 
 def tried(called, file, row):
@@ -97,7 +73,7 @@ def tried(called, file, row):
     with tempfile.TemporaryDirectory() as folder:
         try:
             return fault_of(called, file, row, folder)
-        except (Refused, ValueError, LookupError, OSError, subprocess.TimeoutExpired) as fault:
+        except (ValueError, LookupError, OSError, subprocess.TimeoutExpired) as fault:
             return f"{type(fault).__name__}: {fault}"
 
 
@@ -114,9 +90,8 @@ def faults_of_the_page():
 def faults_otherwise(file):
     """How the faults that the program stab answers differ from those of the page, or None. A fault
     without a row has at least to be a text of the program."""
-    rows = [row for table in TABLES if table.PROGRAM == "stab" for row in table.ROWS]
     answered = {(row.err.removeprefix("stab: ").rstrip("\n"), row.status)
-                for row in rows if isinstance(row.err, str) and row.err}
+                for program, row in ROWS if program == "stab" and row.err}
     code = Path(file).read_bytes()
     answered |= {fault for fault in WITHOUT_ROW if fault[0].encode() in code}
     differ = sorted(faults_of_the_page() ^ answered)
@@ -139,8 +114,8 @@ def script_otherwise(file):
 
 def main(*files):
     """Tries all rows with these programs."""
-    files = dict(zip(PROGRAMS, files))
-    runs = [(table.PROGRAM, files[table.PROGRAM], row) for table in TABLES for row in table.ROWS]
+    files = dict(zip(TABLES, files))
+    runs = [(program, files[program], row) for program, row in ROWS]
     # (the same program as LLVM builds it, if the gate has just done that)
     other = (TOP / BUILT["stab"]).with_suffix("")
     if os.environ.get("GATE_HAS_BUILT") and other.is_file():
@@ -155,4 +130,4 @@ def main(*files):
 
 
 if __name__ == "__main__":
-    sys.exit(run_with(main, *PROGRAMS))
+    sys.exit(run_with(main, *TABLES))

@@ -6,7 +6,7 @@ import functools
 import sys
 from pathlib import Path
 
-from reference import ACTS, Link
+from faults.reference import ACTS, Link
 
 sys.path.insert(0, str(Path(__file__).resolve().parent.parent.parent / "agents"))
 from check_report import is_subsequence, most_missing, obeys_tree_law  # noqa: E402

@@ -7,7 +7,7 @@ well formed; what is refused is in the tables of tests/check_tables.py."""
 import json
 
 from jobs import drawn_tree
-from reference import ACTS, ROUND, Count, Link, reading_round
+from faults.reference import ACTS, ROUND, Count, Link, reading_round
 from tables.reader import Pairs, begin, start_of, tree_of
 
 # What nodes may be called, some of them as steps are.

@@ -3,12 +3,10 @@ docs/FORMATS.md in their order, and the plain link and tree of tests/faults/refe
 
 import json
 import math
-import sys
+from functools import partial
 
-from tables.rows import Like, Row, TOP
-
-sys.path.insert(0, str(TOP / "tests/faults"))
-from reference import Link, Tree  # noqa: E402
+from faults.reference import Link, Tree
+from tables.rows import Row, like
 
 MOST_16, MOST_32, MOST_64 = 2**16 - 1, 2**32 - 1, 2**64 - 1
 LEVELS = 127
@@ -22,10 +20,6 @@ SHAPE = "job: wrong shape"
 
 class Refused(Exception):
     """A check that a job fails, and the text of its fault."""
-
-
-class NotWhole:
-    """A number that is not a whole one."""
 
 
 class Pairs(list):
@@ -42,25 +36,23 @@ def must(holds, fault=SHAPE):
 
 
 def number(text):
-    """A number of JSON: an int where it is a whole number."""
+    """A number of JSON: an int where it is a whole one, and a float where it is not."""
     if math.isinf(float(text)):
         raise ValueError("too large")
-    return int(text) if text.isdigit() and int(text) <= MOST_64 else NotWhole()
+    return int(text) if text.isdigit() and int(text) <= MOST_64 else float(text)
 
 
-def checked(value, level=1):
+def checked(value, level=0):
     """Passes over a value, and refuses more levels and halves of surrogate pairs."""
     if isinstance(value, str):
         value.encode()
-    elif isinstance(value, tuple):
-        # (a member: its name and its value)
-        for entry in value:
-            checked(entry, level)
-    elif isinstance(value, list):
+    elif isinstance(value, (list, tuple)):
+        # (a member, as a tuple of its name and its value, is no level)
+        level += isinstance(value, list)
         if level > LEVELS:
             raise ValueError("too deep")
         for entry in value:
-            checked(entry, level + 1)
+            checked(entry, level)
 
 
 def value_of(data):
@@ -88,12 +80,15 @@ def member(value, name, *absent):
     return found[-1]
 
 
-def whole(value, most):
+def whole(most, value):
     """Whether a value is a whole number up to this one."""
     return type(value) is int and value <= most
 
 
-def entries(value, is_one):
+is_label, is_item, is_number = (partial(whole, most) for most in (MOST_16, MOST_32, MOST_64))
+
+
+def entries(value, is_one=lambda _: True):
     """A list, and no object, of which each entry is one."""
     must(type(value) is list and all(map(is_one, value)))
     return value
@@ -102,26 +97,14 @@ def entries(value, is_one):
 # ---- parts of jobs
 
 
-def is_label(value):
-    return whole(value, MOST_16)
-
-
-def is_item(value):
-    return whole(value, MOST_32)
-
-
 def is_frame(value):
     return type(value) is list and len(value) == 2 and is_label(value[0]) and is_item(value[1])
-
-
-def is_anything(_):
-    return True
 
 
 def numbers_of(value):
     """The capacity and the number of labels of a link."""
     found = [member(value, name) for name in ("capacity", "labels")]
-    must(all(whole(of, MOST_64) for of in found))
+    must(all(map(is_number, found)))
     return [min(of, MOST_16) for of in found]
 
 
@@ -162,9 +145,9 @@ def script_of(value):
         must(all(isinstance(of, str) for of in lists))
         must(all(set(of) <= set(kind) for of, kind in zip(lists, LETTERS.values())))
         return max(map(len, lists)), 0
-    must(len(entries(member(value, "seed"), lambda of: whole(of, MOST_64))) == 2)
+    must(len(entries(member(value, "seed"), is_number)) == 2)
     length, *rates = [member(value, name) for name in ("length", "loss", "repeat")]
-    must(all(whole(of, MOST_64) for of in (length, *rates)))
+    must(all(map(is_number, (length, *rates))))
     return length, max(rates)
 
 
@@ -231,7 +214,7 @@ def link_of(data):
     """
     value = value_of(data)
     capacity, labels = numbers_of(value)
-    start, events = start_of(member(value, "start")), entries(member(value, "events"), is_anything)
+    start, events = start_of(member(value, "start")), entries(member(value, "events"))
     check_numbers(capacity, labels)
     must(len(events) <= 1_000_000, "job: too many events")
     must(all(map(is_link_event, events)), "job: bad event")
@@ -248,18 +231,18 @@ def tree_of(data):
     own, tree, clean = numbers_of(value), member(value, "tree"), ([], [], 0, MOST_16)
     items = entries(member(value, "items"), is_item)
     links, starts, scripts = (
-        has(value, name) and [of(one) for one in entries(member(value, name), is_anything)]
+        has(value, name) and [of(one) for one in entries(member(value, name))]
         for name, of in (("links", own_numbers_of), ("starts", start_of), ("scripts", script_of)))
     turns = member(value, "turns", 100_000)
-    must(whole(turns, MOST_64))
-    schedule = entries(member(value, "schedule", []), is_anything)
+    must(is_number(turns))
+    schedule = entries(member(value, "schedule", []))
     hold, openings = 0, None
     if version == 2:
         hold = member(value, "h")
-        must(whole(hold, MOST_64))
+        must(is_number(hold))
         if has(value, "openings"):
             openings = [entries(of, is_item)
-                        for of in entries(member(value, "openings"), is_anything)]
+                        for of in entries(member(value, "openings"))]
     check_numbers(*own)
     parents = parents_of(tree)
     children = [name for name, above in parents.items() if above is not None]
@@ -344,7 +327,7 @@ def report_of(data, words):
     begin(tree, words)
     heads = [f"\n{name} depth {len(list(tree.path(node)))} received "
              for node, name in enumerate(names)]
-    return Like(begins=heads[0][1:], parts=heads[1:], lines=2 * len(names))
+    return like(begins=heads[0][1:], parts=heads[1:], lines=2 * len(names))
 
 
 def row(name, words, given):

@@ -3,8 +3,6 @@ every job is `act_bounds.written`.)"""
 
 from tables.rows import Row
 
-PROGRAM = "rignolda"
-
 
 def counted(number, word):
     """At most `number` of something."""
@@ -68,15 +66,11 @@ FORK_TEXT = (
     + node_text("d", 2, 4, 0, 10, 7, (0, 5), (1, 3)))
 
 LONE = '{"version":1,"capacity":1,"labels":4,"tree":[{"name":"r"}],"items":[7,8],"starts":[]}'
-HANDMADE = [
-    ("a chain whose links differ", CHAIN, CHAIN_TEXT),
-    ("a fork whose root is not first", FORK, FORK_TEXT),
-    ("a lone root", LONE, root_text("r")),
-]
-
 
 ROWS = [
     Row(f"says when all arrives and what faults cost in {name}", ["bounds", "job"],
         files={"job": job}, out=text)
-    for name, job, text in HANDMADE
+    for name, job, text in [("a chain whose links differ", CHAIN, CHAIN_TEXT),
+                            ("a fork whose root is not first", FORK, FORK_TEXT),
+                            ("a lone root", LONE, root_text("r"))]
 ]

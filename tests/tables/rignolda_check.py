@@ -1,15 +1,13 @@
 """What `rignolda check` says of reports and links, and `rignolda bounds` of a job.
 
-There is a job of a chain of three nodes with a report that obeys, and the worst start of capacity 1
-with the text that `stab link` prints of it, and both with one part replaced. All is worked out by
-hand."""
+There is a job of a chain of three nodes with a report that obeys, one of a moment with another, and
+the worst start of capacity 1 with the text that `stab link` prints of it, all with one part
+replaced. All is worked out by hand."""
 
 import json
 
-from tables.rignolda_bounds import node_text, root_text
-from tables.rows import Row, WORST_TEXT, replaced
-
-PROGRAM = "rignolda"
+from tables.rignolda_bounds import LONE, node_text, root_text
+from tables.rows import Row, WORST_START, WORST_TEXT, replaced
 
 # The chain r, a, b, where a begins with 50, and each link with a stray.
 JOB = """\
@@ -32,20 +30,12 @@ items: 98 14 15 16
 """
 
 # The same as the text of a tree.
-TREE = """\
-r depth 0 received 7 acked -
-items: 10 11 12 13 14 15 16
-a depth 1 received 6 acked 7
-items: 50 99 13 14 15 16
-b depth 2 received 4 acked 6
-items: 98 14 15 16
-"""
+TREE = REPORT.replace(" ended upstream", "")
 
 # What is said of a text whose first line is another: that may be a text of the other kind of job.
-NO_LINK = "not a report: line 1 is not as the text of a link has it; the job is a link job: see \
-rignolda explain"
-NO_TREE = "not a report: line 1 is not as a report of this tree has it; the job is one of a tree: \
-see rignolda explain"
+NO_LINK, NO_TREE = (f"not a report: line 1 is not as {text} has it; the job is {job}: see rignolda "
+                    "explain" for text, job in [("the text of a link", "a link job"),
+                                                ("a report of this tree", "one of a tree")])
 
 # In all tables: a part of a text, what is there instead, and what is said: a verdict, which ends
 # its line, or a fault; or the number of the line that is not as it has to be. LAW is for all that
@@ -102,16 +92,7 @@ JOBS = [
     ("{", "", "job: not JSON"),
 ]
 
-# The worst start of capacity 1.
-LINK_JOB = """\
-{"capacity":1,"labels":4,
-"start":{"frames":[[2,99]],"acks":[0],"send":0,"recv":1},
-"events":[["offer",10],"recv_ack","send_ack",["offer",11],"recv_ack","recv_frame","send_ack",
-["offer",12],"recv_ack",["offer",13],"send_frame","recv_frame"]}"""
-
-# The link after it.
-LINK = WORST_TEXT
-
+# Of the text of the worst start.
 LINKS = [
     ("", "", "obeys\n"),
     ("label: 3\nrecv label: 3\nframes:\nacks:\nclosed: no",
@@ -141,9 +122,7 @@ offered: 11 10 12 13
 TURNS = REPORT.replace("ended upstream", "ended turns")
 OF_TURNS = [TURNS, TURNS.replace("acked 6", "acked 5")]
 
-# A tree of one node, and reports of it.
-LONE_JOB = '{"version":1,"capacity":1,"labels":4,"tree":[{"name":"r"}],"items":[7,8],"starts":[]}'
-
+# Of a tree of one node.
 LONE_REPORTS = [
     ("r depth 0 received 2 acked - ended upstream\nitems: 7 8\n", "obeys\n"),
     ("r depth 0 received 2 acked - ended turns\nitems: 7 8\n", "obeys\n"),
@@ -159,34 +138,82 @@ items of r: 7
 # Many items, as a job, an offer for each and lines have them; the texts have some 70,000 bytes.
 MANY = range(1000000, 1003000)
 MANY_WORDS = "".join(f" {item}" for item in MANY)
-MANY_ITEMS = ",".join(str(item) for item in MANY)
+LONG_JOB = json.dumps({"capacity": 1, "labels": 4, "items": [*MANY], "tree": [
+    {"name": "r"}, {"name": "a", "parent": "r"}], "starts": [{"send": 0, "recv": 1}]})
+LONG_REPORT = (f"r depth 0 received 3000 acked - ended upstream\nitems:{MANY_WORDS}\n"
+               f"a depth 1 received 3000 acked 3000 ended upstream\nitems:{MANY_WORDS}\n")
+LONG_LINK_JOB = json.dumps({"capacity": 1, "labels": 4, "start": {"send": 0, "recv": 1},
+                            "events": [["offer", item] for item in MANY]})
+LONG_LINK = (f"delivered:{MANY_WORDS}\noffered:{MANY_WORDS}\nacked: 3000\n"
+             "send label: 0\nrecv label: 3\nframes:\nacks:\nclosed: no\n")
 
-LONG_JOB = f"""\
-{{"version":1,"capacity":1,"labels":4,"tree":[{{"name":"r"}},{{"name":"a","parent":"r"}}],
-"items":[{MANY_ITEMS}],
-"starts":[{{"frames":[],"acks":[],"send":0,"recv":1}}]}}"""
+# The same chain from a moment on, at which r had 8 for a, and a had 7 for b; a stray was queued at
+# each.
+MOMENT = """\
+{"capacity":1,"labels":4,
+"tree":[{"name":"r"},{"name":"a","parent":"r"},{"name":"b","parent":"a"}],
+"items":[20,21,22,23,24],"backlogs":[[],[8],[7]],
+"starts":[{"frames":[[2,98]],"send":0,"recv":1},{"frames":[[2,99]],"send":0,"recv":1}]}"""
 
-LONG_REPORT = f"""\
-r depth 0 received 3000 acked - ended upstream
-items:{MANY_WORDS}
-a depth 1 received 3000 acked 3000 ended upstream
-items:{MANY_WORDS}
+# What each node received since: after its stray a misses three of 8, 20, 21, 22, 23, 24, and b
+# three of 7, 98, 22, 23, 24 after its own.
+SINCE = """\
+r depth 0 received 5 acked - ended upstream
+items: 20 21 22 23 24
+a depth 1 received 4 acked 6 ended upstream
+items: 98 22 23 24
+b depth 2 received 3 acked 5 ended upstream
+items: 99 23 24
 """
 
-LONG_LINK_JOB = f"""\
-{{"capacity":1,"labels":4,"start":{{"frames":[],"acks":[],"send":0,"recv":1}},
-"events":[{",".join(f'["offer",{item}]' for item in MANY)}]}}"""
+SINCE_REPORTS = [
+    ("", "", "obeys\n"),
+    ("received 3 acked 5 ended upstream\nitems: 99",
+     "received 4 acked 5 ended upstream\nitems: 99 7", "obeys\n"),
+    ("received 4 acked 6 ended upstream\nitems: 98 22 23 24\n"
+     "b depth 2 received 3 acked 5 ended upstream\nitems: 99 23 24",
+     "received 6 acked 6 ended upstream\nitems: 98 8 20 22 23 24\n"
+     "b depth 2 received 5 acked 7 ended upstream\nitems: 99 20 22 23 24", "obeys\n"),
+    # (of the 7 items that a has for b then, no more than 6 are offered where 5 are acknowledged)
+    ("received 4 acked 6 ended upstream\nitems: 98",
+     "received 6 acked 6 ended upstream\nitems: 98 8 20", "b: LAW"),
+    # (without its stray a may miss two items alone)
+    ("received 4 acked 6 ended upstream\nitems: 98", "received 3 acked 6 ended upstream\nitems:",
+     "a: LAW"),
+    ("acked 5 ended upstream", "acked 4 ended turns",
+     "b: a ended upstream with 5 items, and 4 of them are acknowledged\n"),
+    ("acked 6 ended upstream\nitems: 98 22 23 24\nb depth 2 received 3 acked 5",
+     "acked 6 ended turns\nitems: 98 22 23 24\nb depth 2 received 3 acked 4", "obeys\n"),
+    ("items: 20 21", "items: 21 20", """\
+r: its items are not the published ones
+published: 20 21 22 23 24
+items of r: 21 20 22 23 24
+"""),
+    ("acked -", "acked 7",
+     "r: it has a count of acknowledged items, and no link leads into the root\n"),
+    ("acked 6", "acked -", "a: it has no count of acknowledged items\n"),
+    ("acked 6", "acked 5", "a: r ended upstream with 6 items, and 5 of them are acknowledged\n"),
+    ("items: 98 22 23 24", "items: 98 23 22 24", "a: LAW"),
+    ("received 3 acked 5 ended upstream\nitems: 99",
+     "received 4 acked 5 ended upstream\nitems: 7 99", "b: LAW"),
+    ("items: 99 23", "items: 99 023", 6),
+]
 
-LONG_LINK = f"""\
-delivered:{MANY_WORDS}
-offered:{MANY_WORDS}
-acked: 3000
-send label: 0
-recv label: 3
-frames:
-acks:
-closed: no
-"""
+# Without backlogs the same report is one of a whole run, in which no more is acknowledged than the
+# root has.
+MOMENTS = [
+    (',"backlogs":[[],[8],[7]]', "", "a: LAW"),
+    ("[[],[8],[7]]", "[[],[8],[]]", "b: LAW"),
+    ("[[],[8],[7]]", "[[],[8]]", "backlogs: wrong number of backlogs"),
+    ("[[],[8],[7]]", "[[],[8],[7],[]]", "backlogs: wrong number of backlogs"),
+    ("[[],[8],[7]]", "[[1],[8],[7]]", "backlogs: backlog at the root"),
+    ("[[],[8],[7]]", "[[],[8],7]", "backlogs: wrong shape"),
+    ("[[],[8],[7]]", "[[],[8],[-7]]", "backlogs: wrong shape"),
+    ("[[],[8],[7]]", "[[1],7]", "backlogs: wrong shape"),
+    ("[[],[8],[7]]", "null", "backlogs: wrong shape"),
+    ('"labels":4', '"labels":3', "job: too few labels"),
+    ("[[2,99]]", "[[2,99],[2,97]]", "start: too many frames"),
+]
 
 
 def said_of(name, words, files, said):
@@ -235,12 +262,12 @@ NO_LINK_JOB = "job: wrong shape for a link job, since it has no member tree; see
 
 # Jobs without the shape that the command wants.
 KINDS = [
-    ("bounds", LINK_JOB, IS_LINK_JOB),
-    ("bounds", replaced(LINK_JOB, '"labels":4', '"labels":3'), IS_LINK_JOB),
-    ("bounds", replaced(LINK_JOB, '"recv_frame"', '"jump"'), IS_LINK_JOB),
-    ("bounds", replaced(LINK_JOB, '"labels":4', '"labels":4,"version":4'), IS_LINK_JOB),
-    ("bounds", replaced(LINK_JOB, '"labels":4', '"labels":4,"tree":null'), NO_TREE_JOB),
-    ("bounds", replaced(LINK_JOB, '"events"', '"event"'), NO_TREE_JOB),
+    ("bounds", WORST_START, IS_LINK_JOB),
+    ("bounds", replaced(WORST_START, '"labels":4', '"labels":3'), IS_LINK_JOB),
+    ("bounds", replaced(WORST_START, '"recv_frame"', '"jump"'), IS_LINK_JOB),
+    ("bounds", replaced(WORST_START, '"labels":4', '"labels":4,"version":4'), IS_LINK_JOB),
+    ("bounds", replaced(WORST_START, '"labels":4', '"labels":4,"tree":null'), NO_TREE_JOB),
+    ("bounds", replaced(WORST_START, '"events"', '"event"'), NO_TREE_JOB),
     ("bounds", replaced(JOB, '"tree"', '"tre"'), NO_TREE_JOB),
     ("bounds", replaced(JOB, '"items"', '"item"'), NO_TREE_JOB),
     ("bounds", "{}", NO_TREE_JOB),
@@ -251,52 +278,40 @@ KINDS = [
     ("check", replaced(JOB, '"items"', '"item"'), NO_TREE_JOB),
 ]
 
+
+def all_checked(what, job, text, table):
+    """Rows that check a text, one part of it replaced."""
+    return [checked(f"{what}: {part!r}, {instead!r}", job, replaced(text, part, instead), said)
+            for part, instead, said in table]
+
+
 ROWS = [
-    checked("names the kind of a link job", LINK_JOB, REPORT, NO_LINK),
-    checked("names the kind of a link job beside the text of a tree", LINK_JOB, TREE, NO_LINK),
-    checked("names the kind of a job of a tree", JOB, LINK, NO_TREE),
+    checked("names the kind of a link job", WORST_START, REPORT, NO_LINK),
+    checked("names the kind of a link job beside the text of a tree", WORST_START, TREE, NO_LINK),
+    checked("names the kind of a job of a tree", JOB, WORST_TEXT, NO_TREE),
     Row("writes the bounds of each node", ["bounds", "job"], files={"job": JOB}, out=BOUNDS),
     Row("reads a job for its bounds", ["bounds"], JOB, out=BOUNDS),
     Row("reads a report", ["check", "job", "-"], REPORT, files={"job": JOB}, out="obeys\n"),
     Row("reads a job", ["check", "-", "report"], JOB, files={"report": REPORT}, out="obeys\n"),
-]
-ROWS += [
-    checked(f"names the part of a {kind} that is broken: {part!r}, {instead!r}", job,
-            replaced(text, part, instead), said)
-    for kind, job, text, table in [
-        ("report", JOB, REPORT, REPORTS),
-        ("tree", JOB, TREE, TREES),
-        ("link", LINK_JOB, LINK, LINKS),
-    ]
-    for part, instead, said in table
-]
-ROWS += [
-    checked(f"refuses a job as stab does: {instead or 'no ' + part}", replaced(JOB, part, instead),
-            REPORT, said)
-    for part, instead, said in JOBS
-]
-ROWS += [
-    said_of(f"has no bounds of a job that is refused: {instead or 'no ' + part}",
-            ["bounds", "job"], {"job": replaced(JOB, part, instead)}, said)
-    for part, instead, said in JOBS
-]
-ROWS += [
-    checked(f"reads a report of a lone root: {report.splitlines()[0]}", LONE_JOB, report, said)
-    for report, said in LONE_REPORTS
-]
-ROWS += [
-    checked(f"obeys where all made their turns, {place}", JOB, report, "obeys\n")
-    for place, report in enumerate(OF_TURNS)
-]
-ROWS += [
+    *all_checked("names the part of a report that is broken", JOB, REPORT, REPORTS),
+    *all_checked("names the part of a tree that is broken", JOB, TREE, TREES),
+    *all_checked("names the part of a link that is broken", WORST_START, WORST_TEXT, LINKS),
+    *all_checked("checks a report of a moment", MOMENT, SINCE, SINCE_REPORTS),
+    *(checked(f"checks by a job: {part!r}, {instead!r}", replaced(job, part, instead), report, said)
+      for job, report, table in [(JOB, REPORT, JOBS), (MOMENT, SINCE, MOMENTS)]
+      for part, instead, said in table),
+    *(said_of(f"has no bounds of a job that is refused: {instead or 'no ' + part}",
+              ["bounds", "job"], {"job": replaced(JOB, part, instead)}, said)
+      for part, instead, said in JOBS),
+    *(checked(f"reads a report of a lone root: {report.splitlines()[0]}", LONE, report, said)
+      for report, said in LONE_REPORTS),
+    *(checked(f"obeys where all made their turns, {place}", JOB, report, "obeys\n")
+      for place, report in enumerate(OF_TURNS)),
     checked("reads a long report", LONG_JOB, LONG_REPORT, "obeys\n"),
     checked("reads a long text of a tree", LONG_JOB, LONG_REPORT.replace(" ended upstream", ""),
             "obeys\n"),
     checked("reads a long text of a link", LONG_LINK_JOB, LONG_LINK, "obeys\n"),
-]
-ROWS += [
-    said_of(f"{command} says which shape a job has to have: {job[:40]}, {place}",
-            [command, "job", *["report"] * (command == "check")], {"job": job, "report": REPORT},
-            said)
-    for place, (command, job, said) in enumerate(KINDS)
+    *(said_of(f"{command} says which shape a job has to have: {job[:40]}, {place}",
+              [command, "job", *["report"] * (command == "check")], {"job": job, "report": REPORT},
+              said) for place, (command, job, said) in enumerate(KINDS)),
 ]

@@ -1,9 +1,7 @@
 """What `rignolda explain` says of mistakes that people make when they write a job."""
 
 from tables.reader import row
-from tables.rows import Like, Repeated, Row, replaced
-
-PROGRAM = "rignolda"
+from tables.rows import Row, like, repeated, replaced
 
 # A job of a chain of three nodes, with every member.
 JOB = """\
@@ -19,10 +17,10 @@ LINK_JOB = """\
 "start":{"frames":[[2,99]],"acks":[0],"send":0,"recv":1},
 "events":[["offer",10],"recv_ack"]}"""
 
-# In all tables: a part of the job, what is there instead, and the findings, each a line. The last
-# line of an explanation, what `stab` says of the job, is found by reader.py.
-
-IGNORED = [
+# Tables by what they show and the job: a part of it, what is there instead, and the findings, each
+# a line. The last line of an explanation, what `stab` says of the job, is found by reader.py.
+TABLES = {}
+TABLES["names members that no reader looks at", JOB] = [
     ('"schedule"', '"shedule"',
      'shedule: ignored, since a job has no such member; did you mean "schedule"?'),
     ('"openings"', '"opening"',
@@ -38,8 +36,7 @@ IGNORED = [
     ('{"name":"hub"}', '{"name":"hub","colour":1}',
      "tree[0].colour: ignored, since a node has no such member"),
 ]
-
-NODES = [
+TABLES["says which node of the tree is wrong", JOB] = [
     ('"parent":"site-a"', '"parent":"sitea"',
      'tree[2].parent: "sitea" is no node; did you mean "site-a"?'),
     ('"name":"rack_1"', '"name":"site-a"',
@@ -51,8 +48,7 @@ NODES = [
     ('"parent":"site-a"', '"parent":"rack_1"',
      "tree[2]: its parents lead round in a circle, and never to the root"),
 ]
-
-ENTRIES = [
+TABLES["says which entry has no link or node", JOB] = [
     ('"starts":[', '"starts":[{"send":0,"recv":1},',
      "starts: 3 entries for 2 links; there is one for each node but the root, in their order"),
     ("[[],[50],[]]", "[[],[50]]",
@@ -63,8 +59,7 @@ ENTRIES = [
     ("[[2,99]]", "[[2,99],[2,99]]",
      "starts[1].frames (the link into rack_1): 2 frames, and the capacity is 1"),
 ]
-
-NUMBERS = [
+TABLES["says which number is out of range", JOB] = [
     ('"capacity":1', '"capacity":3',
      "labels: 4 are too few for the capacity 3; the number of labels is a whole number from "
      "twice the capacity and two to 1000"),
@@ -76,8 +71,7 @@ NUMBERS = [
      "links[1].labels (the link into rack_1): 5 are too few for the capacity 2; the number of "
      "labels is a whole number from twice the capacity and two to 1000"),
 ]
-
-STEPS = [
+TABLES["says which step is wrong", JOB] = [
     ('"recv_frame"', '"recvframe"',
      'schedule[1][1]: "recvframe" is no event; did you mean "recv_frame"?'),
     ('["site-a","offer"]', '{"site-a":"offer"}',
@@ -87,9 +81,8 @@ STEPS = [
     ('["site-a","offer"]', '["hub","offer"]',
      'schedule[0]: "hub" is the root, and no link leads into it'),
 ]
-
 # Members that `stab` ignores, and that other commands read.
-BESIDE = [
+TABLES["says what other commands refuse", JOB] = [
     ('"items"', '"steps":{},"items"', "steps: an object; the steps are a list of steps"),
     ('"items"', '"steps":[["site-a","offer"],["site-a","ofer"],5],"items"',
      'steps[1][1]: "ofer" is no event; did you mean "offer"?',
@@ -142,8 +135,7 @@ BESIDE = [
      'from: the text "0"; the places where counts begin are a list of whole numbers, one for '
      "each node"),
 ]
-
-SHAPES = [
+TABLES["says where a shape is wrong", JOB] = [
     ('"capacity"', '"capcity"', "capacity: missing; a capacity is a whole number from 1 to 64",
      'capcity: ignored, since a job has no such member; did you mean "capacity"?'),
     ("[7,8]", '[7,"8"]', 'items[1]: the text "8"; an item is a whole number from 0 to 4294967295'),
@@ -158,8 +150,7 @@ SHAPES = [
     ('"h":2,', "",
      'h: missing; "h" is a whole number from 0 to 64, the most items that an opening has'),
 ]
-
-SCRIPTS = [
+TABLES["says where a script is wrong", JOB] = [
     ("PD", "pd",
      'scripts[0].frames_out[0]: the text "pd"; the acts for what is sent are a text of the '
      "letters P, D and E"),
@@ -173,8 +164,7 @@ SCRIPTS = [
      "scripts[1].loss (the link into rack_1): 1001; the loss is a whole number up to 1000, how "
      "many of a thousand are dropped"),
 ]
-
-LINK_JOBS = [
+TABLES["says what is wrong with a link job", LINK_JOB] = [
     ('["offer",10]', '"offer",["recv_ack",1],"recvack",["lose_ack",70000]',
      'events[0]: an offer is written ["offer", item], the item from 0 to 4294967295',
      "events[1]: this event has no number, and is written as a word alone",
@@ -187,8 +177,7 @@ LINK_JOBS = [
      "labels: 1001 are too many; the number of labels is a whole number from twice the capacity "
      "and two to 1000", "version: ignored, since a link job has no such member"),
 ]
-
-NO_JSON = [
+TABLES["says where a job is not JSON", JOB] = [
     ('"items"', '/* two */"items"', "line 3, column 1: not JSON; JSON has no comments"),
     ("[7,8]", "[7,8,]",
      "line 3, column 14: not JSON; no comma may be after the last entry or member"),
@@ -197,34 +186,13 @@ NO_JSON = [
      "line 3, column 1: not JSON; a text is written in double quotation marks"),
 ]
 
-TABLES = [
-    ("names members that no reader looks at", JOB, IGNORED),
-    ("says which node of the tree is wrong", JOB, NODES),
-    ("says which entry has no link or node", JOB, ENTRIES),
-    ("says which number is out of range", JOB, NUMBERS),
-    ("says which step is wrong", JOB, STEPS),
-    ("says what other commands refuse", JOB, BESIDE),
-    ("says where a shape is wrong", JOB, SHAPES),
-    ("says where a script is wrong", JOB, SCRIPTS),
-    ("says what is wrong with a link job", LINK_JOB, LINK_JOBS),
-    ("says where a job is not JSON", JOB, NO_JSON),
-]
-
-# What the first bytes show: the bytes, and the explanation.
-BYTES = [
-    ("an empty file", b"", """\
-the job: not JSON; the file is empty
-stab link: job: not JSON
-"""),
-    ("a byte order mark", b"\xEF\xBB\xBF{}", """\
-line 1, column 1: not JSON; a byte order mark is before the text, and JSON has none
-stab link: job: not JSON
-"""),
-    ("UTF-16", b"\xFF\xFE{\x00}\x00", """\
-line 1, column 1: not JSON; the text is UTF-16, and has to be UTF-8
-stab link: job: not JSON
-"""),
-]
+# What the first bytes show: the bytes, and the first line of the explanation.
+BYTES = {
+    b"": "the job: not JSON; the file is empty",
+    b"\xEF\xBB\xBF{}": "line 1, column 1: not JSON; a byte order mark is before the text, and JSON "
+                       "has none",
+    b"\xFF\xFE{\x00}\x00": "line 1, column 1: not JSON; the text is UTF-16, and has to be UTF-8",
+}
 
 # A link job with this many events that are none, and its last line but one: of what is found a
 # hundred are written, and the others are counted, up to a million.
@@ -260,19 +228,12 @@ ROWS = [
                  '"received":[[],[7],[]],"from":[],"items"'),
         out="stab tree: accepted\n"),
     Row("explains a file", ["explain", "job"], files={"job": JOB}, out="stab tree: accepted\n"),
-]
-ROWS += [
-    explained(f"{name}: {instead or 'no ' + part}", replaced(job, part, instead), findings)
-    for name, job, table in TABLES
-    for part, instead, *findings in table
-]
-ROWS += [
-    Row(f"says what the first bytes show: {name}", ["explain"], given, status=1, out=said)
-    for name, given, said in BYTES
-]
-ROWS += [
-    Row(f"counts what it does not write: {count} events",
-        ["explain"], Repeated(UNKNOWN[0], UNKNOWN[1], count - 1, UNKNOWN[2]), status=1,
-        out=Like(ends=f"\n{said}\nstab link: job: {fault}\n", lines=101 + (count > 100)))
-    for count, said, fault in COUNTED
+    *(explained(f"{name}: {instead or 'no ' + part}", replaced(job, part, instead), findings)
+      for (name, job), table in TABLES.items() for part, instead, *findings in table),
+    *(Row(f"says what the first bytes show: {given}", ["explain"], given, status=1,
+          out=f"{said}\nstab link: job: not JSON\n") for given, said in BYTES.items()),
+    *(Row(f"counts what it does not write: {count} events",
+          ["explain"], repeated(UNKNOWN[0], UNKNOWN[1], count - 1, UNKNOWN[2]), status=1,
+          out=like(ends=f"\n{said}\nstab link: job: {fault}\n", lines=101 + (count > 100)))
+      for count, said, fault in COUNTED),
 ]

@@ -1,8 +1,6 @@
 """Command lines: the texts of help, of the version and of mistakes."""
 
-from tables.rows import Like, Row
-
-PROGRAM = "rignolda"
+from tables.rows import Row, like
 
 HELP = """\
 Makes and examines the jobs of stab
@@ -80,18 +78,13 @@ MISTAKEN = [
     ("random --schedule 500001", "at most 500000 steps are drawn"),
 ]
 
-# How each text about a mistake ends.
-HINT = "\nFor more information, try '--help'.\n"
-
 ROWS = [
     Row("without words there is the help, as a mistake", [], status=2, err=HELP),
     Row("help", ["--help"], out=HELP),
     Row("the version", ["--version"], out="rignolda 0.1.0\n"),
     Row("help on worst", ["worst", "--help"], out=WORST_HELP),
     Row("help on random", ["random", "--help"], out=RANDOM_HELP),
-]
-ROWS += [
-    Row(f"a mistake: {line}", line.split(), status=2,
-        err=Like(begins=f"error: {said}\n", ends=HINT))
-    for line, said in MISTAKEN
+    *(Row(f"a mistake: {line}", line.split(), status=2,
+          err=like(begins=f"error: {said}\n", ends="\nFor more information, try '--help'.\n"))
+      for line, said in MISTAKEN),
 ]

@@ -4,23 +4,14 @@ The expected texts of the examples are those of tests/faults/scenario.py, and th
 worked out by hand as well."""
 
 import json
-import sys
 
-from tables.rows import Row, TOP
-
-sys.path.insert(0, str(TOP / "tests/faults"))
-from scenario import text_of
-
-PROGRAM = "rignolda"
-EXAMPLES = TOP / "examples/scenarios"
+from examples import DATA
+from faults.scenario import text_of
+from tables.rows import Row
 
 # A chain in which everything is done act by act.
-CHAIN = {
-    "capacity": 1,
-    "labels": 4,
-    "tree": [{"name": "r"}, {"name": "a", "parent": "r"}, {"name": "b", "parent": "a"}],
-    "items": [7, 8],
-}
+CHAIN = {"capacity": 1, "labels": 4, "items": [7, 8], "tree": [
+    {"name": "r"}, {"name": "a", "parent": "r"}, {"name": "b", "parent": "a"}]}
 STEPS = [
     ["a", "offer"], ["a", "send_frame"], ["a", "recv_frame"], ["a", "send_ack"], ["a", "recv_ack"],
     ["a", "offer"], ["b", "offer"],
@@ -48,29 +39,29 @@ def chain(*steps, **members):
     return json.dumps(dict(CHAIN, steps=list(steps), **members))
 
 
-# Steps that are refused in the chain, after one that is not, with what is said of the second.
-REFUSED = [
-    (5, "wrong shape"), ([], "wrong shape"), (["a"], "wrong shape"), ("offer", "wrong shape"),
-    (["a", "jump"], "wrong shape"), (["x", "jump"], "wrong shape"), ([1, "offer"], "wrong shape"),
-    (["a", "offer", 0], "wrong shape"), (["a", "lose_frame"], "wrong shape"),
-    (["a", "lose_frame", -1], "wrong shape"), (["a", "lose_frame", 0, 0], "wrong shape"),
-    (["publish", [1.5]], "wrong shape"), (["publish", {}], "wrong shape"),
-    (["sell", [1]], "wrong shape"), (["restart", "x", ["1"]], "wrong shape"),
-    (["restart", 1, []], "wrong shape"), (["start", "a", []], "wrong shape"),
-    (["strike", "b", {"send": 0}], "wrong shape"),
-        (["hit", "b", {"send": 0, "recv": 0}], "wrong shape"),
-    (["rounds", 65536], "wrong shape"), (["rounds", 1.0], "wrong shape"),
-    (["round", 1], "wrong shape"), (["rounds", -1], "wrong shape"), (["rounds"], "wrong shape"),
-    (["x", "offer"], "unknown node"), (["x", "lose_ack", 0], "unknown node"),
-    (["restart", "x", []], "unknown node"),
-    (["strike", "x", {"send": 0, "recv": 0}], "unknown node"),
-    (["r", "offer"], "no link into the root"),
-    (["strike", "r", {"send": 0, "recv": 0}], "no link into the root"),
-    (["strike", "b", {"frames": [[0, 1], [0, 2]], "acks": [1, 1], "send": 0, "recv": 0}],
-     "too many frames"),
-    (["strike", "b", {"acks": [1, 1], "send": 0, "recv": 0}], "too many acknowledgements"),
-    (["strike", "b", {"frames": [[0, 1], [1, 2]], "send": 0, "recv": 1}], "too many frames"),
-]
+# Steps that are refused in the chain, after one that is not, by what is said of the second.
+REFUSED = {
+    "wrong shape": [
+        5, [], ["a"], "offer", ["a", "jump"], ["x", "jump"], [1, "offer"], ["a", "offer", 0],
+        ["a", "lose_frame"], ["a", "lose_frame", -1], ["a", "lose_frame", 0, 0],
+        ["publish", [1.5]], ["publish", {}], ["sell", [1]], ["restart", "x", ["1"]],
+        ["restart", 1, []], ["start", "a", []], ["strike", "b", {"send": 0}],
+        ["hit", "b", {"send": 0, "recv": 0}], ["rounds", 65536], ["rounds", 1.0], ["round", 1],
+        ["rounds", -1], ["rounds"]],
+    "unknown node": [["x", "offer"], ["x", "lose_ack", 0], ["restart", "x", []],
+                     ["strike", "x", {"send": 0, "recv": 0}]],
+    "no link into the root": [["r", "offer"], ["strike", "r", {"send": 0, "recv": 0}]],
+    "too many frames": [
+        ["strike", "b", {"frames": [[0, 1], [0, 2]], "acks": [1, 1], "send": 0, "recv": 0}],
+        ["strike", "b", {"frames": [[0, 1], [1, 2]], "send": 0, "recv": 1}]],
+    "too many acknowledgements": [["strike", "b", {"acks": [1, 1], "send": 0, "recv": 0}]],
+}
+
+
+def refused(name, job, said, status=1):
+    """A scenario that is refused."""
+    return Row(name, ["scenario"], job, status=status, err=f"rignolda: {said}\n")
+
 
 ROWS = [
     Row("tells a scenario act by act", ["scenario"], chain(*STEPS), out=STRUCK),
@@ -86,33 +77,23 @@ ROWS = [
         '{"capacity":1,"labels":4,"tree":[{"name":"publish"}],"items":[1],'
         '"steps":[["rounds",3],["publish",[2]],["reading_rounds",65535]]}',
         out="publish since 0 published 2\nitems: 1 2\n"),
-]
-ROWS += [
-    Row(f"tells the example {file.stem}", ["scenario"], file.read_text(),
-        out=text_of(json.loads(file.read_text())))
-    for file in sorted(EXAMPLES.glob("*.json"))
-]
-ROWS += [
-    Row(f"refuses the step {json.dumps(step)}", ["scenario"], chain(["a", "offer"], step),
-        status=1, err=f"rignolda: scenario: step 2: {said}\n")
-    for step, said in REFUSED
-]
-ROWS += [
-    Row("refuses the first of two steps", ["scenario"], chain(["x", "offer"], ["r", "offer"]),
-        status=1, err="rignolda: scenario: step 1: unknown node\n"),
-    Row("refuses a job without steps", ["scenario"], json.dumps(CHAIN), status=1,
-        err="rignolda: scenario: no list of steps\n"),
-    Row("refuses steps that are no list", ["scenario"], json.dumps(dict(CHAIN, steps={})), status=1,
-        err="rignolda: scenario: no list of steps\n"),
-    Row("refuses a job before its steps", ["scenario"], chain(5, labels=3), status=1,
-        err="rignolda: job: too few labels\n"),
-    Row("refuses a start before its steps are run", ["scenario"],
-        chain(["a", "offer"], starts=[{"frames": [[0, 1], [0, 2]], "send": 0, "recv": 0},
-                                      {"send": 0, "recv": 0}]),
-        status=3, err="rignolda: start: too many frames\n"),
-    Row("refuses too many events", ["scenario"], chain(["rounds", 65535], ["rounds", 65535]),
-        status=1, err="rignolda: scenario: too many events\n"),
-    Row("refuses one event too many", ["scenario"],
-        chain(*[["rounds", 50_000]] * 2, ["a", "offer"]), status=1,
-        err="rignolda: scenario: too many events\n"),
+    *(Row(f"tells the example {file.stem}", ["scenario"], file.read_text(),
+          out=text_of(json.loads(file.read_text())))
+      for file in sorted(DATA.glob("scenarios/*.json"))),
+    *(refused(f"refuses the step {json.dumps(step)}", chain(["a", "offer"], step),
+              f"scenario: step 2: {said}") for said, steps in REFUSED.items() for step in steps),
+    refused("refuses the first of two steps", chain(["x", "offer"], ["r", "offer"]),
+            "scenario: step 1: unknown node"),
+    refused("refuses a job without steps", json.dumps(CHAIN), "scenario: no list of steps"),
+    refused("refuses steps that are no list", json.dumps({**CHAIN, "steps": {}}),
+            "scenario: no list of steps"),
+    refused("refuses a job before its steps", chain(5, labels=3), "job: too few labels"),
+    refused("refuses a start before its steps are run",
+            chain(["a", "offer"], starts=[{"frames": [[0, 1], [0, 2]], "send": 0, "recv": 0},
+                                          {"send": 0, "recv": 0}]),
+            "start: too many frames", status=3),
+    refused("refuses too many events", chain(*[["rounds", 65535]] * 2),
+            "scenario: too many events"),
+    refused("refuses one event too many", chain(*[["rounds", 50_000]] * 2, ["a", "offer"]),
+            "scenario: too many events"),
 ]

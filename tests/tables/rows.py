@@ -1,27 +1,18 @@
 """Rows of tests: a command line with what it reads, and what it has to print."""
 
 from dataclasses import dataclass, field
-from pathlib import Path
 
-TOP = Path(__file__).resolve().parent.parent.parent
+from examples import DATA
 
-# The text of the link after examples/worst_start.json, as docs/FORMATS.md has it.
-WORST_TEXT = """\
-delivered: 99 13
-offered: 10 11 12 13
-acked: 3
-send label: 3
-recv label: 3
-frames:
-acks:
-closed: no
-"""
+# The worst start of capacity 1, and the text of its link.
+WORST_START, WORST_TEXT = ((DATA / f"worst_start.{it}").read_text() for it in ("json", "out"))
 
 
 @dataclass
 class Row:
-    """A run of a program. What is read is a text or bytes, a long text that is `Repeated`, or what
-    another run `Printed`; what is printed is a text, or a class below says what it is like."""
+    """A run of a program. What is read is a text or bytes, or a function makes it; what is printed
+    is a text, or a function says what is wrong with it. Such a function is made by one below, and
+    given what tells the output of a run with some words."""
 
     name: str
     words: list  # the command line, without the name of the program
@@ -31,71 +22,53 @@ class Row:
     out: object = ""
     err: object = ""
 
-
-@dataclass
-class Printed:
-    """What a run with these words and no input prints, which has to end with status 0."""
-
-    words: list
-
-
-@dataclass
-class Repeated:
-    """A long text: this beginning, an entry as often as counted, and this end."""
-
-    begins: str
-    entry: str
-    count: int
-    ends: str
-
-    def text(self):
-        """The text itself."""
-        return self.begins + self.entry * self.count + self.ends
-
-
-@dataclass
-class Like:
-    """A text with this beginning, this end and these parts, which has none of the others, no line
-    with more bytes, and as many lines."""
-
-    begins: str = ""
-    ends: str = ""
-    parts: list = ()
-    without: list = ()
-    width: int = None
-    lines: int = None
-
-    def fault(self, text, _printed):
-        """What is wrong with a text, or None."""
-        if not text.startswith(self.begins):
-            return f"it does not begin with {self.begins!r}"
-        if not text.endswith(self.ends):
-            return f"it does not end with {self.ends!r}"
-        for part in self.parts:
-            if part not in text:
-                return f"it has no {part!r}"
-        for part in self.without:
-            if part in text:
-                return f"it has {part!r}"
-        if self.width and any(len(line.encode()) > self.width for line in text.splitlines()):
-            return f"a line has more than {self.width} bytes"
-        if self.lines is not None and len(text.splitlines()) != self.lines:
-            return f"it does not have {self.lines} lines"
+    def fault(self, status, out, err, prints=None):
+        """What is wrong with a run that ended so, or None."""
+        if status != self.status:
+            return f"status {status}, and not {self.status}; it printed {(out + err)[:1000]!r}"
+        for where, text, wanted in ("output", out, self.out), ("error", err, self.err):
+            if callable(wanted):
+                fault = wanted(text, prints)
+            else:
+                fault = None if text == wanted else f"it has to be {wanted!r}"
+            if fault:
+                return f"standard {where}: {fault}; it is {text[:1000]!r}"
         return None
 
 
-@dataclass
-class Same:
+def printed(words):
+    """What a run with these words and no input prints, which has to end with status 0."""
+    return lambda prints: prints(words)
+
+
+def repeated(begins, entry, count, ends):
+    """A long text: this beginning, an entry as often as counted, and this end."""
+    return lambda _: begins + entry * count + ends
+
+
+def like(begins="", ends="", parts=(), without=(), width=None, lines=None):
+    """A text with this beginning, this end and these parts, which has none of the others, no line
+    with more bytes, and as many lines."""
+    def fault(text, _):
+        seen = text.splitlines()
+        faults = [
+            (not text.startswith(begins), f"it does not begin with {begins!r}"),
+            (not text.endswith(ends), f"it does not end with {ends!r}"),
+            *((part not in text, f"it has no {part!r}") for part in parts),
+            *((part in text, f"it has {part!r}") for part in without),
+            (width and any(len(line.encode()) > width for line in seen),
+             f"a line has more than {width} bytes"),
+            (lines not in (None, len(seen)), f"it does not have {lines} lines"),
+        ]
+        return next((said for is_so, said in faults if is_so), None)
+
+    return fault
+
+
+def same(words, is_same=True):
     """What a run with other words prints, or another text than that."""
-
-    words: list
-    is_same: bool = True
-
-    def fault(self, text, printed):
-        """What is wrong with a text, or None, where `printed` gives what a run prints."""
-        is_same = text == printed(self.words)
-        return None if is_same == self.is_same else (
-            f"{' '.join(self.words)} prints {'the same' if is_same else 'another text'}")
+    return lambda text, prints: None if (text == prints(words)) == is_same else (
+        f"{' '.join(words)} prints {'another text' if is_same else 'the same'}")
 
 
 def replaced(text, part, instead):

@@ -6,8 +6,6 @@ Those of a run, NAME.run, are compared by tests/check_drawn.py."""
 from examples import DATA, example, names
 from tables.rows import Row
 
-PROGRAM = "stab"
-
 # The files that say what is expected, as the list names them, and as they are there.
 LISTED = (DATA / "list").read_text().splitlines()
 THERE = sorted(

@@ -1,8 +1,9 @@
 """Jobs of `stab` at the limits of what they may have, and beyond: long lists, scripts and files."""
 
-from tables.rows import Repeated, Row, refusals
+from tables.rows import Row, refusals, repeated
 
-PROGRAM = "stab"
+# The most bytes of a file.
+MOST = 16_777_216
 TREE, LINK, OF_TREES = [["tree"]], [["link"]], [["tree"], ["run"], ["run", "--words"],
                                                 ["run", "--mixed"]]
 
@@ -18,18 +19,13 @@ LISTS = {"frames_out": "E", "frames_in": "K", "acks_out": "D", "acks_in": "T"}
 def items(count):
     """A job of one node with no turn, and with `count` items."""
     before = '{"capacity":1,"labels":4,"tree":[{"name":"r"}],"turns":0,"items":['
-    return Repeated(before, "7,", count - 1, "7]}")
+    return repeated(before, "7,", count - 1, "7]}")
 
 
 def schedule(entry, count):
     """A job of one node with `count` entries in its schedule."""
     before = '{"capacity":1,"labels":4,"tree":[{"name":"r"}],"items":[7,8],"schedule":['
-    return Repeated(before, entry + ",", count - 1, entry + "]}")
-
-
-def spaces(count):
-    """`count` spaces."""
-    return Repeated("", " ", count, "")
+    return repeated(before, entry + ",", count - 1, entry + "]}")
 
 
 def letters(last):
@@ -41,13 +37,13 @@ def letters(last):
 
 def one_list(name, count):
     """A job of two nodes, whose script has as many letters in one list as counted."""
-    return Repeated(SCRIPTED + f'{{"{name}":"', LISTS[name], count, '"}]}')
+    return repeated(SCRIPTED + f'{{"{name}":"', LISTS[name], count, '"}]}')
 
 
 def events(count, last, first='"send_ack"'):
     """A link job with `count` events, of which the last and the first are these."""
     before = '{"capacity":1,"labels":4,"start":{"send":0,"recv":3},"events":[' + first + ","
-    return Repeated(before, '"send_ack",', count - 2, last + "]}")
+    return repeated(before, '"send_ack",', count - 2, last + "]}")
 
 
 # What is printed of a link that has room for the first of its acknowledgements, and is closed.
@@ -63,7 +59,7 @@ closed: yes
 """
 
 # A stray that the last one of 1,000,000 steps delivers, and what is printed of its tree.
-LAST_STEP = Repeated(
+LAST_STEP = repeated(
     """\
 {"capacity":1,"labels":4,"tree":[{"name":"r"},{"name":"a","parent":"r"}],"items":[7,8],
 "starts":[{"frames":[[2,99]],"send":0,"recv":1}],"schedule":[""",
@@ -77,8 +73,7 @@ ROWS = [
     Row("reads a link job of 1000000 events", ["link"], events(1_000_000, '"close"'), out=CLOSED),
 ]
 ROWS += [
-    row
-    for name, job, said, tasks in [
+    row for name, job, said, tasks in [
         ("reads 10000 items", items(10_000), "job: turns out of range", TREE),
         ("refuses 10001 items", items(10_001), "job: too many items", TREE),
         ("reads 1000000 steps", schedule('["r","close"]', 1_000_000), "step: no such link", TREE),
@@ -96,8 +91,8 @@ ROWS += [
            TREE) for name in LISTS),
         ("refuses 100001 letters and a wrong one among them", letters("X"), "job: wrong shape",
          TREE),
-        ("reads 16777216 bytes", spaces(16_777_216), "job: not JSON", TREE + LINK),
-        ("refuses 16777217 bytes", spaces(16_777_217), "file: too long", TREE + LINK),
+        ("reads 16777216 bytes", repeated("", " ", MOST, ""), "job: not JSON", TREE + LINK),
+        ("refuses 16777217 bytes", repeated(" ", " ", MOST, ""), "file: too long", TREE + LINK),
         ("refuses a file without an end", "", "file: too long", [["link", "/dev/zero"]]),
     ]
     for row in refusals(name, job, said, tasks)

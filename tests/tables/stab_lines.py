@@ -5,14 +5,7 @@ What is printed shows which task ran. A row that reads a file has an empty stand
 would be refused as no JSON, and the others have no file. More command lines that are refused are
 examples of crates/gate_checks/data, in the folders refused and runs."""
 
-from tables.rows import Like, Row, WORST_TEXT, refusals
-
-PROGRAM = "stab"
-
-WORST_START = """\
-{"capacity":1,"labels":4,"start":{"frames":[[2,99]],"acks":[0],"send":0,"recv":1},
-"events":[["offer",10],"recv_ack","send_ack",["offer",11],"recv_ack","recv_frame",
-"send_ack",["offer",12],"recv_ack",["offer",13],"send_frame","recv_frame"]}"""
+from tables.rows import Row, WORST_START, WORST_TEXT, like, refusals
 
 LONE_ROOT = '{"capacity":1,"labels":4,"tree":[{"name":"r"}],"items":[7,8]}'
 
@@ -26,27 +19,18 @@ EARLY_ACKNOWLEDGEMENT = """\
 "acks_out":"DDDDDDDD"}]}"""
 
 # The report of that job, whatever the threads do, where the first look leaves nothing behind: over
-# a link with a lock. Why the child ended is up to them.
-TAKEN_AT_ONCE = Like(
-    begins="""\
-r depth 0 received 1 acked - ended turns
-items: 7
-a depth 1 received 0 acked 0 ended """,
-    ends="\nitems:\n")
-
-# The same where the second look finds what the first one found: over a link of two words.
-FOUND_AGAIN = Like(
-    begins="""\
-r depth 0 received 1 acked - ended upstream
-items: 7
-a depth 1 received 0 acked 1 ended """,
-    ends="\nitems:\n")
+# a link with a lock. Why the child ended is up to them. And the same where the second look finds
+# what the first one found: over a link of two words.
+TAKEN_AT_ONCE, FOUND_AGAIN = (like(
+    begins=f"r depth 0 received 1 acked - ended {ended}\nitems: 7\n"
+           f"a depth 1 received 0 acked {acked} ended ", ends="\nitems:\n")
+    for ended, acked in [("turns", 0), ("upstream", 1)])
 
 # A link that has no two words, and how the report of its tree begins elsewhere.
 WIDE = """\
 {"capacity":2,"labels":6,"tree":[{"name":"r"},{"name":"a","parent":"r"}],"items":[7,8]}"""
 
-WIDE_REPORT = Like(begins="r depth 0 received 2 acked - ended ",
+WIDE_REPORT = like(begins="r depth 0 received 2 acked - ended ",
                    parts=["\na depth 1 received "], lines=4)
 
 # What each task prints: a job, the standard output and the standard error. Where there is an error
@@ -60,9 +44,7 @@ MIXED = [(EARLY_ACKNOWLEDGEMENT, FOUND_AGAIN, ""), (WIDE, WIDE_REPORT, "")]
 
 # Command lines, the task and the file that each names.
 TAKEN = [
-    ("", PLAIN, None),
-    ("--", PLAIN, None),
-    ("link", PLAIN, None),
+    *((line, PLAIN, None) for line in ("", "--", "link")),
     ("link -", PLAIN, "-"),
     ("link --trace job.json", TRACED, "job.json"),
     ("link --trace", TRACED, None),
@@ -82,44 +64,21 @@ TAKEN = [
 
 # Command lines that name no task.
 REFUSED = [
-    "run --words --words",
-    "run --words=1",
-    "run --mixed job.json --words",
-    "run --mixed --mixed",
-    "run --mixed=1",
-    "--mixed",
-    "tree --mixed",
-    "run --trace",
-    "--words",
-    "link --words",
-    "--trace",
-    "job.json",
-    "link --trace=1",
-    "help",
-    "link --help",
-    "--version",
-    "link one.json two.json",
-]
+    "run --words --words", "run --words=1", "run --mixed job.json --words", "run --mixed --mixed",
+    "run --mixed=1", "--mixed", "tree --mixed", "run --trace", "--words", "link --words",
+    "--trace", "job.json", "link --trace=1", "help", "link --help", "--version",
+    "link one.json two.json"]
 
-
-def taken(line, task, file):
-    """Rows that show which task a command line names, and which file."""
-    return [
-        Row(f"takes a command word, a flag and a file: {line}{', a wide link' * (job == WIDE)}",
-            line.split(), "" if file else job, files={file: job} if file else {},
-            status=3 if err else 0, out=out, err=err)
-        for job, out, err in task
-    ]
-
-
-ROWS = [row for line, task, file in TAKEN for row in taken(line, task, file)]
-# (an empty name is not the standard input)
-ROWS += refusals("looks for a file with an empty name", WORST_START, "file: cannot be opened",
-                 [["link", ""]])
-ROWS += refusals("refuses a file that is not there", WORST_START, "file: cannot be opened",
-                 [["link", "there/is/no/such/file.json"]])
-ROWS += [
-    Row(f"refuses other words and help: {line}", line.split(), status=2,
-        err="stab: command line refused\n")
-    for line in REFUSED
+ROWS = [
+    *(Row(f"takes a command word, a flag and a file: {line}{', a wide link' * (job == WIDE)}",
+          line.split(), "" if file else job, files={file: job} if file else {},
+          status=3 if err else 0, out=out, err=err)
+      for line, task, file in TAKEN for job, out, err in task),
+    # (an empty name is not the standard input)
+    *refusals("looks for a file with an empty name", WORST_START, "file: cannot be opened",
+              [["link", ""]]),
+    *refusals("refuses a file that is not there", WORST_START, "file: cannot be opened",
+              [["link", "there/is/no/such/file.json"]]),
+    *(Row(f"refuses other words and help: {line}", line.split(), status=2,
+          err="stab: command line refused\n") for line in REFUSED),
 ]

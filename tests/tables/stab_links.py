@@ -10,7 +10,6 @@ from tables.reader import EVENTS as WORDS, row
 from tables.rows import Row, WORST_TEXT
 from tables.texts import FURTHER, WHOLE, broken, by_value, nested, swapped
 
-PROGRAM = "stab"
 
 # Its parts: the events are those of examples/worst_start.json.
 CAPACITY_AND_LABELS = '"capacity":1,"labels":4'

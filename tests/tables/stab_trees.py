@@ -10,7 +10,6 @@ from tables.reader import row
 from tables.rows import Row
 from tables.texts import FURTHER, WHOLE, broken, swapped
 
-PROGRAM = "stab"
 TREE_TASK, RUNS = [["tree"]], [["run"], ["run", "--words"], ["run", "--mixed"]]
 
 TREE = '"tree":[{"name":"r"},{"name":"a","parent":"r"},{"name":"b","parent":"a"}]'
