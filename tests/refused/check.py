@@ -27,10 +27,12 @@ import struct
 import subprocess
 import sys
 import tempfile
+from collections import namedtuple
+from pathlib import Path
 
-HERE = os.path.dirname(os.path.realpath(__file__))
-TOP = os.path.dirname(os.path.dirname(HERE))
-sys.path[:0] = [f"{TOP}/tools", f"{TOP}/agents", f"{TOP}/tests"]
+HERE = Path(__file__).resolve().parent
+TOP = HERE.parent.parent
+sys.path[:0] = [str(TOP / part) for part in ("tools", "agents", "tests")]
 import check_report  # noqa: E402
 import examples  # noqa: E402
 from crates import clang  # noqa: E402
@@ -49,36 +51,19 @@ WALKS = 4
 
 OUT_OF_MEMORY = (3, b"", b"stab: out of memory\n")
 NOT_STARTED = (3, b"", b"stab: run: a worker could not be started\n")
+NO_MEMORY = (3, b"", b"rignolda: out of memory\n")
 
 # Each command, its flags, a job given by name and one on standard input; and faults of each status.
 JOBS = """
-    worst_start
-    links/worst_start_with_origins
-    links/file_after_dashes
-    trees/every_member
-    trees/two_links_under_one_schedule
-    trees/a_wider_second_link
-    trees/an_opening_passed_on
-    runs/a_lone_root
-    runs/words_a_lone_root
-    runs/mixed_a_lone_root
-    refused/no_such_file
-    refused/bad_event
-    refused/flag_twice
-    refused/help
-    refused/unknown_flag
-    refused/two_files
-    refused/too_many_acknowledgements
-    refused_trees/unknown_node
-    refused_trees/too_few_labels_of_a_link
-    refused_trees/opening_too_long
-    runs/two_frames_for_one_place
-    runs/words_two_frames_for_one_place
-    runs/mixed_two_frames_for_one_place
-    runs/words_and_mixed
+    worst_start links/worst_start_with_origins links/file_after_dashes
+    trees/every_member trees/two_links_under_one_schedule trees/a_wider_second_link
+    trees/an_opening_passed_on runs/a_lone_root runs/words_a_lone_root runs/mixed_a_lone_root
+    refused/no_such_file refused/bad_event refused/flag_twice refused/help refused/unknown_flag
+    refused/two_files refused/too_many_acknowledgements refused_trees/unknown_node
+    refused_trees/too_few_labels_of_a_link refused_trees/opening_too_long
+    runs/two_frames_for_one_place runs/words_two_frames_for_one_place
+    runs/mixed_two_frames_for_one_place runs/words_and_mixed
 """.split()
-
-NO_MEMORY = (3, b"", b"rignolda: out of memory\n")
 
 # Command lines of rignolda, with the status of each: each command with its answer and its faults,
 # and the texts of help, of the version and of mistakes.
@@ -130,75 +115,58 @@ def chain(nodes, items, turns, words, held=0):
     return job
 
 
-class Ended:
+class Ended(namedtuple("Ended", "status out err allocations threads refused")):
     """How a program ended. What the object reported is None where it reported nothing."""
 
-    def __init__(self, status, out, err, report):
-        self.seen = (status, out, err)
-        self.status, self.out, self.err = self.seen
-        self.allocations, self.threads, self.refused = (
-            struct.unpack("3L", report) if report else [None] * 3)
+    @property
+    def seen(self):
+        return self[:3]
 
     def __str__(self):
         out, err = (text.decode(errors="replace")[-300:] for text in (self.out, self.err))
         return f"status {self.status}, standard output {out!r}, standard error {err!r}"
 
 
-class Room:
-    """A folder for the jobs of one check, and for the object, which the clang of the kit builds."""
+class Check(Cases):
+    """The cases, a folder for their jobs, and for the object, which the clang of the kit builds."""
 
-    def __init__(self, folder, seconds):
-        self.folder, self.seconds = folder, seconds
-        self.object = f"{folder}/refuse.so"
-        subprocess.run(clang("-ffreestanding", f"{HERE}/refuse.c", "-o", self.object,
+    def __init__(self, folder, lanes, seconds, only):
+        super().__init__()
+        self.folder, self.lanes, self.seconds, self.only = Path(folder), lanes, seconds, only
+        self.runs, self.object = 0, f"{folder}/refuse.so"
+        subprocess.run(clang("-ffreestanding", HERE / "refuse.c", "-o", self.object,
                              is_program=False), check=True)
 
     def write(self, name, job):
         """Writes a job, or its text, and answers its file."""
-        path = f"{self.folder}/{name}.json"
-        with open(path, "w") as it:
-            it.write(job if isinstance(job, str) else json.dumps(job))
+        path = self.folder / f"{name}.json"
+        path.write_text(job if isinstance(job, str) else json.dumps(job))
         return path
 
-    def run(self, command, input=os.devnull, refuse=None):
+    def run(self, command, input=os.devnull, **refuse):
         """Runs a program to its end: words, the file of its standard input, what is refused."""
-        report, to = os.pipe()
-        with open(report, "rb") as report:
-            try:
-                with open(input, "rb") as given:
-                    started = subprocess.Popen(
-                        command, stdin=given, stdout=subprocess.PIPE, stderr=subprocess.PIPE,
-                        env={"LD_PRELOAD": self.object, "REFUSE_REPORT": str(to), **(refuse or {})},
-                        cwd=examples.DATA, pass_fds=[to])
-            finally:
-                os.close(to)
-            try:
-                out, err = started.communicate(timeout=self.seconds)
-            except subprocess.TimeoutExpired:
-                started.kill()
-                out, err = started.communicate()
-                err += b"(had not ended after %d seconds)" % self.seconds
-            return Ended(started.returncode, out, err, report.read())
-
-
-class Check(Cases):
-    """The cases, and how many of them passed."""
-
-    def __init__(self, room, lanes, only):
-        super().__init__()
-        self.room, self.lanes, self.only, self.runs = room, lanes, only, 0
-
-    def run(self, *given, **named):
         self.runs += 1
-        return self.room.run(*given, **named)
+        with tempfile.TemporaryFile() as report, open(input, "rb") as given:
+            to = report.fileno()
+            try:
+                done = subprocess.run(
+                    command, stdin=given, capture_output=True, timeout=self.seconds,
+                    env={"LD_PRELOAD": self.object, "REFUSE_REPORT": str(to), **refuse},
+                    cwd=examples.DATA, pass_fds=[to])
+                ended = done.returncode, done.stdout, done.stderr
+            except subprocess.TimeoutExpired:
+                ended = None, b"", b"(had not ended after %d seconds)" % self.seconds
+            report.seek(0)
+            counts = report.read()
+            return Ended(*ended, *(struct.unpack("3L", counts) if counts else [None] * 3))
 
-    def every(self, variable, command, input):
+    def every(self, variable, command, input=os.devnull):
         """Runs a program for N = 1, 2, .. with what the variable then refuses, until nothing was.
 
         Gives each N with its end. Where threads allocate, one run makes more allocations than the
         next, so that a run may be whole and one of a greater N is not: all of a row must be whole.
         """
-        one = lambda number: self.run(command, input, {variable: str(number)})
+        one = lambda number: self.run(command, input, **{variable: str(number)})
         for first in range(1, MOST_ALLOCATIONS, ROW):
             row = list(self.lanes.map(one, range(first, first + ROW)))
             yield from enumerate(row, first)
@@ -207,20 +175,18 @@ class Check(Cases):
 
     def undisturbed(self, name, command, input, is_right):
         """Whether a run that is refused nothing is right, and its allocations are counted."""
-        ended = self.run(command, input)
+        ended, fault = self.run(command, input), None
         if ended.refused != 0 or not ended.allocations:
-            self.holds(name, False, f"the object counted no allocations: {ended}")
+            fault = f"the object counted no allocations: {ended}"
         elif not is_right(ended):
-            self.holds(name, False, f"undisturbed: {ended}")
-        else:
-            return True
-        return False
+            fault = f"undisturbed: {ended}"
+        if fault:
+            self.holds(name, False, fault)
+        return not fault
 
     def each(self, name, command, input, is_right, refusals):
         """Parts (b) and (d): the text or a refusal, for each N, refused once or from there on."""
-        if self.only not in name:
-            return
-        if not self.undisturbed(name, command, input, is_right):
+        if self.only not in name or not self.undisturbed(name, command, input, is_right):
             return
         for variable, way in ("REFUSE_ALLOCATION", "once"), ("REFUSE_FROM", "from there on"):
             faults, refused, last = [], 0, 0
@@ -235,25 +201,20 @@ class Check(Cases):
                 faults.append("no refusal was answered by out of memory")
             self.has_none(f"{name}, refused {way}: {refused} of {last} refusals end it", faults)
 
-    def refused(self, program, calls):
+    def calls(self, program, calls):
         """Part (a): the program that makes every call again."""
-        if self.only not in "gate_checks":
-            return
-        with open(f"{os.path.dirname(os.path.dirname(program))}/stdout", "rb") as it:
-            right = (0, it.read())
-        command = [program]
-        with open(calls) as it:
-            wanted = {line.strip() for line in it if line.strip() and not line.startswith("#")}
-        is_right = lambda ended: (ended.status, ended.out) == right
-        if not self.undisturbed("gate_checks", command, os.devnull, is_right):
+        right = (0, (Path(program).parent.parent / "stdout").read_bytes())
+        wanted = {line for line in Path(calls).read_text().splitlines() if not line.startswith("#")}
+        is_right = lambda ended: ended.seen[:2] == right
+        if (self.only not in "gate_checks"
+                or not self.undisturbed("gate_checks", [program], os.devnull, is_right)):
             return
         faults, seen, last = [], set(), 0
-        walk = lambda: self.every("REFUSE_ALLOCATION", command, os.devnull)
-        walks = (walk() for _ in range(WALKS) if not wanted <= seen)
+        walks = (self.every("REFUSE_ALLOCATION", [program]) for _ in range(WALKS)
+                 if not wanted <= seen)
         for number, ended in itertools.chain.from_iterable(walks):
-            names = set()
-            for line in ended.err.decode(errors="replace").splitlines():
-                names.add(line[8:] if line.startswith("refused ") else line)
+            names = {line.removeprefix("refused ")
+                     for line in ended.err.decode(errors="replace").splitlines()}
             if ended.refused is None or not is_right(ended) or not names <= wanted:
                 faults.append(f"allocation {number}: {first_difference(right[1], ended)}")
             seen |= names
@@ -261,8 +222,8 @@ class Check(Cases):
                 last = max(last, number)
         self.has_none(f"gate_checks, refused once: {last} refusals", faults)
         for name in sorted(wanted):
-            faults = [] if name in seen else ["no allocation of this call was ever refused"]
-            self.has_none(f"gate_checks, {name} is refused", faults)
+            self.holds(f"gate_checks, {name} is refused", name in seen,
+                       "no allocation of this call was ever refused")
 
     def threads(self, name, command, input, is_right, nodes):
         """Part (c): the start of each thread is refused in its turn."""
@@ -272,11 +233,63 @@ class Check(Cases):
         faults = []
         if ended.threads != nodes or not is_right(ended):
             faults.append(f"undisturbed, {ended.threads} threads: {ended}")
-        one = lambda number: self.run(command, input, {"REFUSE_THREAD": str(number)})
+        one = lambda number: self.run(command, input, REFUSE_THREAD=str(number))
         for number, ended in enumerate(self.lanes.map(one, range(1, nodes + 1)), 1):
             if ended.refused != 1 or ended.seen != NOT_STARTED:
                 faults.append(f"thread {number} of {nodes}: {ended}")
         self.has_none(f"{name}, each thread refused", faults)
+
+    def stab(self, program):
+        """Parts (b) and (c)."""
+        known = {name: examples.example(name) for name in JOBS}
+        worst = known["worst_start"]
+        text = worst.job.read_text().replace("{", NOTE, 1) + SPACES * " "
+        known["a long file in another form"] = worst._replace(job=self.write("long", text))
+        for name, it in known.items():
+            right = (it.status, it.out, it.err)
+            # (the C library allocates for a thread, so refused memory may be a refused thread)
+            self.each(name, [program, *it.words], it.job or os.devnull,
+                      lambda ended, right=right: ended.seen == right,
+                      [OUT_OF_MEMORY] + [NOT_STARTED] * ("run" in it.words))
+        for name, words in RUNS:
+            job = {**chain(3, items=5, turns=50, words=words, held=2), "scripts": SCRIPTS}
+            of = f"{name} of a chain of 3"
+            self.each(of, [program, *words], self.write(of, job), is_report_of(job),
+                      [OUT_OF_MEMORY, NOT_STARTED])
+        for nodes, (name, words) in itertools.product((1, 3, 64), RUNS):
+            job, of = chain(nodes, items=5, turns=50, words=words), f"{name} of a chain of {nodes}"
+            self.threads(of, [program, *words], self.write(f"{of}, threads", job),
+                         is_report_of(job), nodes)
+
+    def rignolda(self, program):
+        """Part (d)."""
+        cases = [(f"rignolda {line}".strip(), status, line.split()) for status, line in LINES]
+        for status, logs in LOGS:
+            name = f"rignolda judge of logs with status {status}"
+            job = self.write(name, {**chain(3, items=3, turns=1, words=[]), "received": logs})
+            cases.append((name, status, ["judge", job]))
+        for name, status, words in cases:
+            if self.only in name:
+                right = self.run([program, *words]).seen
+                is_right = lambda ended: ended.seen == right and ended.status == status
+                self.each(name, [program, *words], os.devnull, is_right, [NO_MEMORY])
+
+
+def chain(nodes, items, turns, words, held=0):
+    """The job of a chain of `nodes` nodes, with clean starts, for a run by these words. Where both
+    kinds of link are asked for, every other link is wider. Inner nodes begin with `held`
+    strays."""
+    tree = [{"name": "r"}]
+    for at in range(1, nodes):
+        tree.append({"name": f"n{at}", "parent": tree[-1]["name"]})
+    job = {"capacity": 1, "labels": 4, "tree": tree, "items": [*range(1, items + 1)],
+           "turns": turns}
+    if "--mixed" in words:
+        job["links"] = [{"capacity": 3, "labels": 8} if at % 2 else None for at in range(nodes - 1)]
+    if held:
+        inner = [list(range(1000 * at, 1000 * at + held)) for at in range(1, nodes - 1)]
+        job.update(version=2, h=held, openings=[[], *inner, []])
+    return job
 
 
 def first_difference(right, ended):
@@ -289,86 +302,31 @@ def first_difference(right, ended):
     return str(ended)
 
 
-def of_example(name):
-    """The words, the file of the standard input and the end of an example."""
-    it = examples.example(name)
-    return it.words, it.job or os.devnull, (it.status, it.out, it.err)
-
-
 def is_report_of(job):
     """A test for the report of a run of a job, under any schedule."""
-    def is_report(ended):
-        return (ended.status, ended.err) == (0, b"") and not check_report.fault(
-            job, ended.out.decode(errors="replace"))
-
-    return is_report
-
-
-def check_stab(check, room, program):
-    """Parts (b) and (c)."""
-    for name in JOBS:
-        words, input, right = of_example(name)
-        is_right = lambda ended: ended.seen == right
-        # (the C library allocates for a thread, so that refused memory may be a refused thread)
-        refusals = [OUT_OF_MEMORY] + [NOT_STARTED] * ("run" in words)
-        check.each(name, [program, *words], input, is_right, refusals)
-    words, input, right = of_example("worst_start")
-    with open(input) as it:
-        text = it.read().replace("{", NOTE, 1) + SPACES * " "
-    name, is_right = "a long file in another form", lambda ended: ended.seen == right
-    input = room.write(name, text)
-    check.each(name, [program, *words], input, is_right, [OUT_OF_MEMORY])
-    for name, words in RUNS:
-        job = {**chain(3, items=5, turns=50, words=words, held=2), "scripts": SCRIPTS}
-        input = room.write(f"{name} of a chain of 3", job)
-        refusals = [OUT_OF_MEMORY, NOT_STARTED]
-        check.each(f"{name} of a chain of 3", [program, *words], input, is_report_of(job), refusals)
-    for nodes in 1, 3, 64:
-        for name, words in RUNS:
-            job = chain(nodes, items=5, turns=50, words=words)
-            of = f"{name} of a chain of {nodes}"
-            input = room.write(f"{of}, threads", job)
-            check.threads(of, [program, *words], input, is_report_of(job), nodes)
-
-
-def check_rignolda(check, room, program):
-    """Part (d)."""
-    cases = [(f"rignolda {line}".strip(), status, line.split()) for status, line in LINES]
-    for status, logs in LOGS:
-        name = f"rignolda judge of logs with status {status}"
-        job = room.write(name, {**chain(3, items=3, turns=1, words=[]), "received": logs})
-        cases.append((name, status, ["judge", job]))
-    for name, status, words in cases:
-        command = [program, *words]
-        if check.only not in name:
-            continue
-        right = check.run(command).seen
-        is_right = lambda ended: ended.seen == right and ended.status == status
-        check.each(name, command, os.devnull, is_right, [NO_MEMORY])
+    return lambda ended: (ended.status, ended.err) == (0, b"") and not check_report.fault(
+        job, ended.out.decode(errors="replace"))
 
 
 def built(crate):
     """The program that a release would have: rt ci makes it by Rattle's own compiler as well."""
-    program = f"{TOP}/crates/{crate}/out/{crate}"
-    return f"{program}.by-rattle" if os.path.isfile(f"{program}.by-rattle") else program
+    program = TOP / f"crates/{crate}/out/{crate}"
+    by_rattle = program.with_suffix(".by-rattle")
+    return str(by_rattle if by_rattle.is_file() else program)
 
 
 def main():
     given = options(stab=built("stab_cli"), rignolda=built("rignolda"), only="", seconds=SECONDS,
                     checks=f"{TOP}/crates/gate_checks/out/gate_checks", calls=f"{HERE}/calls")
-    with tempfile.TemporaryDirectory(prefix="stab-refused-") as folder:
-        room = Room(folder, given.seconds)
-        with concurrent.futures.ThreadPoolExecutor(LANES) as lanes:
-            check = Check(room, lanes, given.only)
-            for program, part in (
-                (given.checks, lambda it: check.refused(it, given.calls)),
-                (given.stab, lambda it: check_stab(check, room, it)),
-                (given.rignolda, lambda it: check_rignolda(check, room, it)),
-            ):
-                if os.path.isfile(program):
-                    part(os.path.abspath(program))
-                else:
-                    check.holds(program, False, "the program is not built: rt ci, or rt run in it")
+    with tempfile.TemporaryDirectory(prefix="stab-refused-") as folder, \
+            concurrent.futures.ThreadPoolExecutor(LANES) as lanes:
+        check = Check(folder, lanes, given.seconds, given.only)
+        for program, part in (given.checks, lambda it: check.calls(it, given.calls)), (
+                given.stab, check.stab), (given.rignolda, check.rignolda):
+            if os.path.isfile(program):
+                part(os.path.abspath(program))
+            else:
+                check.holds(program, False, "the program is not built: rt ci, or rt run in it")
     print(f"{check.runs} runs")
     return check.sum_up() or not check.passed
 
