@@ -1,19 +1,18 @@
 """Compares a program that is a link of two halves, and reads jobs as link.c says, with what is
-known of links."""
+known of links: what it prints has to be the columns of a drawn run."""
 import concurrent.futures
-import glob
 import json
-import os
 import random
 import sys
 import tempfile
+from pathlib import Path
 
-TOP = os.path.dirname(os.path.dirname(os.path.dirname(os.path.realpath(__file__))))
-sys.path[:0] = [f"{TOP}/tests", f"{TOP}/tools"]
+TOP = Path(__file__).resolve().parent.parent.parent
+sys.path[:0] = [str(TOP / "tests"), str(TOP / "tools")]
+from examples import DATA  # noqa: E402
 from jobs import drawn_link  # noqa: E402
 from programs import answered, built  # noqa: E402
 
-EXAMPLES = os.path.join(TOP, "crates", "gate_checks", "data")
 LETTERS = {"send_frame": "f", "recv_frame": "r", "recv_frame_keep": "R", "send_ack": "s",
            "recv_ack": "a", "recv_ack_keep": "A", "close": "c",
            "offer": "o", "lose_frame": "l", "lose_ack": "L"}
@@ -32,31 +31,28 @@ def words_of(job):
     return " ".join(map(str, words)) + "\n"
 
 
+def differs(program, job, run):
+    """Whether a program that replays a job prints other columns than a drawn run has."""
+    said = answered(program, "steps", given=words_of(job))[1]
+    return [line.split() for line in said.splitlines()] != [
+        line.split()[1:] for line in run.splitlines()[1:]]
+
+
 def runs(program):
-    """Replays each drawn run of the examples, and compares the link after each event: the names of
-    those that are other ones."""
-    for path in sorted(glob.glob(os.path.join(EXAMPLES, "**", "*.run"), recursive=True)):
-        with open(path.removesuffix(".run") + ".json", encoding="utf-8") as file:
-            job = json.load(file)
-        with open(path, encoding="utf-8") as file:
-            wanted = [line.split()[1:] for line in file][1:]
-        said = answered(program, "steps", given=words_of(job))[1]
-        found = [line.split() for line in said.splitlines()]
-        if found != wanted:
-            yield os.path.relpath(path, EXAMPLES)
+    """Replays each drawn run of the examples: the names of those that are other ones."""
+    for path in sorted(DATA.rglob("*.run")):
+        job = json.loads(path.with_suffix(".json").read_text())
+        if differs(program, job, path.read_text()):
+            yield path.relative_to(DATA)
 
 
 def drawn(program, count):
-    """Draws jobs, and compares the text of each link at its end with what `stab link` prints: the
-    jobs of those that differ."""
+    """Replays drawn jobs beside `rignolda draw`: the jobs of those that differ."""
     draw = random.Random(1)
     jobs = [drawn_link(draw) for _ in range(count)]
-    found = answered(program, given="".join(map(words_of, jobs)))[1].split("\n")
     with tempfile.TemporaryDirectory() as folder:
-        stab = built("stab", folder)
+        drawer = built("rignolda", folder)
         with concurrent.futures.ThreadPoolExecutor(4) as pool:
-            wanted = list(pool.map(lambda job: answered(stab, "link", given=job)[1], jobs))
-    for at, (job, text) in enumerate(zip(jobs, wanted)):
-        own = "\n".join(found[8 * at:8 * at + 8]) + "\n"
-        if own != text:
-            yield f"{json.dumps(job)}\n{own}wanted:\n{text}"
+            differ = pool.map(lambda job: differs(
+                program, job, answered(drawer, "draw", given=job)[1]), jobs)
+            yield from (json.dumps(job) for job, other in zip(jobs, differ) if other)

@@ -6,17 +6,15 @@
  * frame), r (receive it), R (and keep it), s (send an acknowledgement), a (receive it), A (and
  * keep it), l PLACE (lose a frame), L PLACE (lose an acknowledgement), c (close).
  *
- * With the word `steps` it prints the link after each event, as the columns of a .run file; else
- * the text of each link at its end, as `stab link` prints it. Parameters that are refused print
- * one line. (That a closed end refuses, and changes nothing, is seen by both.c.)
+ * It prints each link at its start and after each event, as the columns of a .run file. (That a
+ * closed end refuses, and changes nothing, is seen by both.c.)
  */
 #include "rignolda.h"
 
 #include <stdio.h>
 #include <stdlib.h>
-#include <string.h>
 
-enum { MOST_ENTRIES = 64, MOST_EVENTS = 1000000 };
+enum { MOST_ENTRIES = 64 };
 
 struct queue {
     unsigned capacity, count;
@@ -27,8 +25,8 @@ static rignolda_params params;
 static rignolda_sender sender;
 static rignolda_receiver receiver;
 static struct queue frames, acks;
-static unsigned acked, count_offered, count_delivered;
-static uint32_t offered[MOST_EVENTS], delivered[MOST_EVENTS];
+static unsigned acked;
+static uint32_t delivered; /* the last item */
 
 static unsigned word(void) {
     unsigned number = 0;
@@ -53,10 +51,7 @@ static const char *lose(struct queue *queue, unsigned place) {
 }
 
 static const char *offer(uint32_t item) {
-    if (!rignolda_sender_offer(&sender, item))
-        return "Nothing";
-    offered[count_offered++] = item;
-    return "Held";
+    return rignolda_sender_offer(&sender, item) ? "Held" : "Nothing";
 }
 
 static const char *send_frame(void) {
@@ -65,13 +60,10 @@ static const char *send_frame(void) {
 }
 
 static const char *receive_frame(int keep) {
-    uint32_t item = 0;
     if (frames.count == 0)
         return "Nothing";
     rignolda_frame front = frames.entries[0];
-    int fresh = rignolda_receiver_on_frame(&receiver, &front, &item);
-    if (fresh)
-        delivered[count_delivered++] = item;
+    int fresh = rignolda_receiver_on_frame(&receiver, &front, &delivered);
     if (!keep)
         lose(&frames, 0);
     return fresh ? "Fresh" : "Old";
@@ -113,48 +105,28 @@ static const char *event(char letter, int closed) {
     }
 }
 
-/* Prints a queue: its entries apart by a word, and another word where it is empty. */
-static void print_queue(const struct queue *queue, int of_frames, const char *apart,
-                        const char *empty) {
+static void print_queue(const struct queue *queue, int of_frames) {
     for (unsigned i = 0; i < queue->count; i++) {
-        printf("%s%u", i > 0 ? apart : "", queue->entries[i].label);
+        printf("%s%u", i > 0 ? "," : "", queue->entries[i].label);
         if (of_frames)
             printf("=%u", queue->entries[i].item);
     }
-    printf("%s", queue->count == 0 ? empty : "");
+    printf(queue->count > 0 ? " " : "- ");
 }
 
-static void print_step(const char *effect, unsigned delivered_before) {
+static void print_step(const char *effect) {
     printf("%s %u ", effect, sender.label);
     if (sender.holding)
-        printf("%u", sender.item);
-    printf("%s %u ", sender.holding ? "" : "-", acked);
-    print_queue(&frames, 1, ",", "-");
-    printf(" ");
-    print_queue(&acks, 0, ",", "-");
-    printf(" %u ", receiver.label);
-    if (count_delivered > delivered_before)
-        printf("%u\n", delivered[count_delivered - 1]);
+        printf("%u %u ", sender.item, acked);
+    else
+        printf("- %u ", acked);
+    print_queue(&frames, 1);
+    print_queue(&acks, 0);
+    printf("%u ", receiver.label);
+    if (effect[0] == 'F')
+        printf("%u\n", delivered);
     else
         printf("-\n");
-}
-
-static void print_items(const char *name, const uint32_t *items, unsigned count) {
-    printf("%s:", name);
-    for (unsigned i = 0; i < count; i++)
-        printf(" %u", items[i]);
-    printf("\n");
-}
-
-static void print_text(int closed) {
-    print_items("delivered", delivered, count_delivered);
-    print_items("offered", offered, count_offered);
-    printf("acked: %u\nsend label: %u\nrecv label: %u\nframes:%s", acked, sender.label,
-           receiver.label, frames.count > 0 ? " " : "");
-    print_queue(&frames, 1, " ", "");
-    printf("\nacks:%s", acks.count > 0 ? " " : "");
-    print_queue(&acks, 0, " ", "");
-    printf("\nclosed: %s\n", closed ? "yes" : "no");
 }
 
 static void start(void) {
@@ -168,36 +140,24 @@ static void start(void) {
     }
     for (unsigned count = word(); acks.count < count;)
         put(&acks, (rignolda_frame){.label = (uint16_t)word()});
-    acked = count_offered = count_delivered = 0;
+    acked = 0;
 }
 
-int main(int argc, char **argv) {
-    int steps = argc > 1 && !strcmp(argv[1], "steps");
+int main(void) {
     unsigned capacity;
     while (scanf("%u", &capacity) == 1) {
         params = (rignolda_params){.capacity = (uint16_t)capacity};
         params.labels = (uint16_t)word();
-        uint8_t refused = rignolda_params_check(&params);
-        if (refused != RIGNOLDA_LAWFUL) {
-            printf("refused %u\n", refused);
-            continue;
-        }
         start();
         int closed = 0;
-        if (steps)
-            print_step("-", 0);
+        print_step("-");
         for (unsigned count = word(); count > 0; count--) {
             char letter = 0;
             if (scanf(" %c", &letter) != 1)
                 return 2;
-            unsigned before = count_delivered;
-            const char *effect = event(letter, closed);
+            print_step(event(letter, closed));
             closed |= letter == 'c';
-            if (steps)
-                print_step(effect, before);
         }
-        if (!steps)
-            print_text(closed);
     }
     return 0;
 }
