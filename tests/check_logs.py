@@ -26,8 +26,10 @@ TOP = Path(__file__).resolve().parent.parent
 sys.path[:0] = [str(TOP / part) for part in ("tests/daemon", "tools")]
 
 import long
-from faults.logs import delivered, kept, path_of, text_of
+from faults.logs import delivered, strays_of, text_of
+from jobs import drawn_tree, spoilt_items
 from programs import answered, counted, run_with
+from tables.reader import begin, tree_of
 
 TREE = [{"name": "r"}, {"name": "a", "parent": "r"}]
 JOB = {"capacity": 1, "labels": 4, "tree": TREE, "items": [10, 11]}
@@ -52,86 +54,62 @@ REFUSED = [
 
 def spoiled(draw, received, top):
     """Lists of which one is another."""
-    lists = [list(items) for items in received]
-    node = draw.randrange(len(lists))
-    items = lists[node]
-    how = draw.choice(["swap", "double", "alter", "drop", "drop", "add", "front", "lists"])
-    at = draw.randrange(len(items) // 2, len(items)) if items else 0
-    if how == "lists":
+    lists, node = [*received], draw.randrange(len(received))
+    way = draw.choice(["swap", "double", "alter", "drop", "drop", "add", "front", "lists"])
+    if way == "lists":
         other = draw.randrange(len(lists))
         lists[node], lists[other] = lists[other], lists[node]
-    elif how == "front":
-        items[:0] = [draw.randrange(top) for _ in range(draw.randrange(1, 5))]
-    elif how == "add":
-        items.insert(draw.randrange(len(items) + 1), draw.randrange(top))
-    elif items and how == "swap":
-        other = draw.randrange(len(items))
-        items[at], items[other] = items[other], items[at]
-    elif items and how == "double":
-        items.insert(at, items[at])
-    elif items and how == "alter":
-        items[at] = draw.randrange(top)
-    elif items:
-        del items[at:at + draw.choice([1, 1, 2, 4])]
+    elif way == "front":
+        lists[node] = [draw.randrange(top) for _ in range(draw.randrange(1, 5))] + lists[node]
+    else:
+        # (in the second half, since what is at the front may be missing)
+        half = len(lists[node]) // 2
+        lists[node] = lists[node][:half] + spoilt_items(draw, way, lists[node][half:], top)
     return lists
 
 
-def drawn(draw, is_spoiled):
-    """A job with logs, and what is to be said of them."""
-    nodes = draw.choice([1, 2, 3, 4, 5, 8])
-    order = list(range(nodes))
-    above = [None] + [draw.randrange(max(0, at - 2), at) for at in range(1, nodes)]
-    if draw.random() < 0.5:
-        draw.shuffle(order)                     # a child may come before its parent in the file
-    place = {node: at for at, node in enumerate(order)}
-    parents = [None if above[node] is None else place[above[node]] for node in order]
-    names = [f"n{node}" for node in order]
-    tree = [{"name": name} if parent is None else {"name": name, "parent": names[parent]}
-            for name, parent in zip(names, parents)]
-    most = draw.choice([1, 1, 2, 4])
-    capacities = [draw.choice([most, 1, 3]) for _ in names]
-    hold = draw.choice([0, 1, 3])
-    top = draw.choice([3, 40, 2 ** 32])
-    items = [draw.randrange(top) for _ in range(draw.choice([0, 3, 10, 40]))]
-    made = {"capacity": most, "labels": 2 * most + 2, "tree": tree, "items": items}
-    links = [at for at, parent in enumerate(parents) if parent is not None]
-    if draw.random() < 0.5:
-        made["links"] = [{"capacity": capacities[at], "labels": 2 * capacities[at] + 2}
-                         for at in links]
-    else:
-        capacities = [most] * nodes
-    if hold or draw.random() < 0.5:
-        made.update(version=2, h=hold)
-    # A count begins with that of the parent, or later; in some draws anywhere.
-    places = []
-    if draw.random() < 0.7:
-        branch = draw.randrange(len(items) + 1)
-        places = [branch if draw.random() < 0.9 else draw.randrange(len(items) + 1) for _ in names]
-    received = [[] for _ in names]
-    for node in sorted(range(nodes), key=lambda it: len(path_of(parents, it))):
-        parent = parents[node]
-        above = items[places[node] if places else 0:]
+def drawn_logs(draw, tree, hold, items, places, top, is_spoiled):
+    """What each node received: strays, and then items of its parent but for some of the first."""
+    received = [[] for _ in tree.parents]
+    for node in sorted(range(len(received)), key=lambda it: len(list(tree.path(it)))):
+        parent, above = tree.parents[node], items[places[node] if places else 0:]
         if parent is None:
             received[node] = above[:draw.randrange(len(above) + 1)]
             continue
-        few = capacities[node]
-        if parents[parent] is not None:
-            above, few = received[parent], few + kept(parents, hold, node)
-        few = draw.choice([0, 0, few, draw.randrange(few + 1)])
-        missing = capacities[node] + 1 + min(few, capacities[node])
-        end = draw.choice([len(above), len(above), draw.randrange(len(above) + 1)])
+        few = strays_of(tree, hold, node)
+        if tree.parents[parent] is not None:
+            above = received[parent]
+        capacity, few = tree.links[node].capacity, draw.choice([0, 0, few, draw.randrange(few + 1)])
         # (one more than may be missing is, now and then)
-        missing += is_spoiled and draw.random() < 0.3
+        missing = capacity + 1 + min(few, capacity) + (is_spoiled and draw.random() < 0.3)
+        end = draw.choice([len(above), len(above), draw.randrange(len(above) + 1)])
         kept_of_front = draw.choice([0, 0.5])
         front = [item for item in above[:min(missing, end)] if draw.random() < kept_of_front]
         received[node] = [draw.randrange(top) for _ in range(few)] + front + above[missing:end]
     if is_spoiled:
         for _ in range(draw.choice([1, 2, 4])):
             received = spoiled(draw, received, top)
-    made["received"] = received
-    if places:
-        made["from"] = places
-    return made, text_of(names, parents, capacities, hold, items, received, places)
+    return received
+
+
+def drawn(draw, rignolda, is_spoiled):
+    """A job with logs, and what is to be said of them."""
+    top = draw.choice([3, 40, 2 ** 32])
+    job = drawn_tree(draw, rignolda, nodes=draw.choice([1, 2, 3, 4, 5, 8]), items=0, schedule=0,
+                     capacity=draw.choice([1, 1, 2, 4]), hold=draw.choice([0, 1, 3]))
+    items = job["items"] = [draw.randrange(top) for _ in range(draw.choice([0, 3, 10, 40]))]
+    for part in "starts", "scripts", "openings":
+        job.pop(part, None)
+    tree, names, _ = tree_of(json.dumps(job).encode())
+    begin(tree, ["tree"])
+    # A count begins with that of the parent, or later; in some draws anywhere.
+    if draw.random() < 0.7:
+        branch = draw.randrange(len(items) + 1)
+        job["from"] = [branch if draw.random() < 0.9 else draw.randrange(len(items) + 1)
+                       for _ in names]
+    hold, places = job.get("h", 0), job.get("from")
+    job["received"] = drawn_logs(draw, tree, hold, items, places, top, is_spoiled)
+    return job, text_of(names, tree, hold, items, job["received"], places)
 
 
 def filled(places, source, any_item):
@@ -161,7 +139,7 @@ def tried(file):
     """Tries all logs with this program."""
     count = int(sys.argv[1]) if len(sys.argv) > 1 else 1500
     draw = random.Random(int(sys.argv[2]) if len(sys.argv) > 2 else 1)
-    cases = [drawn(draw, at % 2) for at in range(count)]
+    cases = [drawn(draw, file, at % 2) for at in range(count)]
     runs = list(of_runs(draw))
     wanted = [(0 if text == "obeys\n" else 1, text, "") for _, text in cases]
     cases += [({**JOB, **members}, text) for members, text in REFUSED]

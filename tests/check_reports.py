@@ -6,8 +6,8 @@
 Each job is one of `rignolda random`: a tree with starts, scripts, openings, links of their own and
 few turns; here many items are made equal to one another and to strays. `stab run`, with `--words`,
 `--mixed` or neither, or `stab tree` prints a report of it, which `rignolda check` has to accept.
-Then one item is swapped with the next, doubled, altered or dropped, or a count, an ending or a byte
-is altered, and `rignolda check` has to answer what agents/check_report.py answers, a plain program
+Then one item is swapped with the next, doubled, altered, dropped or added, or a count, an ending or
+a byte is altered, and `rignolda check` has to answer what agents/check_report.py answers, a plain program
 from docs/FORMATS.md: that the report obeys, or which node is the first one that does not, or that
 the text is no report. One job in five is a link job, of which `stab link` prints the text; there an
 item or the count is altered, and the link is judged as the only one of a tree.
@@ -27,7 +27,7 @@ from pathlib import Path
 ROOT = Path(__file__).resolve().parent.parent
 sys.path[:0] = [str(ROOT / "agents"), str(ROOT / "tools")]
 import check_report  # noqa: E402
-from jobs import drawn_link, drawn_tree  # noqa: E402
+from jobs import drawn_link, drawn_tree, spoilt_items  # noqa: E402
 from programs import Cases, answered, run_with  # noqa: E402
 
 # How the plain program ends where a text is no report.
@@ -36,7 +36,7 @@ NO_REPORT = "another form", "number of items", "each node", "not end", "have an 
 # long its links lose and repeat.
 LONG = [(["run"], 1_000, 4_000, 200), (["run", "--words"], 10_000, 25_000, 20_000)]
 CHAIN = [{"name": "r"}, {"name": "a", "parent": "r"}, {"name": "b", "parent": "a"}]
-WAYS = ["swap", "double", "alter", "drop"] * 3 + ["count", "end", "byte"]
+WAYS = ["swap", "double", "alter", "drop", "add"] * 3 + ["count", "end", "byte"]
 
 
 def drawn_job(draw, words, rignolda):
@@ -57,53 +57,48 @@ def drawn_job(draw, words, rignolda):
     return made
 
 
-def spoil_items(draw, way, words):
-    """Spoils the words of one line in this way."""
-    at = draw.randrange(len(words)) if words else 0
-    if way == "swap":
-        words[at:at + 2] = words[at:at + 2][::-1]
-    elif way == "double":
-        words[at:at] = words[at:at + 1]
-    elif way == "alter":
-        words[at:at + 1] = [str(draw.choice([int(it) ^ 1, draw.randrange(20)]))
-                            for it in words[at:at + 1]]
-    elif way == "drop":
-        del words[at:at + 1]
+def listed(name, items):
+    """A line of items."""
+    return " ".join([name, *map(str, items)])
+
+
+def items_of(line):
+    """The items of such a line."""
+    return [*map(int, line.split()[1:])]
 
 
 def spoiled(draw, text):
     """The text with one item, count or ending altered, or one byte. Mostly the number of items is
     counted again, so that the text is still that of a report."""
-    lines = text.split("\n")[:-1]
-    node = draw.randrange(len(lines) // 2)
-    counts, items = lines[2 * node], lines[2 * node + 1].split(" ")[1:]
+    lines = text.split("\n")
+    node = 2 * draw.randrange(len(lines) // 2)
     way = draw.choice(WAYS)
     if way == "byte":
         at = draw.randrange(len(text))
         return way, text[:at] + draw.choice(["", " ", "0", "\n", "7"]) + text[at + 1:]
     if way == "count":
-        counts = re.sub("acked (-|[0-9]+)", lambda _: f"acked {draw.choice(['-', 0, 1, 2, 5, 9])}",
-                        counts)
+        count = draw.choice(["-", 0, 1, 2, 5, 9])
+        lines[node] = re.sub("acked (-|[0-9]+)", f"acked {count}", lines[node])
     elif way == "end":
-        counts = re.sub(" ended .*", draw.choice([" ended upstream", " ended turns", ""]), counts)
+        ended = draw.choice([" ended upstream", " ended turns", ""])
+        lines[node] = re.sub(" ended .*", ended, lines[node])
     else:
-        spoil_items(draw, way, items)
+        items = spoilt_items(draw, way, items_of(lines[node + 1]), 20)
+        lines[node + 1] = listed("items:", items)
         if draw.random() < 0.95:
-            counts = re.sub("received [0-9]+", f"received {len(items)}", counts)
-    lines[2 * node:2 * node + 2] = [counts, " ".join(["items:", *items])]
-    return way, "\n".join(lines) + "\n"
+            lines[node] = re.sub("received [0-9]+", f"received {len(items)}", lines[node])
+    return way, "\n".join(lines)
 
 
 def spoiled_link(draw, text):
     """The text of a link with one delivered or offered item altered, or the count."""
-    lines = text.split("\n")
-    way = draw.choice(WAYS[:-2])
-    at = 2 if way == "count" else draw.randrange(2)
-    name, *words = lines[at].split(" ")
+    lines, way = text.split("\n"), draw.choice(WAYS[:-2])
     if way == "count":
-        words = [str(draw.choice([0, 1, 2, 5, 9]))]
-    spoil_items(draw, way, words)
-    lines[at] = " ".join([name, *words])
+        lines[2] = f"acked: {draw.choice([0, 1, 2, 5, 9])}"
+    else:
+        at = draw.randrange(2)
+        items = spoilt_items(draw, way, items_of(lines[at]), 20)
+        lines[at] = listed(lines[at].split()[0], items)
     return way, "\n".join(lines)
 
 
@@ -119,18 +114,15 @@ def fault_of(job, text):
 
 def fault_of_link(job, text):
     """What it says of the text of a link, as of a tree with this link alone, or None."""
-    said = dict(line.split(":") for line in text.splitlines())
-    delivered, offered = (list(map(int, said[name].split())) for name in ("delivered", "offered"))
+    delivered, offered, (acked,) = map(items_of, text.splitlines()[:3])
     offers = [event[1] for event in job["events"] if event[0] == "offer"]
-    acked = int(said["acked"])
     if not check_report.is_subsequence(offered, offers) or len(offered) > acked + 1:
         return "it was offered otherwise"
-    tree = {"tree": [{"name": "r"}, {"name": "a", "parent": "r"}], "items": offered,
-            "capacity": job["capacity"], "starts": [job["start"]]}
+    tree = {"tree": CHAIN[:2], "items": offered, "capacity": job["capacity"],
+            "starts": [job["start"]]}
     return check_report.fault(tree, "".join(
-        f"{name} received {len(has)} acked {count} ended turns\n{' '.join(['items:', *has])}\n"
-        for name, count, has in (("r depth 0", "-", list(map(str, offered))),
-                                 ("a depth 1", acked, list(map(str, delivered))))))
+        f"{name} received {len(has)} acked {count} ended turns\n{listed('items:', has)}\n"
+        for name, count, has in (("r depth 0", "-", offered), ("a depth 1", acked, delivered))))
 
 
 def fault_of_long(stab, words, count, turns, length):
@@ -157,14 +149,13 @@ def answer_of(rignolda, folder, job, text, swapped):
 
 def agrees(fault, status, line):
     """Whether `rignolda check` answers what the plain program has found."""
-    if fault is None or (status, line) == (0, "obeys"):
-        return fault is None and (status, line) == (0, "obeys")
-    if line.startswith("rignolda: not a report: "):
-        return status == 1 and fault.endswith(NO_REPORT)
+    if not fault:
+        return (status, line) == (0, "obeys")
+    if fault.endswith(NO_REPORT):
+        return status == 1 and line.startswith("rignolda: not a report: ")
     node = re.match(r"[a-z0-9_-]+: ", line)
-    return status == 1 and not fault.endswith(NO_REPORT) and (
-        line.startswith(("the link law", "the offered"))
-        or bool(node) and fault.startswith(node[0]))
+    return status == 1 and (line.startswith(("the link law", "the offered"))
+                            or bool(node) and fault.startswith(node[0]))
 
 
 def main(stab, rignolda):

@@ -1,4 +1,5 @@
-"""Drawn jobs of a link or a tree, for the checks that compare what is said of them."""
+"""Drawn jobs of a link or a tree, and spoilt lists, for the checks that compare what is said of
+them."""
 import json
 import re
 
@@ -46,3 +47,14 @@ def drawn_link(draw, top=1 << 32):
     if draw.random() < 0.1:
         events.insert(draw.randint(0, len(events)), "close")
     return {"capacity": capacity, "labels": labels, "start": start, "events": events}
+
+
+def spoilt_items(draw, way, items, top):
+    """These items, but for one place: there two are swapped, or one is doubled, altered, dropped or
+    added."""
+    at, added = draw.randrange(len(items)) if items else 0, draw.randrange(top)
+    front, rest = items[:at], items[at:]
+    return front + {
+        "swap": rest[:2][::-1] + rest[2:], "double": rest[:1] + rest, "drop": rest[1:],
+        "alter": [draw.choice([item ^ 1, added]) for item in rest[:1]] + rest[1:],
+        "add": [added, *rest]}[way]

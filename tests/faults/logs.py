@@ -12,26 +12,10 @@ sys.path.insert(0, str(Path(__file__).resolve().parent.parent.parent / "agents")
 from check_report import is_subsequence, most_missing, obeys_tree_law  # noqa: E402
 
 
-def path_of(parents, node):
-    """The nodes of the path that have a link, from the node upwards."""
-    found = []
-    while parents[node] is not None:
-        found.append(node)
-        node = parents[node]
-    return found
-
-
-def kept(parents, hold, node):
-    """How many items the parent of a node may have had for it that are no published ones."""
-    return hold if parents[parents[node]] is not None else 0
-
-
-def sums(parents, capacities, hold, node):
-    """C + E of a node, and how many of the first items it may miss: without strays, and at most.
-    `capacities` are by child."""
-    path = path_of(parents, node)
-    strays = sum(capacities[w] + kept(parents, hold, w) for w in path)
-    return (strays, *most_missing([capacities[w] for w in path]))
+def strays_of(tree, hold, node):
+    """How many strays the link into a node may bring: c, and what its parent may have had for it
+    that are no published items, c + h."""
+    return tree.links[node].capacity + hold * (tree.parents[tree.parents[node]] is not None)
 
 
 def follows(received, above, strays):
@@ -44,10 +28,12 @@ def line(head, items):
     return " ".join([head, *map(str, items)]) + "\n"
 
 
-def text_of(names, parents, capacities, hold, items, received, places):
+def text_of(names, tree, hold, items, received, places):
     """What is said of logs."""
     for node, name in enumerate(names):
-        strays, without, most = sums(parents, capacities, hold, node)
+        way, parent = list(tree.path(node)), tree.parents[node]
+        strays = sum(strays_of(tree, hold, it) for it in way)
+        without, most = most_missing([tree.links[it].capacity for it in way])
         counted = items[places[node]:] if places else items
         lists = line("published:", counted) + line("received:", received[node])
         if not follows(received[node], counted, strays):
@@ -57,10 +43,9 @@ def text_of(names, parents, capacities, hold, items, received, places):
             return (f"{name}: published items before its last one are missing, not only among the "
                     f"first {without} and one more for each stray, at most the first {most}\n"
                     f"{lists}")
-        parent = parents[node]
-        if parent is None or parents[parent] is None:
+        if parent is None or tree.parents[parent] is None:
             continue
-        strays = capacities[node] + kept(parents, hold, node)
+        strays = strays_of(tree, hold, node)
         if not follows(received[node], received[parent], strays):
             return (f"{name}: it received more strays than c + h = {strays}, or its parent's items "
                     f"out of order or twice\n" + line("parent received:", received[parent])
