@@ -77,55 +77,37 @@ class Mark(int):
         return f"{int(self)}*"
 
 
-class Marked(Link):
-    """A link as the page draws it, beside its printed run, with what comes from the start marked.
-    """
-
-    def __init__(self, job, lines):
-        self.rows = [dict(zip(lines[0].split(), line.split())) for line in lines[1:]]
-        start = job["start"]
-        super().__init__(job["capacity"], job["labels"],
-                         [(Mark(label), item) for label, item in start.get("frames", [])],
-                         [*map(Mark, start.get("acks", []))], start["send"], Mark(start["recv"]))
-
-    def cells(self):
-        """The cells of the page for each row: those with marks as they have to be."""
-        for row in self.rows:
-            event, marks, star = "start", {}, ""
-            if row["event"] != event:
-                event = json.loads(row["event"])
-                name, number = (event, 0) if isinstance(event, str) else event
-                event = event if isinstance(event, str) else f"{name} {number}"
-                if row["effect"] != "Nothing" and name.startswith(("recv", "lose")):
-                    queue_of = "frames" if "frame" in name else "acks"
-                    marks = {queue_of: "x" if name.startswith("lose") else
-                             "v" if queue_of == "frames" else "^"}
-                if row["effect"] == "Fresh":
-                    star = "*" * isinstance(self.frames[0][0], Mark)
-                self.act(name, [*self.offered, number], number)
-            frames = [f"{int(label)}={item}{'*' * isinstance(label, Mark)}"
-                      for label, item in self.frames]
-            yield {**row, "event": event, "frames": queue(marks.get("frames"), frames),
-                   "acks": queue(marks.get("acks"), [*map(str, self.acks)]),
-                   "remembers": str(self.recv), "delivers": row["delivers"] + star}
-
-    def agrees(self, row):
-        """Whether the queues are those of the printed run."""
-        return (entries(row["frames"]) == [f"{int(label)}={item}" for label, item in self.frames]
-                and entries(row["acks"]) == [str(int(label)) for label in self.acks])
+def cells_of(job, rows):
+    """The cells of the page for each row of a printed run, with marks as they have to be, or
+    nothing where its queues are other ones."""
+    start = job["start"]
+    link = Link(job["capacity"], job["labels"],
+                [(Mark(label), item) for label, item in start.get("frames", [])],
+                [*map(Mark, start.get("acks", []))], start["send"], Mark(start["recv"]))
+    for row in rows:
+        event, marks, star = "start", {}, ""
+        if row["event"] != event:
+            event = json.loads(row["event"])
+            name = event if isinstance(event, str) else event[0]
+            if row["effect"] != "Nothing" and name.startswith(("recv", "lose")):
+                marks = {"frames": "v"} if "frame" in name else {"acks": "^"}
+                if name.startswith("lose"):
+                    marks = dict.fromkeys(marks, "x")
+            if row["effect"] == "Fresh":
+                star = "*" * isinstance(link.frames[0][0], Mark)
+            link.take(event)
+            event = event if isinstance(event, str) else " ".join(map(str, event))
+        yield (queue([f"{int(label)}={item}" for label, item in link.frames], ",") == row["frames"]
+               and queue([int(label) for label in link.acks], ",") == row["acks"]) and {
+            **row, "event": event, "remembers": str(link.recv), "delivers": row["delivers"] + star,
+            "frames": queue([f"{int(label)}={item}{'*' * isinstance(label, Mark)}"
+                             for label, item in link.frames], " ", marks.get("frames")),
+            "acks": queue(link.acks, " ", marks.get("acks"))}
 
 
-def entries(word):
-    """The entries of a queue."""
-    return [] if word == "-" else word.split(",")
-
-
-def queue(mark, queued):
-    """A queue as the page draws it, after its mark."""
-    if mark and mark != "x":
-        # (a front that is kept is drawn after its mark, like the others)
-        return " ".join([mark, *queued])
-    return " ".join([mark, *queued] if mark else queued) or "-"
+def queue(entries, apart, *marks):
+    """A queue as it is drawn, after its mark."""
+    return apart.join(map(str, [*filter(None, marks), *entries])) or "-"
 
 
 def blocks():
@@ -168,12 +150,12 @@ def compare_block(drawer, example, lines):
     text, said = draw(drawer, example)
     if text is None:
         return said
-    marked = Marked(json.loads((DATA / f"{example}.json").read_text()), text.splitlines())
-    wanted = {}
-    for place, cells in enumerate(marked.cells()):
-        if not marked.agrees(marked.rows[place]):
-            return f"the printed run is not one of queues at row {place}"
-        wanted["" if place == 0 else str(place)] = cells
+    head, *rows = map(str.split, text.splitlines())
+    cells = cells_of(json.loads((DATA / f"{example}.json").read_text()),
+                     [dict(zip(head, row)) for row in rows])
+    wanted = {str(place) if place else "": row for place, row in enumerate(cells)}
+    if not all(wanted.values()):
+        return "the printed run is not one of queues"
     top = next(at for at, line in enumerate(lines) if is_head(line))
     drawn = [cut(lines[top], line) for line in lines[top + 1:] if line.strip()]
     order = list(wanted)

@@ -7,10 +7,10 @@ Each job is one of `rignolda random`: a tree with starts, scripts, openings, lin
 few turns; here many items are made equal to one another and to strays. `stab run`, with `--words`,
 `--mixed` or neither, or `stab tree` prints a report of it, which `rignolda check` has to accept.
 Then one item is swapped with the next, doubled, altered, dropped or added, or a count, an ending or
-a byte is altered, and `rignolda check` has to answer what agents/check_report.py answers, a plain program
-from docs/FORMATS.md: that the report obeys, or which node is the first one that does not, or that
-the text is no report. One job in five is a link job, of which `stab link` prints the text; there an
-item or the count is altered, and the link is judged as the only one of a tree.
+a byte is altered, and `rignolda check` has to answer what agents/check_report.py answers, a plain
+program from docs/FORMATS.md: that the report obeys, or which node is the first one that does not,
+or that the text is no report. One job in five is a link job, of which `stab link` prints the text;
+there an item or the count is altered, and the link is judged as the only one of a tree.
 
 Which part is named, and which line of a text that is no report, is in tables/rignolda_check.py. The
 programs are those of check_tables.py. The last line is 'N passed, M failed'.

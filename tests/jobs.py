@@ -22,18 +22,29 @@ def drawn_tree(draw, rignolda, names=(), **options):
     return made
 
 
+def drawn_items(draw, top):
+    """A function that draws an item below `top`."""
+    return lambda: draw.choice([draw.randrange(min(top, 100)), draw.randrange(top), top - 1])
+
+
+def drawn_start(draw, capacity, labels, top):
+    """Any start that fits; what is empty may be left out."""
+    label = lambda: draw.choice([draw.randrange(4), draw.randrange(labels), draw.randrange(labels),
+                                 draw.randrange(1 << 16)])
+    item = drawn_items(draw, top)
+    start = {"frames": [[label(), item()] for _ in range(draw.randint(0, capacity))],
+             "acks": [label() for _ in range(draw.randint(0, capacity))],
+             "send": label(), "recv": label()}
+    return {name: value for name, value in start.items() if value != [] or draw.random() < 0.5}
+
+
 def drawn_link(draw, top=1 << 32):
     """A job that `stab link` accepts: any start that fits, and events that mostly do something. Its
     items are below `top`, so that many are equal where that is small."""
     capacity = draw.choice([1, 1, 1, 2, 2, 3, 4, 8, draw.randint(1, 64)])
-    least = 2 * capacity + 2
+    least, item = 2 * capacity + 2, drawn_items(draw, top)
     labels = draw.choice([least, least + 1, least + draw.randrange(4), draw.randint(least, 1000)])
-    label = lambda: draw.choice([draw.randrange(4), draw.randrange(labels), draw.randrange(labels),
-                                 draw.randrange(1 << 16)])
-    item = lambda: draw.choice([draw.randrange(min(top, 100)), draw.randrange(top), top - 1])
-    start = {"frames": [[label(), item()] for _ in range(draw.randint(0, capacity))],
-             "acks": [label() for _ in range(draw.randint(0, capacity))],
-             "send": label(), "recv": label()}
+    start = drawn_start(draw, capacity, labels, top)
     words = ["offer"] * 3 + ["send_frame", "recv_frame", "send_ack", "recv_ack"] * 4
     words += ["recv_frame_keep", "recv_ack_keep", "lose_frame", "lose_ack"]
     events = []

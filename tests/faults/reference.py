@@ -56,6 +56,11 @@ class Link:
         s.delivered.append(front[1])
         return 'Fresh'
 
+    def take(s, event):
+        """An event of a link job, and its effect."""
+        act, number = (event, 0) if isinstance(event, str) else event
+        return s.act(act, [*s.offered, number], number)
+
 class Tree:
     def __init__(s, parents, links, published):
         """A node's parent is the place of it, and None at the root; links are by child."""

@@ -5,15 +5,14 @@ scenarios, for tests/check_scenarios.py.
 It is an independent program: nothing of it is made from the crates. It takes scenarios that are
 well formed; what is refused is in the tables of tests/check_tables.py."""
 import json
+import re
 
-from jobs import drawn_tree
+from jobs import drawn_start, drawn_tree
 from faults.reference import ACTS, ROUND, Count, Link, reading_round
 from tables.reader import Pairs, begin, start_of, tree_of
 
 # What nodes may be called, some of them as steps are.
 WORDS = ["publish", "strike", "restart", "rounds", "reading_rounds", "offer", "a", "b", "c"]
-
-UNUSED = 65535
 
 LINE = "{:<5} {:<9} {:<19} {:<7} {:<5} {:<5} {:<5} {:<11} {:<7} {:<9} {}"
 HEAD = "step link event effect label holds acked frames acks remembers delivers"
@@ -130,36 +129,20 @@ def drawn_text(job):
 
 def schedule_text(job):
     """The run of a schedule, which is drawn as a scenario of its events, without their numbers."""
-    return "".join(line[6:] + "\n" for line in Scenario({**job, "steps": job["schedule"]}).out)
+    return re.sub("(?m)^.{6}", "", drawn_text({**job, "steps": job["schedule"]}))
 
 
 def link_text(job):
     """The run of a link job, which is drawn without the name of a node as well."""
-    start = job["start"]
-    link = Link(job["capacity"], job["labels"], start["frames"], start["acks"], start["send"],
-                start["recv"])
+    link = Link(job["capacity"], job["labels"], **job["start"])
     rows = [HEAD.split()[2:], cells(link, "start")]
     for event in job["events"]:
-        act, number = (event, 0) if isinstance(event, str) else event
-        effect = link.act(act, [*link.offered, number], number)
+        effect = link.take(event)
         rows.append(cells(link, json.dumps(event, separators=(",", ":")), effect))
     return "".join(LINE.format("", "", *row)[16:] + "\n" for row in rows)
 
 
 # ---- random scenarios
-
-def random_start(rng, capacity, labels):
-    def some(make):
-        return [make() for _ in range(rng.randint(0, capacity))]
-    start = {"send": rng.randrange(labels), "recv": rng.choice([rng.randrange(labels), UNUSED])}
-    frames = some(lambda: [rng.randrange(labels + 1), rng.randrange(900, 999)])
-    acks = some(lambda: rng.randrange(labels + 1))
-    if frames or rng.random() < 0.5:
-        start["frames"] = frames
-    if acks or rng.random() < 0.5:
-        start["acks"] = acks
-    return start
-
 
 def random_step(rng, names, links):
     """One step of a tree with these links, by the names of their children."""
@@ -173,7 +156,7 @@ def random_step(rng, names, links):
         return ["rounds" if rng.random() < 0.5 else "reading_rounds", rng.randint(0, 4)]
     child = rng.choice(list(links))
     if draw < 0.15:
-        return ["strike", child, random_start(rng, *links[child])]
+        return ["strike", child, drawn_start(rng, *links[child], 1000)]
     if draw < 0.153:
         return [child, "close"]
     act = rng.choice(ACTS)
