@@ -89,8 +89,7 @@ def spoilt_value(draw, tokens, places, first, last):
         other = draw.choice(pool if draw.random() < 0.8 else NUMBERS + WORDS + TEXTS + SIGNS)
         return [other, *value[1:]] if value[1:2] == [":"] else [other]
     if way < 0.6:
-        most = 1 if last - first > 99 else 6
-        times = draw.choice([1, 1, 2, 19, 64, 1000][:most])
+        times = draw.choice([1] if last - first > 99 else [1, 1, 2, 19, 64, 1000])
         return [*(value + [","]) * times, *value]
     if way < 0.75:
         other = draw.choice(places)
@@ -99,10 +98,11 @@ def spoilt_value(draw, tokens, places, first, last):
         before, after = draw.choice(["[]", ('{"a":', "}")])
         levels = draw.choice([1, 2, 100, 124, 125, 126, 127, 128, 1000, 50_000])
         return [before * levels, *value, after * levels]
-    if way < 0.9:
+    cuts = [at for at, token in enumerate(value) if token == ","]
+    if way < 0.9 and cuts:
         # (the parts of a list or of an object in another order)
-        cut = draw.choice([at for at, token in enumerate(value) if token == ","] or [0])
-        return value if not cut else [value[0], *value[cut + 1:-1], ",", *value[1:cut], value[-1]]
+        cut = draw.choice(cuts)
+        return [value[0], *value[cut + 1:-1], ",", *value[1:cut], value[-1]]
     return [draw.choice(SIGNS), *value][::draw.choice([1, -1])]
 
 
@@ -227,17 +227,11 @@ def case(seed, number):
 
 def wrong_with(programs, command, data):
     """What is wrong with what the programs say of a job, or None, and what `stab` said."""
-    wanted = row("a spoilt job", command, data)
     try:
         status, out, err = answered(programs["stab"], *command, given=data, timeout=SECONDS)
-        if (status, err) != (wanted.status, wanted.err):
-            return f"status {status}, {err!r}, and not {wanted.status}, {wanted.err!r}", err
-        if isinstance(wanted.out, str):
-            fault = None if out == wanted.out else f"it wrote {out!r}, and not {wanted.out!r}"
-        else:
-            fault = wanted.out.fault(out, None)
-        if fault or command[0] == "run":
-            return fault, err
+        wrong = row("a spoilt job", command, data).fault(status, out, err)
+        if wrong or command[0] == "run":
+            return wrong, err
         found, said, more = answered(programs["rignolda"], "explain", given=data, timeout=SECONDS)
     except subprocess.TimeoutExpired as late:
         return f"{late.cmd} had not ended after {SECONDS} seconds", ""
