@@ -88,24 +88,24 @@ class Library(Cases):
                        f"tests/library/{form}.c", *words[1:], "-o", made)
             self.works(f"{name}: each call does what the {form} one does", made, *rounds.split())
 
-    def has_all_calls(self):
-        """Whether these two are compared in every call of the header."""
-        declared = re.findall(r"^RIGNOLDA_CALL \w+ (\w+)\(",
-                              (self.include / "rignolda.h").read_text(), re.M)
-        compared = ["rignolda_" + it for it in re.findall(
-            r"\bCALL\((\w+)\)\(", Path("tests/library/calls.h").read_text())]
-        self.holds("both forms are compared in every call",
-                   declared and sorted(declared) == sorted(compared),
-                   str(set(declared) ^ set(compared)))
+    def has_same(self, name, declared, there):
+        """Counts whether two lists of calls are the same."""
+        self.holds(name, declared and sorted(declared) == sorted(there),
+                   str(set(declared) ^ set(there)))
 
-    def declares_the_calls_of_settings(self):
-        """Whether the header of settings declares what its archive has, in C and in C++."""
+    def has_all_calls(self):
+        """Whether both forms are compared in every call of the header, and whether the header of
+        settings declares what its archive has, in C and in C++."""
         header = self.include / "rignolda_settings.h"
+        self.has_same("both forms are compared in every call",
+                      re.findall(r"^RIGNOLDA_CALL \w+ (\w+)\(",
+                                 (self.include / "rignolda.h").read_text(), re.M),
+                      ["rignolda_" + it for it in re.findall(
+                          r"\bCALL\((\w+)\)\(", Path("tests/library/calls.h").read_text())])
         names = ran("nm", "--extern-only", "--defined-only", "release/librignolda_settings.a")[1]
-        declared = re.findall(r"^\w+ (rignolda_\w+)\(", header.read_text(), re.M)
-        there = re.findall(r" T (\w+)$", names, re.M)
-        self.holds("the header of settings declares the calls of its archive",
-                   declared and sorted(declared) == sorted(there), str(set(declared) ^ set(there)))
+        self.has_same("the header of settings declares the calls of its archive",
+                      re.findall(r"^\w+ (rignolda_\w+)\(", header.read_text(), re.M),
+                      re.findall(r" T (\w+)$", names, re.M))
         for kind in ["c", "-std=c11", "-pedantic"], ["c++", "-std=c++11"]:
             self.works(f"the header of settings in {kind[1][5:]}", clang()[0], *WARNED, "-nostdinc",
                        "-isystem", "tests/library/bare", "-fsyntax-only", "-x", *kind, header)
@@ -156,7 +156,6 @@ class Library(Cases):
         self.in_c("the kit", "20000", 300, [*words, self.archive])
         self.in_both("the kit", "100000 1", [*words, self.archive])
         self.has_all_calls()
-        self.declares_the_calls_of_settings()
         self.works("the inline calls are those of the archive", "tools/inline_header.py", "--check")
         self.by_python()
         for name, part in ("librignolda.a", ""), ("librignolda_settings.a", "-settings"):

@@ -12,6 +12,7 @@
  * for how many, and returns 1. Where no bits are changed, and connections break as they like, the
  * table may lead no end to a new count.
  */
+#include "draw.h"
 #include "rignolda.h"
 
 #include <stdio.h>
@@ -51,17 +52,20 @@ enum { CONNECTION, NUMBER, CHILD, SENDER, RECEIVER, LIST, COUNT };
 static int left_out = COUNT;
 
 static const rignolda_params params = {1, 4};
-static uint64_t state;
 static unsigned long begun_anew; /* how often an end began a new count */
 static bool is_alone;            /* a sender and a receiver without nodes */
 static uint32_t next, end;       /* the item that is published next, and where that ends */
-
-static uint64_t draw(void) {
-    state ^= state << 13, state ^= state >> 7, state ^= state << 17;
-    return state * 0x2545F4914F6CDD1D;
-}
+static uint32_t first, expected; /* the items that count: the first, and that which is to come */
+static bool in_order;            /* whether these came so */
 
 /* ---- What an agent does, by the table */
+
+/* An item that came to the last agent: from the first that counts on, each is the next one. */
+static void at_last(uint32_t item) {
+    if (expected == first && item != first)
+        return; /* (one from before: a stray, or one published while the agents came to order) */
+    in_order &= item == expected++;
+}
 
 static void forget(struct agent *it, bool is_last) {
     uint64_t place = it->node.length;
@@ -127,17 +131,16 @@ static void answer(struct agent *it, struct line *line) {
     }
 }
 
-/* What the child does on the link to its parent. An item that is new is passed to `came`. */
-static void look_up(struct agent *it, uint32_t *list, struct line *line, bool is_last,
-                    void (*came)(uint32_t)) {
+/* What the child does on the link to its parent. */
+static void look_up(struct agent *it, uint32_t *list, struct line *line, bool is_last) {
     forget(it, is_last);
     if (line->has_frame) {
         line->has_frame = false, line->quiet = 0;
-        if (rignolda_session_node_on_frame(&it->node, &it->above, line->below, list, PLACES,
-                                           &line->frame))
-            came(list[(it->node.length - 1) % PLACES]);
-        else
+        if (!rignolda_session_node_on_frame(&it->node, &it->above, line->below, list, PLACES,
+                                            &line->frame))
             begin_list_anew(it);
+        else if (is_last)
+            at_last(list[(it->node.length - 1) % PLACES]);
     }
     answer(it, line);
 }
@@ -161,13 +164,13 @@ static void look_down_alone(struct agent *it, struct line *line) {
 }
 
 /* And of a receiver alone. */
-static void look_up_alone(struct agent *it, struct line *line, void (*came)(uint32_t)) {
+static void look_up_alone(struct agent *it, struct line *line) {
     uint32_t item;
     if (line->has_frame) {
         line->has_frame = false, line->quiet = 0;
         if (rignolda_session_on_frame(&it->node.above, &it->above, line->below, &line->frame,
                                       &item))
-            came(item);
+            at_last(item);
     }
     answer(it, line);
 }
@@ -182,18 +185,6 @@ static bool publish(struct agent *it, uint32_t *list, uint32_t item) {
 
 /* ---- Runs */
 
-static uint32_t first, expected;
-static bool in_order;
-
-static void nowhere(uint32_t item) { (void)item; }
-
-/* An item that came to the last agent: from the first that counts on, each is the next one. */
-static void at_last(uint32_t item) {
-    if (expected == first && item != first)
-        return; /* (one from before: a stray, or one published while the agents came to order) */
-    in_order &= item == expected++;
-}
-
 /* An end that has a backlog waits for an answer. */
 static bool waits(const struct agent *it) {
     return is_alone ? it->child.sender.holding || next != end
@@ -206,13 +197,12 @@ static void step(struct world *it) {
     for (int i = 0; i < (is_alone ? 1 : LINKS); i++) {
         struct agent *above = &it->agents[i], *below = &it->agents[i + 1];
         struct line *line = &it->lines[i];
-        bool is_last = i + 1 == AGENTS - 1;
         if (is_alone) {
             look_down_alone(above, line);
-            look_up_alone(below, line, at_last);
+            look_up_alone(below, line);
         } else {
             look_down(above, it->lists[i], line);
-            look_up(below, it->lists[i + 1], line, is_last, is_last ? at_last : nowhere);
+            look_up(below, it->lists[i + 1], line, i + 1 == AGENTS - 1);
         }
         line->quiet = waits(above) ? line->quiet + 1 : 0;
         if (left_out != CONNECTION && line->quiet > SILENCE)

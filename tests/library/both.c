@@ -11,6 +11,7 @@
  * with every value.
  */
 #include "calls.h"
+#include "draw.h"
 
 #include <stdio.h>
 #include <stdlib.h>
@@ -25,12 +26,6 @@ static const size_t BYTES[OBJECTS] = {
 
 static struct all drawn, one, other;
 static unsigned long refused[CALLS], done[CALLS];
-static uint64_t state;
-
-static uint64_t draw(void) {
-    state ^= state << 13, state ^= state >> 7, state ^= state << 17;
-    return state * 0x2545F4914F6CDD1D;
-}
 
 /* A drawn number: often a small one, or one of the greatest. */
 static uint64_t number(void) {

@@ -10,6 +10,7 @@
  * does what it may not do (with the last one a sender that restarts keeps its connection), and a
  * bound has to break: then the program says which, and returns 1.
  */
+#include "draw.h"
 #include "rignolda.h"
 
 #include <stdio.h>
@@ -45,7 +46,6 @@ static rignolda_sender sender;
 static rignolda_receiver receiver;
 static bool maker_begins, handles_left, keeps_one;
 static bool is_quiet, offers_stop;
-static uint64_t state;
 
 /* ---- The tally of a count. Items are numbered as they are offered, over all counts. ---- */
 
@@ -55,10 +55,7 @@ static uint8_t came[MOST_ITEMS];
 static uint32_t most_strays, most_acks, strays;
 static unsigned long deliveries, acknowledgements, connections, counts;
 
-static uint32_t drawn(uint32_t below) {
-    state ^= state << 13, state ^= state >> 7, state ^= state << 17;
-    return (uint32_t)((state * 0x2545F4914F6CDD1D >> 32) % below);
-}
+static uint32_t drawn(uint32_t below) { return (uint32_t)((draw() >> 32) % below); }
 
 /* One time in `in`, until all is quiet. */
 static bool sometimes(uint32_t in) { return !is_quiet && drawn(in) == 0; }

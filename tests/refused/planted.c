@@ -16,10 +16,7 @@ typedef __SIZE_TYPE__ size_t;
 extern void *malloc(size_t);
 extern void *realloc(void *, size_t);
 extern int posix_memalign(void **, size_t, size_t);
-extern void free(void *);
-extern int snprintf(char *, size_t, const char *, ...);
 extern int dprintf(int, const char *, ...);
-extern int fflush(void *);
 extern int pthread_create(unsigned long *, const void *, void *(*)(void *), void *);
 extern int pthread_join(unsigned long, void **);
 extern int pause(void);
@@ -29,8 +26,8 @@ extern char *strstr(const char *, const char *);
 extern size_t strlen(const char *);
 extern void abort(void) __attribute__((noreturn));
 
+/* (printf would allocate) */
 static void print(const char *text) {
-    /* (printf would allocate) */
     write(1, text, strlen(text));
 }
 
@@ -65,46 +62,32 @@ static void *work(void *given) {
     return given;
 }
 
-/* The report of a lone root whose items are written in its job. */
+/* The report of a lone root, whose items are 7 and 8 or the first five. */
 static int stab(void) {
-    char job[4096], text[256], items[128], *found, *to = items;
+    char job[4096];
     unsigned long thread;
-    void *first, *second, *third = 0;
-    long count = 0, length = read(0, job, sizeof job - 1);
+    void *first, *second = 0;
+    long length = read(0, job, sizeof job - 1);
     job[length < 0 ? 0 : length] = 0;
-    found = strstr(job, "\"items\"");
-    for (found = found ? found + 8 : "]"; *found != ']'; found++) {
-        if (*found >= '0' && *found <= '9') {
-            if (found[-1] < '0' || found[-1] > '9')
-                *to++ = ' ', count++;
-            *to++ = *found;
+    const char *report = strstr(job, "7")
+        ? "r depth 0 received 2 acked - ended upstream\nitems: 7 8\n"
+        : "r depth 0 received 5 acked - ended upstream\nitems: 1 2 3 4 5\n";
+    if (BUG != 7) {
+        first = malloc(16);
+        if (!first || !realloc(first, 4096))
+            return no_memory();
+        if (!is_rignolda && pthread_create(&thread, 0, work, 0) != 0) {
+            if (BUG == 8)
+                pause();
+            if (BUG != 9)
+                return fail("stab: run: a worker could not be started\n");
+        } else if (!is_rignolda) {
+            pthread_join(thread, 0);
         }
+        if (posix_memalign(&second, 64, 64) != 0)
+            return no_memory();
     }
-    *to = 0;
-    if (BUG == 7) {
-        print("r depth 0 received 2 acked - ended upstream\nitems: 7 8\n");
-        return 0;
-    }
-    first = malloc(16);
-    if (!first)
-        return no_memory();
-    second = realloc(first, 4096);
-    if (!second)
-        return no_memory();
-    if (is_rignolda)
-        ;
-    else if (pthread_create(&thread, 0, work, 0) != 0) {
-        if (BUG == 8)
-            pause();
-        if (BUG != 9)
-            return fail("stab: run: a worker could not be started\n");
-    } else
-        pthread_join(thread, 0);
-    if (posix_memalign(&third, 64, 64) != 0)
-        return no_memory();
-    snprintf(text, sizeof text, "r depth 0 received %ld acked - ended upstream\nitems:%s\n", count,
-             items);
-    print(text);
+    print(report);
     return 0;
 }
 

@@ -23,35 +23,19 @@ Options:
   -V, --version  Print version
 """
 
-WORST_HELP = """\
-Prints a link job that delivers as many strays and misses as many items as can be
-
-Usage: rignolda worst --capacity <C> --labels <K>
-
-Options:
-      --capacity <C>  How many entries each queue holds, 1 to 64
-      --labels <K>    How many labels there are, from twice the capacity and two to 1000
-  -h, --help          Print help
-"""
-
-RANDOM_HELP = """\
-Prints a job of a tree with random garbage in it, the same for the same options
-
-Usage: rignolda random [OPTIONS]
-
-Options:
-      --seed <N>      Where the generator begins [default: 1]
-      --items <N>     How many items the root publishes, up to 10000 [default: 10]
-      --turns <N>     How many turns each worker of a run has, 1 to 1000000 [default: 100000]
-      --schedule <N>  How many steps the schedule has, up to 500000 [default: 200]
-      --nodes <N>     How many nodes the tree has, 1 to 64 [default: 8]
-      --capacity <N>  The greatest capacity of a link, 1 to 64 [default: 2]
-      --loss <N>      Of a thousand sent messages, how many a script drops [default: 100]
-      --repeat <N>    Of a thousand received messages, how many a script keeps [default: 100]
-      --hold <N>      How many items a node may begin with, up to 64 [default: 2]
-      --labels <K>    How many labels each link has; drawn for each link where it is left out
-  -h, --help          Print help
-"""
+# Of two commands the beginning of the help and its last option. (What it says of each option,
+# tools/completions.py compares.)
+WORST_HELP, RANDOM_HELP = (
+    like(begins=f"{about}\n\nUsage: rignolda {usage}\n\nOptions:\n{first}\n", ends=f"{last}\n",
+         lines=lines)
+    for about, usage, first, last, lines in [
+        ("Prints a link job that delivers as many strays and misses as many items as can be",
+         "worst --capacity <C> --labels <K>",
+         "      --capacity <C>  How many entries each queue holds, 1 to 64",
+         "  -h, --help          Print help", 8),
+        ("Prints a job of a tree with random garbage in it, the same for the same options",
+         "random [OPTIONS]", "      --seed <N>      Where the generator begins [default: 1]",
+         "  -h, --help          Print help", 16)])
 
 # Command lines with a mistake, and what is said of it before the usage.
 MISTAKEN = [
