@@ -1,7 +1,7 @@
 """What `rignolda explain` says of mistakes that people make when they write a job."""
 
 from tables.reader import row
-from tables.rows import Row, like, repeated, replaced
+from tables.rows import Row, like, made, replaced
 
 # A job of a chain of three nodes, with every member.
 JOB = """\
@@ -196,7 +196,7 @@ BYTES = {
 
 # A link job with this many events that are none, and its last line but one: of what is found a
 # hundred are written, and the others are counted, up to a million.
-UNKNOWN = '{"capacity":1,"labels":4,"start":{"send":0,"recv":1},"events":["x"', ',"x"', "]}"
+UNKNOWN = {"capacity": 1, "labels": 4, "start": {"send": 0, "recv": 1}}
 COUNTED = [
     (100, 'events[99]: "x" is no event', "bad event"),
     (101, "and 1 more", "bad event"),
@@ -232,8 +232,8 @@ ROWS = [
       for (name, job), table in TABLES.items() for part, instead, *findings in table),
     *(Row(f"says what the first bytes show: {given}", ["explain"], given, status=1,
           out=f"{said}\nstab link: job: not JSON\n") for given, said in BYTES.items()),
-    *(Row(f"counts what it does not write: {count} events",
-          ["explain"], repeated(UNKNOWN[0], UNKNOWN[1], count - 1, UNKNOWN[2]), status=1,
+    *(Row(f"counts what it does not write: {count} events", ["explain"],
+          made(UNKNOWN, events=["x"] * count), status=1,
           out=like(ends=f"\n{said}\nstab link: job: {fault}\n", lines=101 + (count > 100)))
       for count, said, fault in COUNTED),
 ]

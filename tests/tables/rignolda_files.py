@@ -1,7 +1,7 @@
 """Files that `rignolda` cannot read: each command with each of its files."""
 
 from tables.rignolda_check import NO_LINK
-from tables.rows import Row, repeated
+from tables.rows import Row
 from tables.stab_limits import MOST
 
 # A link job, and the text of its link.
@@ -35,10 +35,10 @@ ROWS = [
     Row("both files can be read", ["check", "job", "report"], files=FILES, out="obeys\n"),
     # (the job is read first)
     unread("check nothing .", "file: cannot be opened"),
-    unread("explain", "file: too long", repeated("", " ", MOST + 1, "")),
-    unread("check job -", "report file: too long", repeated("", " ", MOST + 1, "")),
+    unread("explain", "file: too long", lambda _: " " * (MOST + 1)),
+    unread("check job -", "report file: too long", lambda _: " " * (MOST + 1)),
     # (standard input as long as a report may be)
-    unread("check job -", NO_LINK, repeated("", " ", MOST, "")),
+    unread("check job -", NO_LINK, lambda _: " " * MOST),
     *(unread(line.replace("FILE", file), f"{what}: {said}",
              **({"long": " " * (MOST + 1)} if file == "long" else {}))
       for what, lines in [("file", READERS), ("report file", ["check job FILE"])]

@@ -1,5 +1,6 @@
 """Rows of tests: a command line with what it reads, and what it has to print."""
 
+import json
 from dataclasses import dataclass, field
 
 from examples import DATA
@@ -41,9 +42,9 @@ def printed(words):
     return lambda prints: prints(words)
 
 
-def repeated(begins, entry, count, ends):
-    """A long text: this beginning, an entry as often as counted, and this end."""
-    return lambda _: begins + entry * count + ends
+def made(job, **more):
+    """The text of a job with these members, which may be long, as short as it can be."""
+    return lambda _: json.dumps({**job, **more}, separators=(",", ":"))
 
 
 def like(begins="", ends="", parts=(), without=(), width=None, lines=None):

@@ -1,50 +1,20 @@
 """Jobs of `stab` at the limits of what they may have, and beyond: long lists, scripts and files."""
 
-from tables.rows import Row, refusals, repeated
+from tables.rows import Row, made, refusals
 
 # The most bytes of a file.
 MOST = 16_777_216
-TREE, LINK, OF_TREES = [["tree"]], [["link"]], [["tree"], ["run"], ["run", "--words"],
-                                                ["run", "--mixed"]]
+OF_TREES = [["tree"], ["run"], ["run", "--words"], ["run", "--mixed"]]
 
-# A job of two nodes, up to the script of its link, and what is printed of it.
-SCRIPTED = """\
-{"capacity":1,"labels":4,"tree":[{"name":"r"},{"name":"a","parent":"r"}],"items":[],"scripts":["""
+# A job of one node, one of two, and a link job.
+LONE = {"capacity": 1, "labels": 4, "tree": [{"name": "r"}], "items": [7, 8]}
+PAIR = {**LONE, "tree": [{"name": "r"}, {"name": "a", "parent": "r"}]}
+LINK = {"capacity": 1, "labels": 4, "start": {"send": 0, "recv": 3}, "events": []}
+
+# The lists of a script, each with as many letters as it may have, and what is printed of it.
+LISTS = {name: letter * 100_000 for name, letter in [
+    ("frames_out", "E"), ("frames_in", "K"), ("acks_out", "D"), ("acks_in", "T")]}
 NO_ITEMS = "r depth 0 received 0 acked -\nitems:\na depth 1 received 0 acked 0\nitems:\n"
-
-# The lists of a script, and a letter of each.
-LISTS = {"frames_out": "E", "frames_in": "K", "acks_out": "D", "acks_in": "T"}
-
-
-def items(count):
-    """A job of one node with no turn, and with `count` items."""
-    before = '{"capacity":1,"labels":4,"tree":[{"name":"r"}],"turns":0,"items":['
-    return repeated(before, "7,", count - 1, "7]}")
-
-
-def schedule(entry, count):
-    """A job of one node with `count` entries in its schedule."""
-    before = '{"capacity":1,"labels":4,"tree":[{"name":"r"}],"items":[7,8],"schedule":['
-    return repeated(before, entry + ",", count - 1, entry + "]}")
-
-
-def letters(last):
-    """A job of two nodes, whose script has 100,000 letters in each list, and in the last one then
-    this."""
-    lists = ",".join(f'"{name}":"{letter * 100_000}"' for name, letter in LISTS.items())
-    return SCRIPTED + "{" + lists[:-1] + last + '"}]}'
-
-
-def one_list(name, count):
-    """A job of two nodes, whose script has as many letters in one list as counted."""
-    return repeated(SCRIPTED + f'{{"{name}":"', LISTS[name], count, '"}]}')
-
-
-def events(count, last, first='"send_ack"'):
-    """A link job with `count` events, of which the last and the first are these."""
-    before = '{"capacity":1,"labels":4,"start":{"send":0,"recv":3},"events":[' + first + ","
-    return repeated(before, '"send_ack",', count - 2, last + "]}")
-
 
 # What is printed of a link that has room for the first of its acknowledgements, and is closed.
 CLOSED = """\
@@ -58,42 +28,53 @@ acks: 3
 closed: yes
 """
 
-# A stray that the last one of 1,000,000 steps delivers, and what is printed of its tree.
-LAST_STEP = repeated(
-    """\
-{"capacity":1,"labels":4,"tree":[{"name":"r"},{"name":"a","parent":"r"}],"items":[7,8],
-"starts":[{"frames":[[2,99]],"send":0,"recv":1}],"schedule":[""",
-    '["a","offer"],', 999_999, '["a","recv_frame"]]}')
-DELIVERED = "r depth 0 received 2 acked -\nitems: 7 8\na depth 1 received 1 acked 0\nitems: 99\n"
+
+def script(**more):
+    """A job of two nodes with these lists in its script."""
+    return made(PAIR, items=[], scripts=[more])
+
+
+def events(count, last, first="send_ack"):
+    """A link job with `count` events, of which the last and the first are these."""
+    return made(LINK, events=[first, *["send_ack"] * (count - 2), last])
+
 
 ROWS = [
-    Row("makes 1000000 steps", ["tree"], LAST_STEP, out=DELIVERED),
-    Row("reads a script of 100000 acts", ["tree"], one_list("frames_out", 100_000), out=NO_ITEMS),
-    Row("reads 100000 letters in each list", ["tree"], letters(""), out=NO_ITEMS),
-    Row("reads a link job of 1000000 events", ["link"], events(1_000_000, '"close"'), out=CLOSED),
+    # (the last one of 1,000,000 steps delivers a stray)
+    Row("makes 1000000 steps", ["tree"],
+        made(PAIR, starts=[{"frames": [[2, 99]], "send": 0, "recv": 1}],
+             schedule=[["a", "offer"]] * 999_999 + [["a", "recv_frame"]]),
+        out="r depth 0 received 2 acked -\nitems: 7 8\na depth 1 received 1 acked 0\nitems: 99\n"),
+    Row("reads a script of 100000 acts", ["tree"], script(frames_out=LISTS["frames_out"]),
+        out=NO_ITEMS),
+    Row("reads 100000 letters in each list", ["tree"], script(**LISTS), out=NO_ITEMS),
+    Row("reads a link job of 1000000 events", ["link"], events(1_000_000, "close"), out=CLOSED),
 ]
 ROWS += [
-    row for name, job, said, tasks in [
-        ("reads 10000 items", items(10_000), "job: turns out of range", TREE),
-        ("refuses 10001 items", items(10_001), "job: too many items", TREE),
-        ("reads 1000000 steps", schedule('["r","close"]', 1_000_000), "step: no such link", TREE),
-        ("refuses 1000001 steps", schedule("0", 1_000_001), "job: too many events", TREE),
-        ("refuses a bad event after 999999 others", events(1_000_000, '"jump"'), "job: bad event",
-         LINK),
-        ("refuses a bad event before 999999 others", events(1_000_000, '"close"', '["jump",0]'),
-         "job: bad event", LINK),
-        ("refuses 1000001 events before a bad one", events(1_000_001, '"jump"'),
-         "job: too many events", LINK),
+    row for name, job, said, *tasks in [
+        ("reads 10000 items", made(LONE, turns=0, items=[7] * 10_000), "job: turns out of range"),
+        ("refuses 10001 items", made(LONE, turns=0, items=[7] * 10_001), "job: too many items"),
+        ("reads 1000000 steps", made(LONE, schedule=[["r", "close"]] * 1_000_000),
+         "step: no such link"),
+        ("refuses 1000001 steps", made(LONE, schedule=[0] * 1_000_001), "job: too many events"),
+        ("refuses a bad event after 999999 others", events(1_000_000, "jump"), "job: bad event",
+         ["link"]),
+        ("refuses a bad event before 999999 others", events(1_000_000, "close", ["jump", 0]),
+         "job: bad event", ["link"]),
+        ("refuses 1000001 events before a bad one", events(1_000_001, "jump"),
+         "job: too many events", ["link"]),
         ("refuses 1000001 events before a bad one that is the first of them",
-         events(1_000_001, '"close"', '"jump"'), "job: too many events", LINK),
-        ("refuses 100001 letters", letters("T"), "job: script too long", OF_TREES),
-        *((f"refuses 100001 letters of {name}", one_list(name, 100_001), "job: script too long",
-           TREE) for name in LISTS),
-        ("refuses 100001 letters and a wrong one among them", letters("X"), "job: wrong shape",
-         TREE),
-        ("reads 16777216 bytes", repeated("", " ", MOST, ""), "job: not JSON", TREE + LINK),
-        ("refuses 16777217 bytes", repeated(" ", " ", MOST, ""), "file: too long", TREE + LINK),
-        ("refuses a file without an end", "", "file: too long", [["link", "/dev/zero"]]),
+         events(1_000_001, "close", "jump"), "job: too many events", ["link"]),
+        ("refuses 100001 letters", script(**{**LISTS, "acks_in": "T" * 100_001}),
+         "job: script too long", *OF_TREES),
+        *((f"refuses 100001 letters of {name}", script(**{name: letters + letters[0]}),
+           "job: script too long") for name, letters in LISTS.items()),
+        ("refuses 100001 letters and a wrong one among them",
+         script(**{**LISTS, "acks_in": LISTS["acks_in"] + "X"}), "job: wrong shape"),
+        ("reads 16777216 bytes", lambda _: " " * MOST, "job: not JSON", ["tree"], ["link"]),
+        ("refuses 16777217 bytes", lambda _: " " * (MOST + 1), "file: too long",
+         ["tree"], ["link"]),
+        ("refuses a file without an end", "", "file: too long", ["link", "/dev/zero"]),
     ]
-    for row in refusals(name, job, said, tasks)
+    for row in refusals(name, job, said, tasks or [["tree"]])
 ]
