@@ -27,7 +27,7 @@ sys.path[:0] = [str(TOP / part) for part in ("tests/daemon", "tools")]
 
 import long
 from faults.logs import delivered, strays_of, text_of
-from jobs import drawn_tree, spoilt_items
+from jobs import asked, drawn_tree, spoilt_items
 from programs import answered, counted, run_with
 from tables.reader import begin, tree_of
 
@@ -137,8 +137,8 @@ def of_runs(draw):
 
 def tried(file):
     """Tries all logs with this program."""
-    count = int(sys.argv[1]) if len(sys.argv) > 1 else 1500
-    draw = random.Random(int(sys.argv[2]) if len(sys.argv) > 2 else 1)
+    count, seed = asked(1500, 1)
+    draw = random.Random(seed)
     cases = [drawn(draw, file, at % 2) for at in range(count)]
     runs = list(of_runs(draw))
     wanted = [(0 if text == "obeys\n" else 1, text, "") for _, text in cases]

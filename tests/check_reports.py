@@ -27,7 +27,7 @@ from pathlib import Path
 ROOT = Path(__file__).resolve().parent.parent
 sys.path[:0] = [str(ROOT / "agents"), str(ROOT / "tools")]
 import check_report  # noqa: E402
-from jobs import drawn_link, drawn_tree, spoilt_items  # noqa: E402
+from jobs import asked, drawn_link, drawn_tree, spoilt_items  # noqa: E402
 from programs import Cases, answered, run_with  # noqa: E402
 
 # How the plain program ends where a text is no report.
@@ -36,6 +36,7 @@ NO_REPORT = "another form", "number of items", "each node", "not end", "have an 
 # long its links lose and repeat.
 LONG = [(["run"], 1_000, 4_000, 200), (["run", "--words"], 10_000, 25_000, 20_000)]
 CHAIN = [{"name": "r"}, {"name": "a", "parent": "r"}, {"name": "b", "parent": "a"}]
+COMMANDS = [["link"], ["run"], ["run", "--words"], ["run", "--mixed"], ["tree"]]
 WAYS = ["swap", "double", "alter", "drop", "add"] * 3 + ["count", "end", "byte"]
 
 
@@ -160,17 +161,15 @@ def agrees(fault, status, line):
 
 def main(stab, rignolda):
     """Draws jobs, and compares."""
-    count = int(sys.argv[1]) if len(sys.argv) > 1 else 500
-    draw = random.Random(int(sys.argv[2]) if len(sys.argv) > 2 else 1)
-    cases, found = Cases(), collections.Counter()
+    count, seed = asked(500, 1)
+    draw, cases, found = random.Random(seed), Cases(), collections.Counter()
     for run in LONG:
         fault = fault_of_long(stab, *run)
         cases.holds(f"{run[1]} items, by {' '.join(run[0])}", fault is None, fault)
     with tempfile.TemporaryDirectory() as folder:
         for case in range(count):
-            is_link = draw.random() < 0.2
-            command = ["link"] if is_link else draw.choice(
-                [["run"], ["run", "--words"], ["run", "--mixed"], ["tree"]])
+            command = draw.choice(COMMANDS)
+            is_link = command == ["link"]
             job = drawn_link(draw, draw.choice([3, 20, 1 << 32])) if is_link else drawn_job(
                 draw, "--words" in command, rignolda)
             whole = json.dumps(job)

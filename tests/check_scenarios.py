@@ -15,6 +15,7 @@ The program is the one of check_tables.py. The last line is 'N passed, M failed'
 
 import json
 import random
+import re
 import sys
 import xml.etree.ElementTree
 from concurrent.futures import ThreadPoolExecutor
@@ -24,7 +25,7 @@ TOP = Path(__file__).resolve().parent.parent
 sys.path.insert(0, str(TOP / "tools"))
 
 from faults.scenario import drawn_text, link_text, random_job, schedule_text, text_of
-from jobs import drawn_link
+from jobs import asked, drawn_link
 from programs import answered, counted, run_with
 
 VALUES = [None, True, -1, 0, 1, 70000, 0.5, "", "x", "offer", "publish", "lose_frame", [], [0],
@@ -58,13 +59,10 @@ def rows_of_picture(svg, names):
 
 
 def spoiled(draw, job):
-    """A scenario with another value in one of its steps, or None where it has no step."""
-    if not job["steps"]:
-        return None
+    """A scenario with another value in one of its steps."""
     job = json.loads(json.dumps(job))
-    place = draw.randrange(len(job["steps"]))
+    place, way = draw.randrange(len(job["steps"])), draw.random()
     step = job["steps"][place]
-    way = draw.random()
     if way < 0.1:
         job["steps"][place] = draw.choice(VALUES)
     elif way < 0.2:
@@ -80,22 +78,20 @@ def spoiled(draw, job):
 
 def fault_of_spoiled(file, draw, job):
     """Whether `explain` and `scenario` disagree on a scenario that is spoiled, or None."""
-    job = spoiled(draw, job)
-    if job is None:
+    if not job["steps"]:
         return None
+    job = spoiled(draw, job)
     status, _, err = answered(file, "scenario", given=job)
-    _, said, _ = answered(file, "explain", given=job)
-    lines = said.splitlines()
-    if lines[-1] != "stab tree: accepted":
-        return f"explain ends with {lines[-1]!r} for {json.dumps(job)}"
-    found = [line for line in lines[:-1] if ": ignored" not in line]
+    *found, last = answered(file, "explain", given=job)[1].splitlines()
+    if last != "stab tree: accepted":
+        return f"explain ends with {last!r} for {json.dumps(job)}"
+    found = [line for line in found if ": ignored" not in line]
+    number = re.match(r"rignolda: scenario: step (\d+): ", err)
     if status == 0:
-        return f"explain finds {found} in {json.dumps(job)}" if found else None
-    number = err.removeprefix("rignolda: scenario: step ").split(":")[0]
-    wanted = f"steps[{int(number) - 1}]" if number.isdigit() else None
-    if wanted is None or not found or not found[0].startswith(wanted):
-        return f"scenario says {err!r}, and explain {found} of {json.dumps(job)}"
-    return None
+        is_same = not found
+    else:
+        is_same = number and found and found[0].startswith(f"steps[{int(number[1]) - 1}]")
+    return None if is_same else f"scenario says {err!r}, and explain {found} of {json.dumps(job)}"
 
 
 def changes_of(job, steps):
@@ -122,44 +118,37 @@ def fault_of_count(file, draw, job):
     return None if (status, err) == wanted else said
 
 
-def fault_of_run(file, draw, job):
-    """Whether a schedule of the acts of a scenario, or a link job, is drawn otherwise, or None."""
-    acts = [step for step in job["steps"] if isinstance(step[-1], str)
-            or len(step) == 3 and isinstance(step[-1], int)]
-    schedule = {**{name: job[name] for name in job if name != "steps"}, "schedule": acts}
-    link = drawn_link(draw)
-    for run, text in (schedule, schedule_text(schedule)), (link, link_text(link)):
-        seen = answered(file, "draw", given=run)
-        if seen != (0, text, ""):
-            return f"draw prints {seen}, and not {text!r}, of {json.dumps(run)}"
-    return None
-
-
 def fault_of(file, seed):
     """What is wrong with what is printed of a random scenario, or None."""
     draw = random.Random(seed)
-    job = random_job(draw, file)
+    job, link = random_job(draw, file), drawn_link(draw)
     wanted = drawn_text(job)
-    for words, text in ((["scenario"], text_of(job)), (["draw"], wanted),
-                        (["explain"], "stab tree: accepted\n")):
-        seen = answered(file, *words, given=job, timeout=60)
+    # (those of its steps that are acts are a schedule)
+    acts = [step for step in job["steps"] if isinstance(step[-1], str)
+            or len(step) == 3 and isinstance(step[-1], int)]
+    schedule = {**{name: job[name] for name in job if name != "steps"}, "schedule": acts}
+    for word, given, text in [
+            ("scenario", job, text_of(job)), ("draw", job, wanted),
+            ("explain", job, "stab tree: accepted\n"), ("draw", link, link_text(link)),
+            ("draw", schedule, schedule_text(schedule))]:
+        seen = answered(file, word, given=given, timeout=60)
         if seen != (0, text, ""):
-            return f"{words[0]} prints {seen}, and not {text!r}, of {json.dumps(job)}"
+            return f"{word} prints {seen}, and not {text!r}, of {json.dumps(given)}"
     status, svg, _ = answered(file, "draw", "--svg", given=job)
     names = [node["name"] for node in job["tree"]]
     if status != 0 or rows_of_picture(svg, names) != rows_of_text(wanted):
         return f"the picture has other rows, of {json.dumps(job)}"
-    fault = fault_of_run(file, draw, job) or fault_of_spoiled(file, draw, job)
+    fault = fault_of_spoiled(file, draw, job)
     return fault or (fault_of_count(file, draw, job) if seed % 20 == 0 else None)
 
 
 def main(file):
-    count = int(sys.argv[1]) if len(sys.argv) > 1 else 200
-    first = int(sys.argv[2]) if len(sys.argv) > 2 else 49000
+    count, first = asked(200, 49000)
+    seeds = range(first, first + count)
     with ThreadPoolExecutor(4) as pool:
-        faults = list(pool.map(lambda seed: fault_of(file, seed), range(first, first + count)))
-    return counted(((f"scenario {seed}", fault and fault[:2000])
-                    for seed, fault in enumerate(faults, first)), quiet=True)
+        faults = pool.map(lambda seed: fault_of(file, seed), seeds)
+        return counted(((f"scenario {seed}", fault and fault[:2000])
+                        for seed, fault in zip(seeds, faults)), quiet=True)
 
 
 sys.exit(run_with(main, "rignolda"))

@@ -2,8 +2,15 @@
 them."""
 import json
 import re
+import sys
 
 from programs import answered
+
+
+def asked(*usual):
+    """The numbers that the command line says, and where it says fewer what is usual."""
+    given = [int(word) for word in sys.argv[1:]]
+    return [*given, *usual[len(given):]]
 
 
 def drawn_tree(draw, rignolda, names=(), **options):

@@ -34,12 +34,10 @@ struct calls {
     void (*forget)(rignolda_node *, uint64_t);
 };
 
-static const struct calls library = {
-    rignolda_node_publish, rignolda_node_poll, rignolda_node_on_frame, rignolda_receiver_ack,
-    rignolda_child_on_ack, rignolda_child_needs, rignolda_node_forget};
-static const struct calls plain = {
-    plain_node_publish, plain_node_poll, plain_node_on_frame, plain_receiver_ack,
-    plain_child_on_ack, plain_child_needs, plain_node_forget};
+#define CALLS(form)                                                                             \
+    {form##_node_publish, form##_node_poll, form##_node_on_frame, form##_receiver_ack,          \
+     form##_child_on_ack, form##_child_needs, form##_node_forget}
+static const struct calls library = CALLS(rignolda), plain = CALLS(plain);
 
 /* Calls a second. */
 static double rate(const struct calls *volatile which, unsigned long rounds) {
@@ -67,8 +65,8 @@ static double rate(const struct calls *volatile which, unsigned long rounds) {
 
 /* Defines a function that makes the five calls of a link round after round, and answers how many
  * there were a second. */
-#define ROUNDS_OF_A_LINK(name, offer, frame_of, take, ack, on_ack)                              \
-    static double name(unsigned long rounds) {                                                  \
+#define ROUNDS_OF_A_LINK(form)                                                                  \
+    static double link_of_##form(unsigned long rounds) {                                        \
         static rignolda_params params = {1, 4};                                                 \
         rignolda_sender sender = {0, 0, 0, 0};                                                  \
         rignolda_receiver receiver = {3, 0};                                                    \
@@ -77,17 +75,17 @@ static double rate(const struct calls *volatile which, unsigned long rounds) {
         uint16_t label = 0;                                                                     \
         double before = now();                                                                  \
         for (unsigned long i = 0; i < rounds; i++)                                              \
-            if (!offer(&sender, (uint32_t)i) || !frame_of(&sender, &frame) ||                   \
-                !take(&receiver, &frame, &item) || !ack(&receiver, &label) ||                   \
-                !on_ack(&sender, &params, label) || item != (uint32_t)i)                        \
+            if (!form##_sender_offer(&sender, (uint32_t)i) ||                                   \
+                !form##_sender_frame(&sender, &frame) ||                                        \
+                !form##_receiver_on_frame(&receiver, &frame, &item) ||                          \
+                !form##_receiver_ack(&receiver, &label) ||                                      \
+                !form##_sender_on_ack(&sender, &params, label) || item != (uint32_t)i)          \
                 exit(1);                                                                        \
         return 5 * (double)rounds / (now() - before);                                           \
     }
 
-ROUNDS_OF_A_LINK(of_library, rignolda_sender_offer, rignolda_sender_frame,
-                 rignolda_receiver_on_frame, rignolda_receiver_ack, rignolda_sender_on_ack)
-ROUNDS_OF_A_LINK(of_plain, plain_sender_offer, plain_sender_frame, plain_receiver_on_frame,
-                 plain_receiver_ack, plain_sender_on_ack)
+ROUNDS_OF_A_LINK(rignolda)
+ROUNDS_OF_A_LINK(plain)
 
 static double node_of_library(unsigned long rounds) { return rate(&library, rounds); }
 static double node_of_plain(unsigned long rounds) { return rate(&plain, rounds); }
@@ -108,7 +106,7 @@ static void compare(const char *what, double (*one)(unsigned long), double (*oth
 int main(int argc, char **argv) {
     unsigned long rounds = argc > 1 ? strtoul(argv[1], 0, 10) : 1000000;
     compare("node", node_of_library, node_of_plain, rounds);
-    compare("link", of_library, of_plain, rounds);
+    compare("link", link_of_rignolda, link_of_plain, rounds);
     printf("bytes: node %zu, child %zu, session %zu, sender %zu, receiver %zu\n",
            sizeof(rignolda_node), sizeof(rignolda_child), sizeof(rignolda_session),
            sizeof(rignolda_sender), sizeof(rignolda_receiver));
