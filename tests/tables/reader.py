@@ -101,16 +101,16 @@ def is_frame(value):
     return type(value) is list and len(value) == 2 and is_label(value[0]) and is_item(value[1])
 
 
-def numbers_of(value):
-    """The capacity and the number of labels of a link."""
-    found = [member(value, name) for name in ("capacity", "labels")]
+def numbers_of(value, *names):
+    """The whole numbers that these members are."""
+    found = [member(value, name) for name in names]
     must(all(map(is_number, found)))
-    return [min(of, MOST_16) for of in found]
+    return found
 
 
 def own_numbers_of(value):
-    """Those of an entry of `links`, or None where it has none."""
-    return None if value is None else numbers_of(value)
+    """The capacity and the number of labels of an entry of `links`, or None where it has none."""
+    return None if value is None else numbers_of(value, "capacity", "labels")
 
 
 def check_numbers(capacity, labels):
@@ -146,8 +146,7 @@ def script_of(value):
         must(all(set(of) <= set(kind) for of, kind in zip(lists, LETTERS.values())))
         return max(map(len, lists)), 0
     must(len(entries(member(value, "seed"), is_number)) == 2)
-    length, *rates = [member(value, name) for name in ("length", "loss", "repeat")]
-    must(all(map(is_number, (length, *rates))))
+    length, *rates = numbers_of(value, "length", "loss", "repeat")
     return length, max(rates)
 
 
@@ -213,7 +212,7 @@ def link_of(data):
     """The link that the bytes of a link job mean, with the origin beside each item, and its events.
     """
     value = value_of(data)
-    capacity, labels = numbers_of(value)
+    capacity, labels = numbers_of(value, "capacity", "labels")
     start, events = start_of(member(value, "start")), entries(member(value, "events"))
     check_numbers(capacity, labels)
     must(len(events) <= 1_000_000, "job: too many events")
@@ -228,7 +227,7 @@ def tree_of(data):
     value = value_of(data)
     version = member(value, "version", 1) if isinstance(value, Pairs) else 1
     must(type(version) is int and version in (1, 2), "job: unknown version")
-    own, tree, clean = numbers_of(value), member(value, "tree"), ([], [], 0, MOST_16)
+    own, tree = numbers_of(value, "capacity", "labels"), member(value, "tree")
     items = entries(member(value, "items"), is_item)
     links, starts, scripts = (
         has(value, name) and [of(one) for one in entries(member(value, name))]
@@ -238,8 +237,7 @@ def tree_of(data):
     schedule = entries(member(value, "schedule", []))
     hold, openings = 0, None
     if version == 2:
-        hold = member(value, "h")
-        must(is_number(hold))
+        hold, = numbers_of(value, "h")
         if has(value, "openings"):
             openings = [entries(of, is_item)
                         for of in entries(member(value, "openings"))]
@@ -257,17 +255,15 @@ def tree_of(data):
     must(all(map(is_step, schedule)), "job: bad event")
     must(all(name in parents for name, *_ in schedule), "job: unknown node")
     must(links is False or len(links) == len(children), "job: wrong number of links")
-    for numbers in filter(None, links or []):
+    links = [numbers or own for numbers in links or [None] * len(children)]
+    for numbers in links:
         check_numbers(*numbers)
     openings = [[] for _ in parents] if openings is None else openings
     check_openings(openings, hold, parents)
-    of_child = dict(zip(children, zip(links or [None] * len(children),
-                                      starts or [clean] * len(children))))
-    names, made = list(parents), []
-    for name in names:
-        numbers, start = of_child.get(name, (None, None))
-        made.append(start and (numbers or own, start))
-    tree = Tree([above and names.index(above) for above in parents.values()], made, items)
+    of_child = dict(zip(children, zip(links, starts or [([], [], 0, MOST_16)] * len(children))))
+    names = list(parents)
+    tree = Tree([above and names.index(above) for above in parents.values()],
+                [of_child.get(name) for name in names], items)
     tree.openings = openings
     return tree, names, schedule
 
@@ -276,9 +272,8 @@ def begin(tree, words):
     """Has the links of a tree begin, in their order, for a task that these words name."""
     wide = [numbers[0] > 1 for numbers, _ in filter(None, tree.links)]
     must("--words" not in words or not any(wide), "run: capacity is not one")
-    for place, of in enumerate(tree.links):
-        if of:
-            numbers, start = of
+    for place, (numbers, start) in enumerate(of or (None, None) for of in tree.links):
+        if numbers:
             check_start(start, numbers[0])
             tree.links[place] = Link(*numbers, *start)
 
@@ -296,13 +291,13 @@ def text_of_link(data, is_traced=False):
     for event in events:
         word, place = (event, 0) if isinstance(event, str) else event
         link.act(word, [*link.offered, (place, f"i{len(link.offered)}")], place)
-    text = line("delivered", *(item for item, _ in link.delivered))
-    text += line("offered", *(item for item, _ in link.offered))
+    delivered, origins = zip(*link.delivered) if link.delivered else ((), ())
+    text = line("delivered", *delivered) + line("offered", *(item for item, _ in link.offered))
     text += line("acked", link.acked) + line("send label", link.send)
     text += line("recv label", link.recv)
     text += line("frames", *(f"{label}={item}" for label, (item, _) in link.frames))
     text += line("acks", *link.acks) + line("closed", "yes" if link.closed else "no")
-    return text + line("origins", *(origin for _, origin in link.delivered)) * is_traced
+    return text + line("origins", *origins) * is_traced
 
 
 def text_of_tree(data):
@@ -333,13 +328,13 @@ def report_of(data, words):
 def row(name, words, given):
     """The row of `stab` with these words and this job, as a text or as bytes."""
     data = given if isinstance(given, bytes) else given.encode("utf-8", "surrogatepass")
-    name = f"{' '.join(words)}: {name}: {data[:200]!r}"
+    made = Row(f"{' '.join(words)}: {name}: {data[:200]!r}", words, data)
     try:
         if words[0] == "link":
-            return Row(name, words, data, out=text_of_link(data, "--trace" in words))
-        if words[0] == "tree":
-            return Row(name, words, data, out=text_of_tree(data))
-        return Row(name, words, data, out=report_of(data, words))
+            made.out = text_of_link(data, "--trace" in words)
+        else:
+            made.out = text_of_tree(data) if words[0] == "tree" else report_of(data, words)
     except Refused as refused:
-        status = 1 if str(refused).startswith(("job", "tree")) else 3
-        return Row(name, words, data, status=status, err=f"stab: {refused}\n")
+        made.status = 1 if str(refused).startswith(("job", "tree")) else 3
+        made.err = f"stab: {refused}\n"
+    return made

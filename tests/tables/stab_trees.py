@@ -62,12 +62,10 @@ TEXTS = [
     *changed('"schedule"', '"sche\\u0064ule"', '"Schedule"', "schedule", "1"),
     *changed('{"name":"b"', '{"name":"\\u0062"', '{"name":"B"', '{"name":"a"', '{"name":1',
              '{"nam\\u0065":"b"', '{"name":"c"', '{"name":"bb"', '{"name":"a","name":"b"'),
-    *changed('["a","offer"],["b","recv_frame"]', '["\\u0061","offer"],["b","recv_frame"]',
-             '["a","o\\u0066fer"],["b","recv_frame"]', '["A","offer"],["b","recv_frame"]',
-             '["","offer"],["b","recv_frame"]', '["r","offer"],["b","recv_frame"]',
-             '["aa","offer"],["b","recv_frame"]', '["\\ud83d","offer"],["b","recv_frame"]',
-             '["\\u00e4 \\ud83d\\ude00","offer"],["b","recv_frame"]',
-             '["' + "a" * 300 + '","offer"],["b","recv_frame"]'),
+    *changed('"a","offer"],["b","recv_frame"]', *(step + '],["b","recv_frame"]' for step in [
+        '"\\u0061","offer"', '"a","o\\u0066fer"', '"A","offer"', '"","offer"', '"r","offer"',
+        '"aa","offer"', '"\\ud83d","offer"', '"\\u00e4 \\ud83d\\ude00","offer"',
+        '"' + "a" * 300 + '","offer"'])),
     # numbers in each place of one
     *(text for old, new in [
         ('"capacity":1', '"capacity":%s'), ('"labels":4', '"labels":%s'), ("[7,8]", "[7,%s]"),
@@ -80,11 +78,10 @@ TEXTS = [
     # further members, and members that come again
     *(text for further in FURTHER for old in ("{" + NUMBERS, '{"name":"r"')
       for text in changed(old, old + ',"note":' + further)),
-    *changed(STEPS, '"schedule":[["a","jump"]],' + STEPS, STEPS + ',"schedule":[["a","jump"]]',
-             STEPS + ',"schedule":[["a","offer"]]', STEPS + ',"schedule":[["x","offer"]]',
-             STEPS + ',"schedule":[]', STEPS + ',"schedule":null', STEPS + ',"schedule":{}',
-             '"schedule":null', '"schedule":{}', '"schedule":"close"', '"schedule":5',
-             '"schedule":[]', '"schedule":null,' + STEPS),
+    *changed(STEPS, '"schedule":[["a","jump"]],' + STEPS, '"schedule":null,' + STEPS,
+             *(f'{STEPS},"schedule":{steps}' for steps in [
+                 '[["a","jump"]]', '[["a","offer"]]', '[["x","offer"]]', "[]", "null", "{}"]),
+             *(f'"schedule":{steps}' for steps in ("null", "{}", '"close"', "5", "[]"))),
     *changed(TREE, TREE + ',"tree":[{"name":"r"}]', '"tree":null,' + TREE, '"tree":{}',
              '"tree":[1]', TREE + ',"tree":7'),
     *changed(STARTS, '"starts":[]', '"starts":null', '"starts":[{"send":0,"recv":1}]',
@@ -189,14 +186,13 @@ CASES = [
         '[{"name":"r"},{"name":"s"},{"name":"a","parent":"a"}]', '[{"name":"a","parent":"a"}]',
         '[{"name":"r"},{"name":"a","parent":"b"},{"name":"b","parent":"a"}]']),
     (CHAIN, TREE_TASK, [
-        links(), links("null", "null", "null"), links("null", WIDE), links("null", FEW_LABELS),
-        links("null", '{"capacity":0,"labels":6}'), links("null", '{"capacity":70000,"labels":9}'),
-        links('{"capacity":2,"labels":70000}', "null"), ',"links":{}', ',"links":"links"',
-        links(FEW_LABELS, '{"capacity":0,"labels":4}'), links("null", "7"), links("null", "[2,6]"),
-        links("null", "true"), links("null", "{}"), links("null", '{"capacity":2}'),
-        links("null", '{"labels":6}'), links("null", '{"capacity":null,"labels":6}'),
-        links("null", '{"capacity":2,"labels":6.0}'), links("null", '{"capacity":-2,"labels":6}'),
-        links("null", '{"capacity":18446744073709551616,"labels":6}'), links() + ',"turns":0',
+        *(links("null", entry) for entry in [
+            WIDE, FEW_LABELS, '{"capacity":0,"labels":6}', '{"capacity":70000,"labels":9}', "7",
+            "[2,6]", "true", "{}", '{"capacity":2}', '{"labels":6}', '{"capacity":null,"labels":6}',
+            '{"capacity":2,"labels":6.0}', '{"capacity":-2,"labels":6}',
+            '{"capacity":18446744073709551616,"labels":6}', 'null,null']),
+        links(), links('{"capacity":2,"labels":70000}', "null"), ',"links":{}', ',"links":"links"',
+        links(FEW_LABELS, '{"capacity":0,"labels":4}'), links() + ',"turns":0',
         links() + ',"schedule":[0]', links('{"capacity":0,"labels":0}'),
         f',"starts":[{START},{START}]', f',"starts":[{START},{TOO_FULL}]',
         f',"starts":[{START.replace("[0]", "[0,0]")},{TOO_FULL}]',
@@ -211,15 +207,15 @@ CASES = [
     (f'{{"items":[7,8],{TREE}{links(WIDE, WIDE)}', TREE_TASK, [
         ',"labels":4', ',"capacity":1', ',"capacity":0,"labels":4', ',"capacity":1,"labels":3']),
     (SECOND_VERSION, TREE_TASK, [
-        ',"h":2', ',"h":64,"openings":[[],[50,51],[]]', ',"h":65', ',"h":70000,"openings":[]',
-        ',"h":65,"openings":[[],[50,51]]', ',"h":2,"openings":[[1],[],[],[]]',
-        ',"h":2,"openings":[[],[1,2,3],[]]', ',"h":2,"openings":[[1,2,3],[],[]]',
-        ',"h":2,"openings":[[],[],[1]]', ',"h":null', ',"h":"2"', ',"h":2.0', ',"h":-1',
-        ',"h":18446744073709551616', ',"h":2,"openings":7', ',"h":2,"openings":{}',
-        ',"h":2,"openings":[[],null,[]]', ',"h":2,"openings":[[],50,[]]',
-        ',"h":2,"openings":[[],["50"],[]]', ',"h":65,"openings":[[],[-1],[]]', ',"h":65,"turns":0',
-        ',"h":65,"schedule":[["x","offer"]]', ',"h":65' + links(),
-        ',"h":65' + links("null", FEW_LABELS), ',"h":65' + links("null", "null"),
+        *(f',"h":{hold}' for hold in ("2", "65", "null", '"2"', "2.0", "-1", str(2**64))),
+        *(f',"h":2,"openings":{openings}' for openings in [
+            "[[1],[],[],[]]", "[[],[1,2,3],[]]", "[[1,2,3],[],[]]", "[[],[],[1]]", "7", "{}",
+            "[[],null,[]]", "[[],50,[]]", '[[],["50"],[]]']),
+        *(f',"h":65{more}' for more in [
+            ',"openings":[[],[50,51]]', ',"openings":[[],[-1],[]]', ',"turns":0',
+            ',"schedule":[["x","offer"]]', links(), links("null", FEW_LABELS),
+            links("null", "null")]),
+        ',"h":64,"openings":[[],[50,51],[]]', ',"h":70000,"openings":[]',
         ',"h":2,"openings":[[],[50,51],[]],"schedule":[["b","offer"],["b","send_frame"],'
         '["b","recv_frame"]]']),
     (TWO_FRAMES, [*TREE_TASK, *RUNS], [
