@@ -105,74 +105,68 @@ static void connect_ends(struct agent *above, struct line *line, struct agent *b
                           .below = numbered(&below->above, !by_parent)};
 }
 
-/* What the parent does on the link to its child. */
+/* An end that has a backlog waits for an answer. */
+static bool waits(const struct agent *it) {
+    return is_alone ? it->child.sender.holding || next != end
+                    : rignolda_node_backlog(&it->node, &it->child, PLACES) > 0;
+}
+
+/* What the parent does on the link to its child, or a sender alone, which is offered the items that
+ * are published. */
 static void look_down(struct agent *it, uint32_t *list, struct line *line) {
+    rignolda_sender *sender = &it->child.sender;
+    rignolda_session *session = &it->below;
     if (line->has_label) {
         line->has_label = false, line->quiet = 0;
-        rignolda_session_child_on_ack(&it->child, &it->below, &params, line->above, line->label);
+        if (is_alone)
+            rignolda_session_on_ack(sender, session, &params, line->above, line->label);
+        else
+            rignolda_session_child_on_ack(&it->child, session, &params, line->above, line->label);
     }
     forget(it, false);
-    bool may_send = it->below.there && it->below.turn;
-    if (rignolda_session_poll(&it->node, &it->child, &it->below, list, PLACES, &line->frame))
+    bool may_send = session->there && session->turn;
+    if (is_alone ? rignolda_session_send(sender, session, &line->frame)
+                 : rignolda_session_poll(&it->node, &it->child, session, list, PLACES,
+                                         &line->frame)) {
         line->has_frame = true;
-    else if (left_out != CHILD && may_send &&
-             rignolda_node_backlog(&it->node, &it->child, PLACES) > 0)
-        begin_child_anew(it);
-}
-
-/* The receiver answers where it may. */
-static void answer(struct agent *it, struct line *line) {
-    bool may_send = it->above.there && it->above.turn;
-    if (rignolda_session_ack(&it->node.above, &it->above, &line->label))
-        line->has_label = true;
-    else if (left_out != RECEIVER && may_send) {
-        rignolda_receiver_init(&it->node.above, it->node.above.label);
-        begun_anew++;
+    } else if (may_send && !is_alone) {
+        if (left_out != CHILD && waits(it))
+            begin_child_anew(it);
+    } else if (may_send && next != end) {
+        if (rignolda_sender_offer(sender, next)) {
+            next++;
+        } else if (left_out != SENDER) {
+            rignolda_sender_init(sender, (uint16_t)(draw() >> 48));
+            begun_anew++;
+        }
     }
 }
 
-/* What the child does on the link to its parent. */
+/* What the child does on the link to its parent, or a receiver alone, which answers where it may. */
 static void look_up(struct agent *it, uint32_t *list, struct line *line, bool is_last) {
+    rignolda_receiver *receiver = &it->node.above;
+    rignolda_session *session = &it->above;
+    uint32_t item;
     forget(it, is_last);
     if (line->has_frame) {
         line->has_frame = false, line->quiet = 0;
-        if (!rignolda_session_node_on_frame(&it->node, &it->above, line->below, list, PLACES,
-                                            &line->frame))
+        if (is_alone) {
+            if (rignolda_session_on_frame(receiver, session, line->below, &line->frame, &item))
+                at_last(item);
+        } else if (!rignolda_session_node_on_frame(&it->node, session, line->below, list, PLACES,
+                                                   &line->frame)) {
             begin_list_anew(it);
-        else if (is_last)
+        } else if (is_last) {
             at_last(list[(it->node.length - 1) % PLACES]);
+        }
     }
-    answer(it, line);
-}
-
-/* The same of a sender alone, which is offered the items that are published. */
-static void look_down_alone(struct agent *it, struct line *line) {
-    rignolda_sender *sender = &it->child.sender;
-    if (line->has_label) {
-        line->has_label = false, line->quiet = 0;
-        rignolda_session_on_ack(sender, &it->below, &params, line->above, line->label);
-    }
-    bool may_send = it->below.there && it->below.turn;
-    if (rignolda_session_send(sender, &it->below, &line->frame))
-        line->has_frame = true;
-    else if (may_send && next != end && rignolda_sender_offer(sender, next))
-        next++;
-    else if (left_out != SENDER && may_send && next != end) {
-        rignolda_sender_init(sender, (uint16_t)(draw() >> 48));
+    bool may_send = session->there && session->turn;
+    if (rignolda_session_ack(receiver, session, &line->label)) {
+        line->has_label = true;
+    } else if (left_out != RECEIVER && may_send) {
+        rignolda_receiver_init(receiver, receiver->label);
         begun_anew++;
     }
-}
-
-/* And of a receiver alone. */
-static void look_up_alone(struct agent *it, struct line *line) {
-    uint32_t item;
-    if (line->has_frame) {
-        line->has_frame = false, line->quiet = 0;
-        if (rignolda_session_on_frame(&it->node.above, &it->above, line->below, &line->frame,
-                                      &item))
-            at_last(item);
-    }
-    answer(it, line);
 }
 
 static bool publish(struct agent *it, uint32_t *list, uint32_t item) {
@@ -185,25 +179,14 @@ static bool publish(struct agent *it, uint32_t *list, uint32_t item) {
 
 /* ---- Runs */
 
-/* An end that has a backlog waits for an answer. */
-static bool waits(const struct agent *it) {
-    return is_alone ? it->child.sender.holding || next != end
-                    : rignolda_node_backlog(&it->node, &it->child, PLACES) > 0;
-}
-
 static void step(struct world *it) {
     if (!is_alone && next != end)
         next += publish(&it->agents[0], it->lists[0], next);
     for (int i = 0; i < (is_alone ? 1 : LINKS); i++) {
         struct agent *above = &it->agents[i], *below = &it->agents[i + 1];
         struct line *line = &it->lines[i];
-        if (is_alone) {
-            look_down_alone(above, line);
-            look_up_alone(below, line);
-        } else {
-            look_down(above, it->lists[i], line);
-            look_up(below, it->lists[i + 1], line, i + 1 == AGENTS - 1);
-        }
+        look_down(above, it->lists[i], line);
+        look_up(below, it->lists[i + 1], line, i + 1 == AGENTS - 1);
         line->quiet = waits(above) ? line->quiet + 1 : 0;
         if (left_out != CONNECTION && line->quiet > SILENCE)
             connect_ends(above, line, below);
