@@ -7,14 +7,11 @@
     tests/check_drawn.py --write    writes these pictures anew
 
 A file NAME.run has the words of the printed run of NAME.json, whatever the spaces between them. A
-drawn run of the page is that of the example that is cited last before it. Its cells say what the
-cells of the printed run say. Its marks say what the printed run lets one see: v, ^ and x that an
-entry was received or lost, and * what comes from the start, or is a copy of a label from there.
+drawn run of the page is that of the example that is cited last before it, with the same cells and
+with marks: v, ^ and x that an entry was received or lost, and * what comes from the start, or is a
+copy of a label from there.
 
-The programs are those that ./rignolda and ./stab start. Where none was released or built of these
-sources, it is the one that the gate has left in crates/rignolda/out or crates/stab_cli/out;
-PROGRAM_RIGNOLDA and PROGRAM_STAB in the environment name others. The last line is
-'N passed, M failed'.
+The programs are those of check_tables.py. The last line is 'N passed, M failed'.
 """
 
 import json

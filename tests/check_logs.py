@@ -5,12 +5,11 @@
 
 Each draw is a tree with links of their own, items of which many may be equal, and what each node
 received: strays, and then items of its parent, with some of the first ones missing. Every second
-one is spoiled: items are swapped, doubled, altered, left out or added, or two nodes exchange their
-lists. `rignolda judge` has to print what tests/faults/logs.py says, and to refuse what is no log as
-man/rignolda.1 says. Beside these there are all runs of a chain of two links of capacity 1, found by
-a search through all states of a link: it has to accept what two items come to, and of what three
-come to, drawn ones; and of one link and three items it has to accept exactly what a run gives. By
-the logs of agents that tests/daemon/long.py has by hand it has to say what stands beside them.
+one is spoiled. `rignolda judge` has to print what tests/faults/logs.py says, and to refuse what is
+no log as man/rignolda.1 says. Of all runs of a chain of two links of capacity 1, found by a search
+through all states of a link, it has to accept what two items come to, and some of what three come
+to; and of one link and three items exactly what a run gives. By the logs of agents that
+tests/daemon/long.py has by hand it has to say what stands beside them.
 
 The program is the one of check_tables.py. The last line is 'N passed, M failed'.
 """

@@ -1,15 +1,12 @@
 #!/usr/bin/env -S python3 -B
 """Runs the programs rignolda and stab on many command lines, and compares what they print.
 
-The files of tests/tables that are named below have a table of rows each: a command line with what
-it reads, and the status and the texts that it has to end with. There rows.py says what a row is.
-
-A program is the one that ./rignolda or ./stab starts. Where none was released or built of these
-sources, it is the one that the gate has left in crates/rignolda/out or crates/stab_cli/out;
-PROGRAM_RIGNOLDA and PROGRAM_STAB in the environment name others. The examples run by the build of
-LLVM as well, where the gate has just made it. Some rows run at the same time. The faults of the
-rows of stab, with their statuses, have to be those of the tables of docs/FORMATS.md, but for a few
-that no row brings about. The last line is 'N passed, M failed'.
+The files of tests/tables that are named below have a table of rows each; rows.py there says what a
+row is. A program is the one that ./rignolda or ./stab starts, or else the one that the gate has
+left in crates/rignolda/out or crates/stab_cli/out; PROGRAM_RIGNOLDA and PROGRAM_STAB in the
+environment name others. The examples run by the build of LLVM as well, where the gate has just made
+it. The faults of the rows of stab, with their statuses, have to be those of the tables of
+docs/FORMATS.md, but for a few that no row brings about. The last line is 'N passed, M failed'.
 """
 
 import os
@@ -40,10 +37,8 @@ WITHOUT_ROW = {
     ("run: acknowledged counts differ", 3), ("run: delivered lists differ", 3),
     ("run: closes differ", 3),
 }
-# No run takes longer, in seconds.
-LONGEST = 60
-# How many rows run at the same time.
-THREADS = 4
+# No run takes longer, in seconds, and so many rows run at the same time.
+LONGEST, THREADS = 60, 4
 
 
 def fault_of(called, file, row, folder):

@@ -5,19 +5,16 @@
     tests/hostile/fuzz.py --cases 1000 --seed 7    others
     tests/hostile/fuzz.py --first 4711 --cases 1   one case of these again
 
-A case is a spoilt job and a command. Its seed and its number say all of it, so every machine makes
-the same cases. A job is spoilt in its tokens (numbers at the limits and beyond, values doubled,
-removed, moved and nested, names changed), in its bytes, or in its encoding. A part of the trees
-first gets a version and openings. `stab` must end within 20 seconds and answer what
-tests/tables/reader.py finds: the text, or the fault with its status; of a run, how many nodes it
-reports. And `rignolda explain` must say of the job of a link or tree what `stab` says: its last
-line is that fault, or `accepted`; a fault has a finding with a place; and the status is 0 where
-there is nothing to find.
+A case is a spoilt job and a command, which its seed and its number say on every machine. A job is
+spoilt in its tokens, in its bytes, or in its encoding; a part of the trees first gets a version and
+openings. `stab` must end within 20 seconds and answer what tests/tables/reader.py finds. And
+`rignolda explain` must say of the job of a link or tree what `stab` says: its last line is that
+fault, or `accepted`; a fault has a finding with a place; and the status is 0 where there is nothing
+to find.
 
 A job that fails is kept in tests/hostile/build/, or where --keep says, as NAME.json, beside
-NAME.txt with the words and what was seen; --lanes says how many programs run at a time. Run it by
-hand: the gate does not. It runs the programs of ./stab and ./rignolda, or those that PROGRAM_STAB
-and PROGRAM_RIGNOLDA name.
+NAME.txt with the words and what was seen; --lanes says how many programs run at a time. The
+programs are those of tests/check_tables.py.
 """
 import collections
 import concurrent.futures

@@ -5,21 +5,18 @@
   tests/hostile/largest.py --rignolda [WORD..]    rignolda on jobs of 16 MB, beside stab
 
 Each job at a limit is run three times. A line has the file's size, the median of the processor time
-and of the wall time, the peak memory, the peak as a multiple of the file's size, and what came of
-the job. Some are refused: with one more event, step or byte, or for what they are full of, each
-with the fault of docs/FORMATS.md. (That one more of anything is refused, tests/tables show.) A star
-is after a processor time over one second, and after a peak over twenty times the file's size where
-that is over 10 MB.
+and of the wall time, the peak memory, also as a multiple of the file's size, and what came of the
+job, which for some is the fault that docs/FORMATS.md says. A star is after a processor time over
+one second, and after a peak over twenty times the file's size where that is over 10 MB.
 
 With --rignolda each job has almost as many bytes as a file may have, and is full of one thing that
-much may be looked up or said of: steps, members that nobody reads, names that no node has, and so
-on, accepted or refused for it. The processor time of `stab` is measured, and that of `rignolda
-bounds`, since `stab` reads some jobs token by token, and `bounds` all by way of a tree of values. A
-command of rignolda that reads such a job may not take more than three times the longer one, where
-that is over half a second.
+much may be looked up or said of: steps, members that nobody reads, and so on. A command of rignolda
+may not take more than three times as long as `stab` or `rignolda bounds` takes, where that is over
+half a second. (`stab` reads some jobs token by token, and `bounds` all by way of a tree of values.)
 
-With words, only jobs whose names have one of them are measured. Another program is measured where PROGRAM_STAB or PROGRAM_RIGNOLDA names it. It needs Debian's
-package time. The last line is 'N passed, M failed'.
+With words, only jobs whose names have one of them are measured. Another program is measured where
+PROGRAM_STAB or PROGRAM_RIGNOLDA names it. It needs Debian's package time. The last line is
+'N passed, M failed'.
 """
 import itertools
 import json

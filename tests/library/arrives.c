@@ -3,14 +3,13 @@
  *     arrives ROUNDS SEED [without RULE]
  *
  * Three agents in a row, the first of which publishes, have a link over connections between each
- * two. At a moment the bits of their structs are changed: each single bit of each, then each number
- * of each to its limits, and then all bits of all structs in ROUNDS drawn patterns. The agents go
- * on, and call what the table of rignolda.h says where nothing comes. After a number of steps that
- * is the same for all patterns, every item that is published has to come to the last agent, in its
- * order and once. Then the same is tried of one link alone, between a sender and a receiver without
- * nodes. With a rule of the table left out it has to fail for some pattern, and the program says
- * for how many, and returns 1. Where no bits are changed, and connections break as they like, the
- * table may lead no end to a new count.
+ * two. At a moment the bits of their structs are changed: each single bit, each number to its
+ * limits, and then all bits of all structs in ROUNDS drawn patterns. The agents go on, and call what
+ * the table of rignolda.h says where nothing comes. After a number of steps that is the same for all
+ * patterns, every item that is published has to come to the last agent, in its order and once. Then
+ * the same is tried of a sender and a receiver without nodes. With a rule of the table left out it
+ * has to fail for some pattern, and returns 1. Where no bits are changed, and connections break as
+ * they like, the table may lead no end to a new count.
  */
 #include "draw.h"
 #include "rignolda.h"

@@ -6,7 +6,7 @@ It builds refuse.c, an object for LD_PRELOAD, by the kit's own clang, and runs u
   (a) gate_checks, once for every N with its Nth allocation refused: it must print its file
       `stdout`, end with status 0, and name on standard error only calls of the file `calls`; each
       of these must have been refused at least once;
-  (b) stab on some examples and two runs, once for every N with the Nth allocation refused, and once
+  (b) stab on some examples and runs, once for every N with the Nth allocation refused, and once
       with every allocation from the Nth on: it must give the whole text with status 0, or the line
       `stab: out of memory` with status 3 and nothing else;
   (c) stab on runs, with the start of the Nth thread refused: it must say in one line that a worker
@@ -15,9 +15,8 @@ It builds refuse.c, an object for LD_PRELOAD, by the kit's own clang, and runs u
       `rignolda: out of memory` with status 3 and nothing else.
 
 The programs are those that rt ci, or rt run, left in out/ of their crates, or that options name.
-With --only those cases alone are tried that have this in their names. Nothing of the repository is
-touched. Each (program, job, way of refusing) is one case, and the last line is
-'N passed, M failed'. It needs Python 3.8, which rt needs as well, and glibc.
+With --only those cases alone are tried that have this in their names. Each (program, job, way of
+refusing) is one case, and the last line is 'N passed, M failed'. It needs glibc.
 """
 import concurrent.futures
 import itertools

@@ -10,10 +10,9 @@
  *   REFUSE_REPORT=FD     where the program ends, three numbers are written to this file descriptor,
  *                        as the machine has them: of allocations, of threads, and of refusals
  *
- * An allocation is a call of malloc, calloc, realloc, reallocarray, aligned_alloc, posix_memalign
- * or memalign. A realloc counts also where it makes a block smaller; one that frees
- * its block, since the new size is 0, does not count. Several threads may allocate at a time: each
- * allocation has its own number. The object itself allocates nothing once main has begun.
+ * A realloc counts also where it makes a block smaller, but not where it frees one, since the new
+ * size is 0. Several threads may allocate at a time: each allocation has its own number. The object
+ * itself allocates nothing once main has begun.
  *
  * It needs glibc, whose allocator is also reached by the names __libc_malloc and so on. It includes
  * no header, so that the kit's compiler builds it on a machine that has none.

@@ -37,6 +37,18 @@ NO_LINK, NO_TREE = (f"not a report: line 1 is not as {text} has it; the job is {
                     "explain" for text, job in [("the text of a link", "a link job"),
                                                 ("a report of this tree", "one of a tree")])
 
+
+def unpublished(published, items):
+    """What is said of a root with these items."""
+    return (f"r: its items are not the published ones\npublished: {published}\n"
+            f"items of r: {items}\n")
+
+
+def without_opening(items):
+    """What is said of the node a with these items."""
+    return f"a: its items do not begin with its opening\nopening: 50\nitems of a: {items}\n"
+
+
 # In all tables: a part of a text, what is there instead, and what is said: a verdict, which ends
 # its line, or a fault; or the number of the line that is not as it has to be. LAW is for all that
 # is said where the law of a link is broken.
@@ -44,26 +56,15 @@ NO_LINK, NO_TREE = (f"not a report: line 1 is not as {text} has it; the job is {
 REPORTS = [
     ("", "", "obeys\n"),
     ("acked 7 ended upstream", "acked 7 ended turns", "obeys\n"),
-    ("items: 10 11", "items: 11 10", """\
-r: its items are not the published ones
-published: 10 11 12 13 14 15 16
-items of r: 11 10 12 13 14 15 16
-"""),
+    ("items: 10 11", "items: 11 10",
+     unpublished("10 11 12 13 14 15 16", "11 10 12 13 14 15 16")),
     ("acked -", "acked 7",
      "r: it has a count of acknowledged items, and no link leads into the root\n"),
     ("acked 7", "acked -", "a: it has no count of acknowledged items\n"),
-    ("items: 50 99", "items: 99 50", """\
-a: its items do not begin with its opening
-opening: 50
-items of a: 99 50 13 14 15 16
-"""),
+    ("items: 50 99", "items: 99 50", without_opening("99 50 13 14 15 16")),
     ("99 13 14", "99 14 13", "a: LAW"),
     ("received 6 acked 7 ended upstream\nitems: 50 99",
-     "received 5 acked 7 ended upstream\nitems: 99", """\
-a: its items do not begin with its opening
-opening: 50
-items of a: 99 13 14 15 16
-"""),
+     "received 5 acked 7 ended upstream\nitems: 99", without_opening("99 13 14 15 16")),
     ("received 6 acked 7 ended upstream\nitems: 50 99 13",
      "received 5 acked 7 ended upstream\nitems: 50 99", "a: LAW"),
     ("received 4 acked 6 ended upstream\nitems: 98 14 15",
@@ -118,20 +119,15 @@ offered: 11 10 12 13
     ("closed: no\n", "closed: no\norigins: s0 i3\n", 9),
 ]
 
-# Reports of nodes that made all their turns: then not all that a node has need be acknowledged.
+# A report of nodes that made all their turns: then not all that a node has need be acknowledged.
 TURNS = REPORT.replace("ended upstream", "ended turns")
-OF_TURNS = [TURNS, TURNS.replace("acked 6", "acked 5")]
 
 # Of a tree of one node.
 LONE_REPORTS = [
     ("r depth 0 received 2 acked - ended upstream\nitems: 7 8\n", "obeys\n"),
     ("r depth 0 received 2 acked - ended turns\nitems: 7 8\n", "obeys\n"),
     ("r depth 0 received 2 acked -\nitems: 7 8\n", "obeys\n"),
-    ("r depth 0 received 1 acked -\nitems: 7\n", """\
-r: its items are not the published ones
-published: 7 8
-items of r: 7
-"""),
+    ("r depth 0 received 1 acked -\nitems: 7\n", unpublished("7 8", "7")),
     ("r depth 0 received 3 acked -\nitems: 7 8\n", NO_TREE),
 ]
 
@@ -184,11 +180,7 @@ SINCE_REPORTS = [
      "b: a ended upstream with 5 items, and 4 of them are acknowledged\n"),
     ("acked 6 ended upstream\nitems: 98 22 23 24\nb depth 2 received 3 acked 5",
      "acked 6 ended turns\nitems: 98 22 23 24\nb depth 2 received 3 acked 4", "obeys\n"),
-    ("items: 20 21", "items: 21 20", """\
-r: its items are not the published ones
-published: 20 21 22 23 24
-items of r: 21 20 22 23 24
-"""),
+    ("items: 20 21", "items: 21 20", unpublished("20 21 22 23 24", "21 20 22 23 24")),
     ("acked -", "acked 7",
      "r: it has a count of acknowledged items, and no link leads into the root\n"),
     ("acked 6", "acked -", "a: it has no count of acknowledged items\n"),
@@ -305,8 +297,8 @@ ROWS = [
       for part, instead, said in JOBS),
     *(checked(f"reads a report of a lone root: {report.splitlines()[0]}", LONE, report, said)
       for report, said in LONE_REPORTS),
-    *(checked(f"obeys where all made their turns, {place}", JOB, report, "obeys\n")
-      for place, report in enumerate(OF_TURNS)),
+    *all_checked("obeys where all made their turns", JOB, TURNS,
+                 [("", "", "obeys\n"), ("acked 6", "acked 5", "obeys\n")]),
     checked("reads a long report", LONG_JOB, LONG_REPORT, "obeys\n"),
     checked("reads a long text of a tree", LONG_JOB, LONG_REPORT.replace(" ended upstream", ""),
             "obeys\n"),
