@@ -22,8 +22,10 @@ TOP = Path(__file__).resolve().parent.parent
 sys.path.insert(0, str(TOP / "tools"))
 from faults.reference import ACTS, ROUND, Count, Link, Tree  # noqa: E402
 from faults.reference import random_tree, reading_round, strike_at_random  # noqa: E402
+from jobs import asked  # noqa: E402
 from programs import Cases  # noqa: E402
 
+LOSSES = {"send_frame": "lose_frame", "send_ack": "lose_ack"}
 EXTRA = ["send_frame", "send_ack", "recv_frame_keep", "recv_ack_keep"]
 
 
@@ -84,30 +86,13 @@ def costs(rng):
     return found
 
 
-class Reading:
-    """How far a link is in a reading round, whose acts it awaits in their order."""
-
-    def __init__(self, capacity):
-        self.acts, self.at, self.is_complete = reading_round(capacity), 0, False
-
-    def awaited(self):
-        return self.acts[self.at]
-
-    def see(self, act):
-        """Notes an act. What was just sent, and is lost, has to be sent again."""
-        if act == self.awaited():
-            self.at = (self.at + 1) % len(self.acts)
-            self.is_complete = self.is_complete or self.at == 0
-        elif (self.acts[self.at - 1], act) in (("send_frame", "lose_frame"),
-                                               ("send_ack", "lose_ack")):
-            self.at -= 1
-
-
 def path_round(rng, tree, way, new):
-    """Each link of a path completes a reading round; faults hit other nodes alone."""
-    reads = {n: Reading(tree.links[n].capacity) for n in way}
+    """Each link of a path completes a reading round, whose acts it awaits in their order; faults hit
+    other nodes alone."""
+    acts = {n: reading_round(tree.links[n].capacity) for n in way}
+    at, left = dict.fromkeys(way, 0), {*way}
     others = [n for n in range(1, len(tree.parents)) if n not in way]
-    while not all(it.is_complete for it in reads.values()):
+    while left:
         draw = rng.random()
         if draw < 0.02 and others:
             hit(rng, tree, rng.choice(others), new)
@@ -115,11 +100,15 @@ def path_round(rng, tree, way, new):
         if draw < 0.2:
             node, act = rng.randrange(1, len(tree.parents)), rng.choice(ACTS + EXTRA)
         else:
-            node = rng.choice([n for n in way if not reads[n].is_complete])
-            act = reads[node].awaited()
+            node = rng.choice([n for n in way if n in left])
+            act = acts[node][at[node]]
         tree.act(node, act, rng.randint(0, 1))
-        if node in reads:
-            reads[node].see(act)
+        if node in way and act == acts[node][at[node]]:
+            at[node] = (at[node] + 1) % len(acts[node])
+            left -= {node} if at[node] == 0 else set()
+        elif node in way and act == LOSSES.get(acts[node][at[node] - 1]):
+            # (what was just sent, and is lost, has to be sent again)
+            at[node] -= 1
 
 
 def is_complete(count, tree, node):
@@ -174,7 +163,7 @@ def print_values():
 
 
 def main():
-    count, cases = int((sys.argv + [200])[1]), Cases()
+    (count,), cases = asked(200), Cases()
     for name, search in ("what a fault costs", costs), ("a node comes back", comes_back):
         found, fault = [], None
         for seed in range(count):
