@@ -7,6 +7,7 @@ import sys
 from pathlib import Path
 
 from faults.reference import ACTS, Link
+from tables.reader import line
 
 sys.path.insert(0, str(Path(__file__).resolve().parent.parent.parent / "agents"))
 from check_report import is_subsequence, most_missing, obeys_tree_law  # noqa: E402
@@ -24,10 +25,6 @@ def follows(received, above, strays):
                for count in range(min(strays, len(received)) + 1))
 
 
-def line(head, items):
-    return " ".join([head, *map(str, items)]) + "\n"
-
-
 def text_of(names, tree, hold, items, received, places):
     """What is said of logs."""
     for node, name in enumerate(names):
@@ -35,7 +32,7 @@ def text_of(names, tree, hold, items, received, places):
         strays = sum(strays_of(tree, hold, it) for it in way)
         without, most = most_missing([tree.links[it].capacity for it in way])
         counted = items[places[node]:] if places else items
-        lists = line("published:", counted) + line("received:", received[node])
+        lists = line("published", *counted) + line("received", *received[node])
         if not follows(received[node], counted, strays):
             return (f"{name}: it received more strays than C + E = {strays}, or published items "
                     f"out of order or twice\n{lists}")
@@ -48,8 +45,8 @@ def text_of(names, tree, hold, items, received, places):
         strays = strays_of(tree, hold, node)
         if not follows(received[node], received[parent], strays):
             return (f"{name}: it received more strays than c + h = {strays}, or its parent's items "
-                    f"out of order or twice\n" + line("parent received:", received[parent])
-                    + line("received:", received[node]))
+                    f"out of order or twice\n" + line("parent received", *received[parent])
+                    + line("received", *received[node]))
     return "obeys\n"
 
 

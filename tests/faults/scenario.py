@@ -9,7 +9,7 @@ import re
 
 from jobs import drawn_start, drawn_tree
 from faults.reference import ACTS, ROUND, Count, Link, reading_round
-from tables.reader import Pairs, begin, start_of, tree_of
+from tables.reader import Pairs, begin, line, start_of, tree_of
 
 # What nodes may be called, some of them as steps are.
 WORDS = ["publish", "strike", "restart", "rounds", "reading_rounds", "offer", "a", "b", "c"]
@@ -52,7 +52,7 @@ class Scenario:
     def mark(s, node, event, items=None):
         """The line of a node, or of all links."""
         if items is not None:
-            event = " ".join([f"{event:<19}", "items:", *map(str, items)])
+            event = f"{event:<19} " + line("items", *items)[:-1]
         s.out.append(f"{s.number:<5} {'-' if node is None else s.names[node]:<9} {event}")
 
     def take(s, child, act, place=0):
@@ -106,25 +106,22 @@ class Scenario:
 
     def lines(s):
         for node, name in enumerate(s.names):
-            since = s.since[node]
-            if not s.tree.links[node]:
-                got = s.tree.published
-                yield f"{name} since {since} published {len(got)}"
-                yield " ".join(["items:", *map(str, got)])
-                continue
-            strays, missing, published, got = s.counts[since].of(s.tree, node)
-            yield (f"{name} since {since} received {len(got)}, strays at most {strays}, "
-                   f"missing among the first {missing}")
-            yield " ".join(["items:", *map(str, got)])
-            yield " ".join(["published:", *map(str, published)])
+            since, got = s.since[node], s.tree.published
+            if s.tree.links[node]:
+                strays, missing, published, got = s.counts[since].of(s.tree, node)
+                yield (f"{name} since {since} received {len(got)}, strays at most {strays}, "
+                       f"missing among the first {missing}\n" + line("items", *got)
+                       + line("published", *published))
+            else:
+                yield f"{name} since {since} published {len(got)}\n" + line("items", *got)
 
 
 def text_of(job):
-    return "".join(line + "\n" for line in Scenario(job).lines())
+    return "".join(Scenario(job).lines())
 
 
 def drawn_text(job):
-    return "".join(line + "\n" for line in Scenario(job).out)
+    return "\n".join([*Scenario(job).out, ""])
 
 
 def schedule_text(job):
