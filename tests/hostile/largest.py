@@ -110,23 +110,23 @@ def jobs():
     steps = lambda count: tree_job(schedule=schedule(count))
     yield "1,000,000 steps, 64 nodes", walk, TEXT, lambda: steps(MAX_EVENTS)
     yield "one step more", walk, "job: too many events", lambda: steps(MAX_EVENTS + 1)
-    for is_chain, form in (True, "chain"), (False, "star"):
-        items = lambda chain=is_chain, **more: tree_job(
-            is_chain=chain, items=[4294967295] * 10_000, **more)
-        for command in walk, locks, words:
-            yield (f"{form} of 64, 10,000 items", command, TEXT,
-                   lambda it=items: it(starts=[start()] * (MAX_NODES - 1)))
-        # (every other link has the largest capacity)
-        wide = ([{"capacity": 64, "labels": 1000}, None] * MAX_NODES)[:MAX_NODES - 1]
-        yield f"{form} of 64, wide links", mixed, TEXT, lambda it=items: it(links=wide)
-    for command in walk, locks, words, mixed:
-        yield "62 openings of 64 items", command, TEXT, held
-    for command in walk, locks, words:
-        yield "41 links, 4 x 100,000 letters", command, TEXT, lambda: tree_job(
-            42, scripts=[letters()] * 41)
+    items = lambda form, **more: lambda: tree_job(
+        is_chain=form == "chain", items=[4294967295] * 10_000, **more)
+    # (every other link has the largest capacity)
+    wide = ([{"capacity": 64, "labels": 1000}, None] * MAX_NODES)[:MAX_NODES - 1]
     drawn = {"seed": [42, 54], "length": MAX_ACTS, "loss": 1000, "repeat": 500}
-    for command in walk, locks, words:
-        yield "63 links, 4 x 100,000 drawn", command, TEXT, lambda: tree_job(scripts=[drawn] * 63)
+    for name, job, *commands in [
+            *((f"{form} of 64, 10,000 items", items(form, starts=[start()] * (MAX_NODES - 1)),
+               walk, locks, words) for form in ("chain", "star")),
+            *((f"{form} of 64, wide links", items(form, links=wide), mixed)
+              for form in ("chain", "star")),
+            ("62 openings of 64 items", held, walk, locks, words, mixed),
+            ("41 links, 4 x 100,000 letters", lambda: tree_job(42, scripts=[letters()] * 41),
+             walk, locks, words),
+            ("63 links, 4 x 100,000 drawn", lambda: tree_job(scripts=[drawn] * 63),
+             walk, locks, words)]:
+        for command in commands:
+            yield name, command, TEXT, job
     yield "127 levels", link, TEXT, lambda: beside("[" * 126 + "]" * 126)
     yield "16 MB of levels", link, "job: not JSON", lambda: "[" * MAX_BYTES
     yield "a text of 16 MB beside", link, TEXT, lambda: made(LINK, extra="a" * 16_700_000)
