@@ -9,10 +9,10 @@ and of the wall time, the peak memory, also as a multiple of the file's size, an
 job, which for some is the fault that docs/FORMATS.md says. A star is after a processor time over
 one second, and after a peak over twenty times the file's size where that is over 10 MB.
 
-With --rignolda each job has almost as many bytes as a file may have, and is full of one thing that
-much may be looked up or said of: steps, members that nobody reads, and so on. A command of rignolda
-may not take more than three times as long as `stab` or `rignolda bounds` takes, where that is over
-half a second. (`stab` reads some jobs token by token, and `bounds` all by way of a tree of values.)
+With --rignolda each job has 11 to 16 MB of one thing that much may be looked up or said of: steps,
+members that nobody reads, and so on. A command of rignolda may not take more than three times as
+long as `stab` or `rignolda bounds` takes, where that is over half a second. (`stab` reads some jobs
+token by token, and `bounds` all by way of a tree of values.)
 
 With words, only jobs whose names have one of them are measured. Another program is measured where
 PROGRAM_STAB or PROGRAM_RIGNOLDA names it. It needs Debian's package time. The last line is

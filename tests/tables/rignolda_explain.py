@@ -17,21 +17,27 @@ LINK_JOB = """\
 "start":{"frames":[[2,99]],"acks":[0],"send":0,"recv":1},
 "events":[["offer",10],"recv_ack"]}"""
 
+# What is said more than once.
+NO_MEMBER = "ignored, since a job has no such member"
+EACH_NODE = "there is one for each node, in their order"
+ROOT = '"hub" is the root, and no link leads into it'
+ITEM, PLACE = (f"{it} is a whole number from 0 to 4294967295" for it in ("an item", "a place"))
+LABELS = "the number of labels is a whole number from twice the capacity and two to 1000"
+LETTERS = "the acts for what is sent are a text of the letters P, D and E"
+LOSS = "the loss is a whole number up to 1000, how many of a thousand are dropped"
+
 # Tables by what they show and the job: a part of it, what is there instead, and the findings, each
 # a line. The last line of an explanation, what `stab` says of the job, is found by reader.py.
 TABLES = {}
 TABLES["names members that no reader looks at", JOB] = [
-    ('"schedule"', '"shedule"',
-     'shedule: ignored, since a job has no such member; did you mean "schedule"?'),
-    ('"openings"', '"opening"',
-     'opening: ignored, since a job has no such member; did you mean "openings"?'),
+    ('"schedule"', '"shedule"', f'shedule: {NO_MEMBER}; did you mean "schedule"?'),
+    ('"openings"', '"opening"', f'opening: {NO_MEMBER}; did you mean "openings"?'),
     ('"version":2,', "", 'h: ignored without "version": 2',
      'openings: ignored without "version": 2'),
     ('"frames_out"', '"frame_out"',
      "scripts[0].frame_out: ignored, since a script has no such member; did you mean "
      '"frames_out"?'),
-    ('"items"', '"link":[null,null],"items"',
-     'link: ignored, since a job has no such member; did you mean "links"?'),
+    ('"items"', '"link":[null,null],"items"', f'link: {NO_MEMBER}; did you mean "links"?'),
     ('"seed"', '"acks_in":"T","seed"', 'scripts[1].acks_in: ignored beside a "seed"'),
     ('{"name":"hub"}', '{"name":"hub","colour":1}',
      "tree[0].colour: ignored, since a node has no such member"),
@@ -51,8 +57,7 @@ TABLES["says which node of the tree is wrong", JOB] = [
 TABLES["says which entry has no link or node", JOB] = [
     ('"starts":[', '"starts":[{"send":0,"recv":1},',
      "starts: 3 entries for 2 links; there is one for each node but the root, in their order"),
-    ("[[],[50],[]]", "[[],[50]]",
-     "openings: 2 openings for 3 nodes; there is one for each node, in their order"),
+    ("[[],[50],[]]", "[[],[50]]", f"openings: 2 openings for 3 nodes; {EACH_NODE}"),
     ("[[],[50],[]]", "[[],[],[50]]",
      "openings[2] (node rack_1): only a node with a parent and a child may have an opening"),
     ("[[],[50],[]]", "[[],[50,51,52],[]]", 'openings[1] (node site-a): 3 items, and "h" allows 2'),
@@ -61,15 +66,13 @@ TABLES["says which entry has no link or node", JOB] = [
 ]
 TABLES["says which number is out of range", JOB] = [
     ('"capacity":1', '"capacity":3',
-     "labels: 4 are too few for the capacity 3; the number of labels is a whole number from "
-     "twice the capacity and two to 1000"),
+     f"labels: 4 are too few for the capacity 3; {LABELS}"),
     ('"version":2', '"version":"2"',
      'version: the text "2"; the versions are the whole numbers 1 and 2'),
     ('"version":2', '"version":3', "version: 3; the versions are the whole numbers 1 and 2"),
     ('"items"', '"turns":0,"items"', "turns: 0; the turns are a whole number from 1 to 1000000"),
     ('"items"', '"links":[null,{"capacity":2,"labels":5}],"items"',
-     "links[1].labels (the link into rack_1): 5 are too few for the capacity 2; the number of "
-     "labels is a whole number from twice the capacity and two to 1000"),
+     f"links[1].labels (the link into rack_1): 5 are too few for the capacity 2; {LABELS}"),
 ]
 TABLES["says which step is wrong", JOB] = [
     ('"recv_frame"', '"recvframe"',
@@ -78,8 +81,7 @@ TABLES["says which step is wrong", JOB] = [
      "schedule[0]: an object; a step is a list of the name of a node, the name of an event, and "
      "for a loss the place"),
     ('["rack_1"', '["rack1"', 'schedule[1]: "rack1" is no node; did you mean "rack_1"?'),
-    ('["site-a","offer"]', '["hub","offer"]',
-     'schedule[0]: "hub" is the root, and no link leads into it'),
+    ('["site-a","offer"]', '["hub","offer"]', f"schedule[0]: {ROOT}"),
 ]
 # Members that `stab` ignores, and that other commands read.
 TABLES["says what other commands refuse", JOB] = [
@@ -90,12 +92,11 @@ TABLES["says what other commands refuse", JOB] = [
      'items], ["strike", node, start], ["rounds", count] or ["reading_rounds", count]'),
     ('"items"', '"steps":[["sitea","offer"],["hub","offer"],["rack_1","lose_ack"]],"items"',
      'steps[0][0]: "sitea" is no node; did you mean "site-a"?',
-     'steps[1][0]: "hub" is the root, and no link leads into it',
+     f"steps[1][0]: {ROOT}",
      "steps[2]: a loss is written with its place, a whole number from 0 to 65535"),
     ('"items"', '"steps":[["sell",[1,-1]],["round",2],["rounds",65536]],"items"',
      'steps[0][0]: the text "sell"; the word before a list of items is "publish"',
-     "steps[0][1][1]: a number that is not a whole one; an item is a whole number from 0 to "
-     "4294967295",
+     f"steps[0][1][1]: a number that is not a whole one; {ITEM}",
      'steps[1][0]: the text "round"; the word before a number is "rounds" or "reading_rounds"',
      "steps[2][1]: 65536; how many rounds there are is a whole number from 0 to 65535"),
     ('"items"', '"steps":[["restart","rack1",[]],["start","hub",[2]],["restart",1,[]]],"items"',
@@ -106,30 +107,27 @@ TABLES["says what other commands refuse", JOB] = [
      '"steps":[["strike","hub",{"send":0,"recv":1}],["strike","rack_1",{"send":0}],'
      '["strike","rack_1",{"send":0,"recv":1,"frames":[[1,2],[3,4]],"acks":[1,2]}],'
      '["strike","rack_1",{"send":0,"recv":1,"frame":[]}]],"items"',
-     'steps[0][1]: "hub" is the root, and no link leads into it',
+     f"steps[0][1]: {ROOT}",
      'steps[1][2]: a start has "send" and "recv", whole numbers from 0 to 65535',
      "steps[2][2]: 2 frames, and the capacity is 1",
      "steps[2][2]: 2 acknowledgements, and the capacity is 1",
      'steps[3].frame: ignored, since a start has no such member; did you mean "frames"?'),
-    ('"items"', '"step":[],"items"',
-     'step: ignored, since a job has no such member; did you mean "steps"?'),
-    ('"items"', '"backlogs":[[],[7,"8"],[]],"items"',
-     'backlogs[1][1]: the text "8"; an item is a whole number from 0 to 4294967295'),
+    ('"items"', '"step":[],"items"', f'step: {NO_MEMBER}; did you mean "steps"?'),
+    ('"items"', '"backlogs":[[],[7,"8"],[]],"items"', f'backlogs[1][1]: the text "8"; {ITEM}'),
     ('"items"', '"backlogs":[[],7],"items"',
      "backlogs[1]: 7; a backlog is a list of items, which the parent of its node had for the "
-     "node", "backlogs: 2 lists for 3 nodes; there is one for each node, in their order"),
+     "node", f"backlogs: 2 lists for 3 nodes; {EACH_NODE}"),
     ('"items"', '"backlogs":[[1],[],[]],"items"',
      "backlogs[0] (node hub): no node is above the root, so its backlog is empty"),
     ('"items"', '"backlogs":null,"items"',
      "backlogs: null; the backlogs are a list of lists of items, one for each node"),
     ('"items"', '"received":[[],8,[9,-1]],"from":[0,1],"items"',
      "received[1]: 8; a log is a list of items, which its node received",
-     "received[2][1]: a number that is not a whole one; an item is a whole number from 0 to "
-     "4294967295", "from: 2 places for 3 nodes; there is one for each node, in their order"),
+     f"received[2][1]: a number that is not a whole one; {ITEM}",
+     f"from: 2 places for 3 nodes; {EACH_NODE}"),
     ('"items"', '"received":[[]],"from":[0,"1",4294967296],"items"',
-     "received: 1 lists for 3 nodes; there is one for each node, in their order",
-     'from[1]: the text "1"; a place is a whole number from 0 to 4294967295',
-     "from[2]: 4294967296; a place is a whole number from 0 to 4294967295"),
+     f"received: 1 lists for 3 nodes; {EACH_NODE}", f'from[1]: the text "1"; {PLACE}',
+     f"from[2]: 4294967296; {PLACE}"),
     ('"items"', '"received":{},"from":"0","items"',
      "received: an object; the logs are a list of lists of items, one for each node",
      'from: the text "0"; the places where counts begin are a list of whole numbers, one for '
@@ -137,10 +135,9 @@ TABLES["says what other commands refuse", JOB] = [
 ]
 TABLES["says where a shape is wrong", JOB] = [
     ('"capacity"', '"capcity"', "capacity: missing; a capacity is a whole number from 1 to 64",
-     'capcity: ignored, since a job has no such member; did you mean "capacity"?'),
-    ("[7,8]", '[7,"8"]', 'items[1]: the text "8"; an item is a whole number from 0 to 4294967295'),
-    ("[7,8]", "[7,4294967296]",
-     "items[1]: 4294967296; an item is a whole number from 0 to 4294967295"),
+     f'capcity: {NO_MEMBER}; did you mean "capacity"?'),
+    ("[7,8]", '[7,"8"]', f'items[1]: the text "8"; {ITEM}'),
+    ("[7,8]", "[7,4294967296]", f"items[1]: 4294967296; {ITEM}"),
     ("[[2,99]]", "[2,99]",
      "starts[1].frames[0]: 2; a frame is a list of two, a label and an item",
      "starts[1].frames[1]: 99; a frame is a list of two, a label and an item",
@@ -151,18 +148,10 @@ TABLES["says where a shape is wrong", JOB] = [
      'h: missing; "h" is a whole number from 0 to 64, the most items that an opening has'),
 ]
 TABLES["says where a script is wrong", JOB] = [
-    ("PD", "pd",
-     'scripts[0].frames_out[0]: the text "pd"; the acts for what is sent are a text of the '
-     "letters P, D and E"),
-    ("PD", "PTK",
-     'scripts[0].frames_out[1]: the text "PTK"; the acts for what is sent are a text of the '
-     "letters P, D and E"),
-    ("100,", "0.1,",
-     "scripts[1].loss: a number that is not a whole one; the loss is a whole number up to 1000, "
-     "how many of a thousand are dropped"),
-    ("100,", "1001,",
-     "scripts[1].loss (the link into rack_1): 1001; the loss is a whole number up to 1000, how "
-     "many of a thousand are dropped"),
+    ("PD", "pd", f'scripts[0].frames_out[0]: the text "pd"; {LETTERS}'),
+    ("PD", "PTK", f'scripts[0].frames_out[1]: the text "PTK"; {LETTERS}'),
+    ("100,", "0.1,", f"scripts[1].loss: a number that is not a whole one; {LOSS}"),
+    ("100,", "1001,", f"scripts[1].loss (the link into rack_1): 1001; {LOSS}"),
 ]
 TABLES["says what is wrong with a link job", LINK_JOB] = [
     ('["offer",10]', '"offer",["recv_ack",1],"recvack",["lose_ack",70000]',
@@ -174,8 +163,8 @@ TABLES["says what is wrong with a link job", LINK_JOB] = [
     ('"events"', '"event"', "events: missing; the events are a list of at most 1000000 events",
      'event: ignored, since a link job has no such member; did you mean "events"?'),
     ('"labels":4', '"labels":1001,"version":1',
-     "labels: 1001 are too many; the number of labels is a whole number from twice the capacity "
-     "and two to 1000", "version: ignored, since a link job has no such member"),
+     f"labels: 1001 are too many; {LABELS}",
+     "version: ignored, since a link job has no such member"),
 ]
 TABLES["says where a job is not JSON", JOB] = [
     ('"items"', '/* two */"items"', "line 3, column 1: not JSON; JSON has no comments"),
