@@ -5,6 +5,8 @@ What is printed shows which task ran. A row that reads a file has an empty stand
 would be refused as no JSON, and the others have no file. More command lines that are refused are
 examples of crates/gate_checks/data, in the folders refused and runs."""
 
+import re
+
 from tables.rows import Row, WORST_START, WORST_TEXT, like, refusals
 
 LONE_ROOT = '{"capacity":1,"labels":4,"tree":[{"name":"r"}],"items":[7,8]}'
@@ -33,33 +35,18 @@ WIDE = """\
 WIDE_REPORT = like(begins="r depth 0 received 2 acked - ended ",
                    parts=["\na depth 1 received "], lines=4)
 
-# What each task prints: a job, the standard output and the standard error. Where there is an error
-# the status is 3.
-PLAIN = [(WORST_START, WORST_TEXT, "")]
-TRACED = [(WORST_START, WORST_TEXT + "origins: s0 i3\n", "")]
-TREE = [(LONE_ROOT, LONE_TEXT, "")]
-LOCKED = [(EARLY_ACKNOWLEDGEMENT, TAKEN_AT_ONCE, "")]
-WORDS = [(EARLY_ACKNOWLEDGEMENT, FOUND_AGAIN, ""), (WIDE, "", "stab: run: capacity is not one\n")]
-MIXED = [(EARLY_ACKNOWLEDGEMENT, FOUND_AGAIN, ""), (WIDE, WIDE_REPORT, "")]
-
-# Command lines, the task and the file that each names.
+# What each task prints, as a job, the standard output and the standard error, and command lines
+# that name it, a file in angle brackets. Where there is an error the status is 3.
 TAKEN = [
-    *((line, PLAIN, None) for line in ("", "--", "link")),
-    ("link -", PLAIN, "-"),
-    ("link --trace job.json", TRACED, "job.json"),
-    ("link --trace", TRACED, None),
-    ("link job.json --trace", TRACED, "job.json"),
-    ("link -- --trace", PLAIN, "--trace"),
-    ("tree", TREE, None),
-    ("tree job.json", TREE, "job.json"),
-    ("run", LOCKED, None),
-    ("run job.json", LOCKED, "job.json"),
-    ("run --words", WORDS, None),
-    ("run job.json --words", WORDS, "job.json"),
-    ("run -- --words", LOCKED, "--words"),
-    ("run --mixed", MIXED, None),
-    ("run job.json --mixed", MIXED, "job.json"),
-    ("run --words -- --mixed", WORDS, "--mixed"),
+    ([(WORST_START, WORST_TEXT, "")], ["", "--", "link", "link <->", "link -- <--trace>"]),
+    ([(WORST_START, WORST_TEXT + "origins: s0 i3\n", "")],
+     ["link --trace <job.json>", "link --trace", "link <job.json> --trace"]),
+    ([(LONE_ROOT, LONE_TEXT, "")], ["tree", "tree <job.json>"]),
+    ([(EARLY_ACKNOWLEDGEMENT, TAKEN_AT_ONCE, "")], ["run", "run <job.json>", "run -- <--words>"]),
+    ([(EARLY_ACKNOWLEDGEMENT, FOUND_AGAIN, ""), (WIDE, "", "stab: run: capacity is not one\n")],
+     ["run --words", "run <job.json> --words", "run --words -- <--mixed>"]),
+    ([(EARLY_ACKNOWLEDGEMENT, FOUND_AGAIN, ""), (WIDE, WIDE_REPORT, "")],
+     ["run --mixed", "run <job.json> --mixed"]),
 ]
 
 # Command lines that name no task.
@@ -71,9 +58,10 @@ REFUSED = [
 
 ROWS = [
     *(Row(f"takes a command word, a flag and a file: {line}{', a wide link' * (job == WIDE)}",
-          line.split(), "" if file else job, files={file: job} if file else {},
+          re.sub("[<>]", "", line).split(), "" if "<" in line else job,
+          files={file: job for file in re.findall("<(.*)>", line)},
           status=3 if err else 0, out=out, err=err)
-      for line, task, file in TAKEN for job, out, err in task),
+      for task, lines in TAKEN for line in lines for job, out, err in task),
     # (an empty name is not the standard input)
     *refusals("looks for a file with an empty name", WORST_START, "file: cannot be opened",
               [["link", ""]]),
