@@ -14,11 +14,9 @@ THERE = sorted(
 
 
 def listed_otherwise():
-    """What is wrong with the list, or None."""
-    other = sorted(set(LISTED) ^ set(THERE))
-    if other:
-        return f"the list and the folder differ: {', '.join(other)}"
-    return None if LISTED == THERE else "its names are not each there once, in the order of bytes"
+    """What is wrong with the list, or None: it has each name once, in the order of bytes."""
+    differ = sorted({*LISTED} ^ {*THERE}) or "its order"
+    return None if LISTED == THERE else f"the list and the folder differ: {differ}"
 
 
 def row_of(name):
