@@ -5,19 +5,17 @@ job in the plain form has the four members `capacity`, `labels`, `start` and `ev
 others. What has to come of each text is found by reader.py."""
 
 import json
+import re
+from functools import partial
 
 from tables.reader import EVENTS as WORDS, row
-from tables.rows import Row, WORST_TEXT
+from tables.rows import Row, WORST_START as PLAIN, WORST_TEXT
 from tables.texts import FURTHER, WHOLE, broken, by_value, nested, swapped
 
-
-# Its parts: the events are those of examples/worst_start.json.
-CAPACITY_AND_LABELS = '"capacity":1,"labels":4'
-START = '"start":{"frames":[[2,99]],"acks":[0],"send":0,"recv":1}'
-EVENTS = """\
-"events":[["offer",10],"recv_ack","send_ack",["offer",11],"recv_ack","recv_frame","send_ack",\
-["offer",12],"recv_ack",["offer",13],"send_frame","recv_frame"]"""
-PLAIN = "{" + CAPACITY_AND_LABELS + "," + START + "," + EVENTS + "}"
+# Its parts, and what gives the text with each of some others in place of a part of it.
+CAPACITY_AND_LABELS, START, EVENTS = re.fullmatch(
+    r'{(.*),("start":{.*}),("events":.*)}', PLAIN).groups()
+changed = partial(swapped, PLAIN)
 
 # A start with something in each queue, and room for more: each side expects what comes first.
 EACH_HALF_FULL = '{"frames":[[2,99],[3,98]],"acks":[0,5],"send":0,"recv":1}'
@@ -25,11 +23,6 @@ OVERFULL = ["[[2,99],[3,98]]", "[[2,99],[]]", "[[[2,99]]]"]
 # Entries that are no events.
 NO_EVENTS = ['"jump"', '"offer"', '["jump",0]', '["offer",4294967296]', "[]", "{}",
              '["lose_ack",65536]', "7", "1.5", "true", "null", '["offer"]']
-
-
-def changed(old, *news):
-    """The plain text, with each of these in place of a part of it."""
-    return swapped(PLAIN, old, *news)
 
 
 def refused_too(bad):

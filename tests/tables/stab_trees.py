@@ -5,6 +5,7 @@ What has to come of each text is found by reader.py: of `stab run`, how many nod
 why it refuses the job."""
 
 import json
+from functools import partial
 
 from tables.reader import row
 from tables.rows import Row
@@ -22,6 +23,8 @@ STEPS = """\
 ["b","lose_frame",0],["b","send_frame"],["a","offer"],["b","recv_frame"],["a","lose_frame",0],\
 ["a","send_ack"],["a","lose_ack",0],["a","close"]]"""
 PLAIN = "{" + ",".join([NUMBERS, TREE, STARTS, STEPS]) + "}"
+# The plain text, with each of some others in place of a part of it.
+changed = partial(swapped, PLAIN)
 
 # The text of the tree of this job, found by hand.
 TEXT = """\
@@ -32,11 +35,6 @@ items: 7
 b depth 2 received 2 acked 0
 items: 99 7
 """
-
-
-def changed(old, *news):
-    """The plain text, with each of these in place of a part of it."""
-    return swapped(PLAIN, old, *news)
 
 
 def many(*more):
