@@ -217,23 +217,18 @@ def run(program, command, job):
 class Largest(Cases):
     """The programs, what measures them, and a folder for jobs."""
 
-    def __init__(self, room, asked):
+    def __init__(self, room):
         super().__init__()
         self.programs = {name: built(name, room) for name in ("stab", "rignolda")}
-        self.job, self.asked = room / "job.json", asked
-
-    def is_asked(self, name):
-        return not self.asked or any(word in name for word in self.asked)
+        self.job = room / "job.json"
 
     def run(self, name, command):
         """A run on the job."""
         return run(self.programs[name], command, self.job)
 
-    def at_limits(self):
+    def at_limits(self, is_asked):
         """Measures stab on jobs at limits."""
-        for name, command, fault, job in jobs():
-            if not self.is_asked(name):
-                continue
+        for name, command, fault, job in filter(is_asked, jobs()):
             self.job.write_text(job())
             runs = [self.run("stab", command) for _ in range(RUNS)]
             wall, processor, peak = (statistics.median(one[i] for one in runs) for i in range(3))
@@ -251,13 +246,11 @@ class Largest(Cases):
         """The processor time of a command on the job, the smaller one of two."""
         return min(self.run(name, [command])[1] for _ in range(2))
 
-    def beside_stab(self):
+    def beside_stab(self, is_asked):
         """Measures commands of rignolda on jobs of 16 MB."""
         trees = ((*it, "tree", ["explain"]) for it in full_trees())
         links = ((*it, "link", ["explain", "draw"]) for it in full_link_jobs())
-        for name, job, reader, commands in itertools.chain(trees, links):
-            if not self.is_asked(name):
-                continue
+        for name, job, reader, commands in filter(is_asked, itertools.chain(trees, links)):
             self.job.write_text(job)
             size = self.job.stat().st_size
             self.holds(f"{name}: {size} bytes", size <= MAX_BYTES)
@@ -271,12 +264,10 @@ class Largest(Cases):
 def main():
     given = options("words", rignolda=False)
     print(f"{os.cpu_count()} processors, load {os.getloadavg()[0]:.1f}")
+    is_asked = lambda job: not given.words or any(word in job[0] for word in given.words)
     with tempfile.TemporaryDirectory() as room:
-        largest = Largest(Path(room), given.words)
-        if given.rignolda:
-            largest.beside_stab()
-        else:
-            largest.at_limits()
+        largest = Largest(Path(room))
+        (largest.beside_stab if given.rignolda else largest.at_limits)(is_asked)
     return largest.sum_up()
 
 
