@@ -2,39 +2,26 @@
 
 from tables.rows import Row, like
 
-HELP = """\
-Makes and examines the jobs of stab
-
-Usage: rignolda <COMMAND>
-
+# How the help begins and ends, and that of two commands, and how many lines it has. (What it says
+# of each command and option, tools/completions.py compares.)
+HELP, WORST_HELP, RANDOM_HELP = (
+    like(begins=f"{about}\n\nUsage: rignolda {usage}\n\n{first}\n", ends=f"{last}\n", lines=lines)
+    for about, usage, first, last, lines in [
+        ("Makes and examines the jobs of stab", "<COMMAND>", """\
 Commands:
-  bounds    Says what the laws allow each node of a job: strays, and missing items
-  check     Says whether a report of a job obeys the laws, or which part of it is broken
-  draw      Draws the run of a link job, a schedule or a scenario, a line for each event
-  explain   Says what is wrong with a link job or a job of a tree, and where
-  judge     Says whether logs since a fault obey the laws, or at which node they do not
-  random    Prints a job of a tree with random garbage in it, the same for the same options
-  scenario  Says what a scenario of acts, rounds and faults makes of a tree
-  worst     Prints a link job that delivers as many strays and misses as many items as can be
+  bounds    Says what the laws allow each node of a job: strays, and missing items""", """\
   help      Print this message or the help of the given subcommand(s)
 
 Options:
   -h, --help     Print help
-  -V, --version  Print version
-"""
-
-# Of two commands the beginning of the help and its last option. (What it says of each option,
-# tools/completions.py compares.)
-WORST_HELP, RANDOM_HELP = (
-    like(begins=f"{about}\n\nUsage: rignolda {usage}\n\nOptions:\n{first}\n", ends=f"{last}\n",
-         lines=lines)
-    for about, usage, first, last, lines in [
+  -V, --version  Print version""", 18),
         ("Prints a link job that delivers as many strays and misses as many items as can be",
          "worst --capacity <C> --labels <K>",
-         "      --capacity <C>  How many entries each queue holds, 1 to 64",
+         "Options:\n      --capacity <C>  How many entries each queue holds, 1 to 64",
          "  -h, --help          Print help", 8),
         ("Prints a job of a tree with random garbage in it, the same for the same options",
-         "random [OPTIONS]", "      --seed <N>      Where the generator begins [default: 1]",
+         "random [OPTIONS]",
+         "Options:\n      --seed <N>      Where the generator begins [default: 1]",
          "  -h, --help          Print help", 16)])
 
 # Command lines with a mistake, and what is said of it before the usage.
