@@ -47,7 +47,7 @@ def tries_rows(cases, files):
     print(f"the rows are drawn from SEED={seed}")
     rows = [("stab", row) for row in stab_examples.ROWS]
     rows += [it for it in check_tables.ROWS if drawn.randrange(OF_ROWS) == 0]
-    rows = [(called, row) for called, row in rows if called in files]
+    rows = [it for it in rows if it[0] in files]
     with ThreadPoolExecutor(2) as threads:
         faults = threads.map(lambda of: check_tables.tried(of[0], files[of[0]], of[1]), rows)
         for (called, row), fault in zip(rows, faults):
@@ -63,17 +63,15 @@ def tries_library(cases, room, before):
         return
     # (what a program prints with printf needs numbers that the processor has not)
     archives = [f"{RELEASE}/librignolda.a", *home.glob("usr/lib/gcc/*/*/libgcc.a")]
-    made = {}
-    for name, sources in ("both", ["both", "inline"]), ("plain", ["both", "plain"]), (
-            "link", ["link"]):
-        sources = [TOP / f"tests/library/{it}.c" for it in sources]
-        builds = static.builds(library, "aarch64", room / name, sources, "-I", TOP / "include",
-                               last=archives)
-        cases.holds(f"arm64: {name} builds", builds)
-        made[name] = wrapped(before, room / name, room / "c" / name)
-    for name in "both", "plain":
-        cases.works(f"arm64: each call ({name})", made[name], "2000", "1")
-    cases.has_none("arm64: the drawn runs", runs(made["link"]))
+    for name in "inline", "plain", "link":
+        sources = [TOP / f"tests/library/{it}.c" for it in ["both"] * (name != "link") + [name]]
+        cases.holds(f"arm64: {name} builds", static.builds(
+            library, "aarch64", room / name, sources, "-I", TOP / "include", last=archives))
+        made = wrapped(before, room / name, room / "c" / name)
+        if name == "link":
+            cases.has_none("arm64: the drawn runs", runs(made))
+        else:
+            cases.works(f"arm64: each call ({name})", made, "2000", "1")
 
 
 def compares_daemon(cases):

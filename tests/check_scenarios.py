@@ -35,16 +35,13 @@ VALUES = [None, True, -1, 0, 1, 70000, 0.5, "", "x", "offer", "publish", "lose_f
 def rows_of_text(text):
     """Of each line behind the start its step and its words, as a picture has them."""
     rows = []
-    for line in text.splitlines()[1:]:
-        words = line.split()
-        if words[0] == "0" or words[2] == "anew":
-            continue
-        if words[1] == "-":
-            rows.append((words[0], "", " ".join(words[2:])))
-            continue
-        event = words[2] if words[2] in ("publish", "strike", "restart") else json.loads(words[2])
-        event = event if isinstance(event, str) else " ".join(map(str, event))
-        rows.append((words[0], words[1], event))
+    for number, node, event, *rest in map(str.split, text.splitlines()[1:]):
+        if node == "-":
+            rows.append((number, "", " ".join([event, *rest])))
+        elif number != "0" and event != "anew":
+            event = event if event in ("publish", "strike", "restart") else json.loads(event)
+            rows.append((number, node, event if isinstance(event, str) else
+                         " ".join(map(str, event))))
     return rows
 
 

@@ -181,28 +181,27 @@ def check_openings(openings, hold, parents):
     must(all(len(opening) <= hold for opening in openings), "job: opening too long")
 
 
-def is_event(value, has_item=False):
-    """Whether a list is the name of an event and what it needs; of an offer that may be its item.
+def is_event(word, *numbers, has_item=False):
+    """Whether a word is the name of an event that needs these numbers; an offer may need its item.
     """
-    if not value or not isinstance(value[0], str):
-        return False
-    if value[0] == "offer":
-        return len(value) == 1 + has_item and all(map(is_item, value[1:]))
-    if value[0] in LOSSES:
-        return len(value) == 2 and is_label(value[1])
-    return len(value) == 1 and value[0] in EVENTS
+    if word == "offer":
+        return len(numbers) == has_item and all(map(is_item, numbers))
+    if not isinstance(word, str) or word not in LOSSES:
+        return isinstance(word, str) and word in EVENTS and not numbers
+    return len(numbers) == 1 and is_label(*numbers)
 
 
 def is_link_event(value):
     """Whether a value is an event of a link job, where what needs nothing is a word alone."""
-    if isinstance(value, str):
-        return value in EVENTS
-    return type(value) is list and len(value) == 2 and is_event(value, has_item=True)
+    if type(value) is list:
+        return len(value) == 2 and is_event(*value, has_item=True)
+    return isinstance(value, str) and value in EVENTS
 
 
 def is_step(value):
     """Whether a value is a step of a schedule."""
-    return type(value) is list and bool(value) and isinstance(value[0], str) and is_event(value[1:])
+    return (type(value) is list and len(value) > 1 and isinstance(value[0], str)
+            and is_event(*value[1:]))
 
 
 # ---- whole jobs

@@ -24,30 +24,26 @@ Options:
          "Options:\n      --seed <N>      Where the generator begins [default: 1]",
          "  -h, --help          Print help", 16)])
 
-# Command lines with a mistake, and what is said of it before the usage.
-MISTAKEN = [
-    ("wurst", "unrecognized subcommand 'wurst'"),
-    ("check a", "the following required arguments were not provided:\n  <REPORT>"),
-    ("check - -", "JOB and REPORT cannot both be standard input"),
-    ("worst --capacity 1", "the following required arguments were not provided:\n  --labels <K>"),
-    ("worst --capacity 1 --labels four",
-     "invalid value 'four' for '--labels <K>': invalid digit found in string"),
-    ("worst --capacity 2 --labels 5", "a link has at least twice its capacity and two labels"),
-    ("worst --capacity 65 --labels 500", "the capacity of a link is 1 to 64"),
-    ("worst --capacity 1 --labels 1001", "a link has at most 1000 labels"),
-    ("random --nodes 65", "a tree has 1 to 64 nodes"),
-    ("random --capacity 4 --labels 9", "a link has at least twice its capacity and two labels"),
-    ("random --nodes 0", "a tree has 1 to 64 nodes"),
-    ("random --items 10001", "a job has at most 10000 items"),
-    ("random --capacity 65", "the capacity of a link is 1 to 64"),
-    ("random --labels 5", "a link has at least twice its capacity and two labels"),
-    ("random --turns 0", "a run has 1 to 1000000 turns"),
-    ("random --turns 1000001", "a run has 1 to 1000000 turns"),
-    ("random --loss 1001", "a rate is at most 1000 in a thousand"),
-    ("random --repeat 1001", "a rate is at most 1000 in a thousand"),
-    ("random --hold 65", "a node begins with at most 64 items"),
-    ("random --schedule 500001", "at most 500000 steps are drawn"),
-]
+# What is said of a mistake before the usage, and the command lines that have it.
+MISTAKEN = {
+    "unrecognized subcommand 'wurst'": ["wurst"],
+    "the following required arguments were not provided:\n  <REPORT>": ["check a"],
+    "JOB and REPORT cannot both be standard input": ["check - -"],
+    "the following required arguments were not provided:\n  --labels <K>": ["worst --capacity 1"],
+    "invalid value 'four' for '--labels <K>': invalid digit found in string": [
+        "worst --capacity 1 --labels four"],
+    "a link has at least twice its capacity and two labels": [
+        "worst --capacity 2 --labels 5", "random --capacity 4 --labels 9", "random --labels 5"],
+    "the capacity of a link is 1 to 64": ["worst --capacity 65 --labels 500",
+                                          "random --capacity 65"],
+    "a link has at most 1000 labels": ["worst --capacity 1 --labels 1001"],
+    "a tree has 1 to 64 nodes": ["random --nodes 65", "random --nodes 0"],
+    "a job has at most 10000 items": ["random --items 10001"],
+    "a run has 1 to 1000000 turns": ["random --turns 0", "random --turns 1000001"],
+    "a rate is at most 1000 in a thousand": ["random --loss 1001", "random --repeat 1001"],
+    "a node begins with at most 64 items": ["random --hold 65"],
+    "at most 500000 steps are drawn": ["random --schedule 500001"],
+}
 
 ROWS = [
     Row("without words there is the help, as a mistake", [], status=2, err=HELP),
@@ -57,5 +53,5 @@ ROWS = [
     Row("help on random", ["random", "--help"], out=RANDOM_HELP),
     *(Row(f"a mistake: {line}", line.split(), status=2,
           err=like(begins=f"error: {said}\n", ends="\nFor more information, try '--help'.\n"))
-      for line, said in MISTAKEN),
+      for said, lines in MISTAKEN.items() for line in lines),
 ]
