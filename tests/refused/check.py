@@ -16,7 +16,8 @@ It builds refuse.c, an object for LD_PRELOAD, by the kit's own clang, and runs u
 
 The programs are those that rt ci, or rt run, left in out/ of their crates, or that options name.
 With --only those cases alone are tried that have this in their names. Each (program, job, way of
-refusing) is one case, and the last line is 'N passed, M failed'. It needs glibc.
+refusing) is one case, and the last line is 'N passed, M failed'. It needs Python 3.8, which rt
+needs as well, and glibc.
 """
 import concurrent.futures
 import itertools
@@ -213,7 +214,7 @@ class Check(Cases):
         walks = (self.every("REFUSE_ALLOCATION", [program]) for _ in range(WALKS)
                  if not wanted <= seen)
         for number, ended in itertools.chain.from_iterable(walks):
-            names = {line.removeprefix("refused ")
+            names = {line[8:] if line.startswith("refused ") else line
                      for line in ended.err.decode(errors="replace").splitlines()}
             if ended.refused is None or not is_right(ended) or not names <= wanted:
                 faults.append(f"allocation {number}: {first_difference(right[1], ended)}")
