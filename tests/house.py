@@ -13,7 +13,6 @@ import time
 from pathlib import Path
 
 TOP = Path(__file__).resolve().parent.parent
-SHIMS = "tools/shims/kit.c", "tools/shims/processor.c"
 sys.path.insert(0, str(TOP / "tools"))
 from programs import Cases  # noqa: E402
 
@@ -25,12 +24,10 @@ do_as() {
     case $1 in
         *broken*) echo "not proved"; exit 1 ;;
         *slow*)
-            pwd >"$WORK/place"
             trap 'kill $!; echo ended >"$WORK/ended"; exit 1' TERM
             sleep 600 &
             echo started >"$WORK/started"
-            wait
-            ;;
+            wait ;;
         *waits*) until [ -e "$WORK/go on" ]; do sleep 0.05; done ;;
         *changes*) sed -i s/changes/after/ "$WORK/a house/crates/stab_cli/src/main.rt" ;;
         *rewrites*) echo "'" >"$WORK/a house/stab" ;;
@@ -67,25 +64,19 @@ COMPILER = KIT + r"""
 printf '%s\n' "$*" >>"$WORK/compiled"
 [ -z "${NOT_PROVED-}" ] || exit 1
 do_as "$(cat src/*)"
-while [ "$1" != -o ]; do
-    shift
-done
+until [ "$1" = -o ]; do shift; done
 make build "$2"
 [ -z "${OTHER-}" ] || echo other >>"$2" """
 # What is linked is its first object, or else the third one, between those of the C library.
 LINKER = """
-while [ "$1" != -o ]; do
-    shift
-done
+until [ "$1" = -o ]; do shift; done
 [ -z "${NOT_LINKED-}" ] || exit 1
 cp "$3" "$2" """
 STATIC_LINKER = """
 printf '%s\\n' "$*" >>"$WORK/linked"
 identifier=$*
 identifier=${identifier##*=0x}
-while [ "$1" != -o ]; do
-    shift
-done
+until [ "$1" = -o ]; do shift; done
 cp "$5" "$2"
 [ -z "${IDENTIFIED-}" ] || printf "$(printf %s "${identifier%% *}" | sed 's/../\\\\x&/g')" >>"$2" """
 
@@ -148,19 +139,27 @@ class House(Cases):
         path.chmod(mode)
         return path
 
+    def change(self, path, old, new):
+        """Changes what a file has of this pattern."""
+        text = (self.top / path).read_text()
+        assert re.search(old, text, re.M), (path, old)
+        (self.top / path).write_text(re.sub(old, new, text, flags=re.M))
+
     def command(self, path, text):
         """Writes a command: what it does in bash."""
         return self.write(path, f"#!/usr/bin/env bash\n{text}\n", 0o755)
 
     def bring_kit(self):
         """Brings what builds the programs, over a kit of small commands."""
-        self.bring("release.sh", "tools/launch", *SHIMS, *(f"tools/{it}.py" for it in (
-            "release", "crates", "programs", "running", "index_page", "static", "debian")))
+        self.bring("release.sh", *(f"tools/{it}" for it in (
+            "shims/kit.c", "shims/processor.c", "release.py", "crates.py", "programs.py",
+            "running.py", "index_page.py", "static.py", "debian.py")))
         self.command(self.bin / "rt", RT)
-        self.command(self.work / "a kit/bin/rattle", COMPILER)
-        self.command(self.work / "a kit/bin/rattle-link", LINKER)
-        self.command(self.work / "a kit/toolchain/bin/ld.lld", STATIC_LINKER)
-        self.command(self.work / "a kit/toolchain/bin/clang", 'touch "${@: -1}"')
+        for name, does in (
+                ("bin/rattle", COMPILER), ("bin/rattle-link", LINKER),
+                ("toolchain/bin/ld.lld", STATIC_LINKER),
+                ("toolchain/bin/clang", 'touch "${@: -1}"')):
+            self.command(self.work / "a kit" / name, does)
         self.env["RIGNOLDA_MUSL"] = str(self.work / "musl")
         self.musl("musl")
         self.releases_arm64(False)
@@ -169,8 +168,7 @@ class House(Cases):
         """Says whether the release has rows for arm64."""
         self.bring("tools/launch")
         if not is_so:
-            text = (self.top / "tools/launch").read_text()
-            self.write("tools/launch", re.sub("(?m)^    'arm64/.*\n", "", text))
+            self.change("tools/launch", "^    'arm64/.*\n", "")
 
     def musl(self, text, *machines):
         """Says which C library there is for programs, of x86-64 or of these machines: one whose
@@ -202,16 +200,15 @@ class House(Cases):
         a signal then."""
         remove(self.work / "started", self.work / "ended")
         # (a signal that is ignored here, as HUP under nohup, would be ignored there)
-        with open(self.work / "out", "w+") as out, open(self.work / "err", "w+") as err:
+        with open(self.work / "out", "w") as out, open(self.work / "err", "w") as err:
             started = subprocess.Popen(
                 ["env", "--default-signal=INT,TERM,HUP", *words], stdout=out, stderr=err,
                 stdin=subprocess.DEVNULL, env={**self.env, **env})
-            for _ in range(600):
-                if self.read("started"):
-                    break
-                time.sleep(0.1)
-            started.send_signal(getattr(signal, f"SIG{number}"))
-            self.ended = Ended(started.wait(), self.read("out"), self.read("err"))
+        end = time.time() + 60
+        while not self.read("started") and time.time() < end:
+            time.sleep(0.1)
+        started.send_signal(getattr(signal, f"SIG{number}"))
+        self.ended = Ended(started.wait(), self.read("out"), self.read("err"))
         return self.ended
 
     def left_nothing(self):
