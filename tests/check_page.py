@@ -23,6 +23,7 @@ import tempfile
 import threading
 import time
 import urllib.request
+from unittest.mock import ANY
 
 import websocket
 
@@ -336,11 +337,32 @@ const all = words => [...document.querySelectorAll(words)],
   },
   texts = (...ids) => ids.map(id => $(id).textContent),
   click = (...ids) => ids.forEach(id => $(id).click()),
-  happens = words => words.forEach(word => all(`[data-act=${word}]`)[0].click()),
+  happens = (words, of = "act") => words.forEach(it => all(`[data-${of}=${it}]`)[0].click()),
+  shows = (title, at) => show(RUNS[title], "x", at),
+  showsTree = (title, at) => showTree(TREES[title], "x", at),
+  begins = (task, of = "tasks") => $(of).children[task].click(),
   possible = kind => all(`[data-${kind}]`).filter(b => !isDim(b)).map(b => b.dataset[kind]),
   counts = (t, at) => treeAfter(t, at).nodes.map(n =>
     [n.strays, n.mostStrays, n.held, n.mostHeld, n.missing, n.mostMissing]);
 """
+
+# A link with one event, and a tree with one; and a view of a tree that has done nothing.
+SMALL_LINK = json.dumps({"capacity": 1, "labels": 4, "start": {"send": 0, "recv": 1},
+                         "events": ["send_ack"]})
+SMALL_TREE = json.dumps({"capacity": 1, "labels": 4, "items": [7], "tree": [
+    {"name": "r"}, {"name": "a", "parent": "r"}], "schedule": [["a", "offer"]]})
+CHAIN = "showsTree('A clean chain, nothing done yet');"
+
+
+class Like:
+    """Equals each text of this form, in which a star stands for anything."""
+
+    def __init__(self, form):
+        self.form = ".*".join(map(re.escape, form.split("*")))
+
+    def __eq__(self, text):
+        return isinstance(text, str) and bool(re.fullmatch(self.form, text, re.S))
+
 
 def packed(text):
     """A text as an address of the page has it."""
@@ -453,40 +475,33 @@ class Checks(Cases):
 
     def tree_hands(self):
         """Buttons, slider, keys and the address of the tree."""
-        state = """return [isTreeSeen, treeAt, tree.events.length, tree.names[child],
-            [...$('t-nodes').rows].map(row => [...row.cells]
-                .slice(2, 4).map(cell => cell.textContent).join('; '))];"""
         counted = ["0 of at most 0; 0 of at most 0", "1 of at most 1; 3 of at most 3",
                    "1 of at most 2; 5 of at most 6 (sharper: 5)"]
-        self.same("the tree at its end", [True, 48, 48, "b", counted],
-                  "click('see-tree'); $('t-runs').value = 'Two links under one schedule'; "
-                  "click('t-load', 't-last');" + state)
-        said = self.run("set('t-at', 6); return [treeAt, ...texts('t-happened'), "
-                        "tree.names[child]];")
-        self.see("the slider of the tree",
-                 said[0] == 6 and "99 is delivered: a stray" in said[1] and said[2] == "a")
-        self.see("the left key in the tree", self.run("press('ArrowLeft');" + state)[1] == 5)
-        self.see("an event replaces the rest of the schedule",
-                 self.run("happens(['recv_frame']);" + state)[1:3] == [6, 6])
-        saved = json.loads(self.run("return treeJobText(tree)"))
-        self.see("the saved schedule", saved["schedule"][5] == ["a", "recv_frame"])
+        self.same("the tree at its end", [True, 48, 48, "b", counted], """click('see-tree');
+            $('t-runs').value = 'Two links under one schedule'; click('t-load', 't-last');
+            return [isTreeSeen, treeAt, tree.events.length, tree.names[child],
+                [...$('t-nodes').rows].map(row => [...row.cells]
+                    .slice(2, 4).map(cell => cell.textContent).join('; '))];""")
+        self.same("the slider of the tree", [6, Like("*99 is delivered: a stray*"), "a"],
+                  "set('t-at', 6); return [treeAt, ...texts('t-happened'), tree.names[child]];")
+        self.same("the left key in the tree", 5, "press('ArrowLeft'); return treeAt")
+        self.same("an event replaces the rest of the schedule", [6, 6],
+                  "happens(['recv_frame']); return [treeAt, tree.events.length]")
+        self.same("the saved schedule", ["a", "recv_frame"],
+                  "return JSON.parse(treeJobText(tree)).schedule[5]")
         self.same("nothing to offer yet", ["close", "send_ack"],
-                  "showTree(TREES['A clean chain, nothing done yet'], 'x'); pick(2); "
-                  "return possible('act');")
+                  f"{CHAIN} pick(2); return possible('act');")
         self.same("the root offers", ["offer", "close", "send_ack"],
                   "pick(1); return possible('act');")
-        self.go(self.run("showTree(TREES['A wider second link'], 'x'); goTree(12); share(); "
-                         "return location.href"))
+        self.go(self.run("showsTree('A wider second link', 12); share(); return location.href"))
         self.same("a tree in the address", [True, 12, 22, ""],
                   "return [isTreeSeen, treeAt, tree.events.length, ...texts('fault')];")
-        many = json.dumps({"capacity": 1, "labels": 4, "items": [], "tree": [
-            {"name": f"n{i}", **({"parent": "n0"} if i else {})} for i in range(9)]})
-        self.see("a tree that is too large", "this page takes at most 8 nodes" in self.run(
-            "tryJob(args[0]); return texts('fault')[0]", many))
+        many = {"capacity": 1, "labels": 4, "items": [], "tree": [
+            {"name": f"n{i}", **({"parent": "n0"} if i else {})} for i in range(9)]}
+        self.same("a tree that is too large", Like("*this page takes at most 8 nodes*"),
+                  "tryJob(args[0]); return texts('fault')[0]", json.dumps(many))
         self.same("a link job shows the link", [False, 1],
-                  "tryJob(args[0], 'x'); return [isTreeSeen, job.events.length]",
-                  json.dumps({"capacity": 1, "labels": 4, "start": {"send": 0, "recv": 1},
-                              "events": ["send_ack"]}))
+                  "tryJob(args[0], 'x'); return [isTreeSeen, job.events.length]", SMALL_LINK)
 
     def drawn_rows(self):
         """The rows of the runs that docs/PROTOCOL.md draws, stars included; and rounds."""
@@ -517,104 +532,93 @@ class Checks(Cases):
 
     def lesson(self):
         """The circle, the exercise beside it, questions, the address, and where the focus is."""
-        said = self.run("""show(RUNS['The worst start'], 'The worst start');
-            return [$('happened').textContent, [...$('labels').children].map(c => c.className),
-                    ['frames', 'acks'].map(id => $(id).querySelector('button').className),
-                        $('of-recv').className];""")
-        self.see("the start", "Nobody knows from when" in said[0] and said[1:]
-                 == [[" next", "", "", "free"], ["msg old ", "msg old lie"], "badge msg old "])
-        says = ("go(args[0]); "
-            "return [$('says').textContent, $('says').className, $('happened').textContent];")
+        self.same("the start", [
+            Like("*Nobody knows from when*"), [" next", "", "", "free"],
+            ["msg old ", "msg old lie"], "badge msg old "], """shows('The worst start');
+            return [...texts('happened'), [...$('labels').children].map(c => c.className),
+                ['frames', 'acks'].map(id => $(id).querySelector('button').className),
+                $('of-recv').className];""")
         for at, part, style, told in (
                 (1, "does not show that it was delivered", "some",
-                    "But a 0 is in the link already"),
+                 "But a 0 is in the link already"),
                 (2, "may be acknowledged and never arrive", "some",
-                    "was on the line before you came. The sender waited for 0: "
-                    "item 10 is acknowledged, and it was never"),
+                 "was on the line before you came. The sender waited for 0: "
+                 "item 10 is acknowledged, and it was never"),
                 (3, "may be acknowledged", "some",
-                    "sends 1, the label that it remembers since the start"),
+                 "sends 1, the label that it remembers since the start"),
                 (6, "may be acknowledged", "some",
-                    "Its label 2 is not the remembered 1, so 99 is delivered: a stray"),
-                (9, "cannot go missing", "done", "This 2 came with a stray."), (11,
-                    "will show that it was delivered", "done", "label 3, item 13")):
-            said = self.run(says, at)
-            self.see(f"what is said at {at}", part in said[0] and said[1] == style
-                and told in said[2])
+                 "Its label 2 is not the remembered 1, so 99 is delivered: a stray"),
+                (9, "cannot go missing", "done", "This 2 came with a stray."),
+                (11, "will show that it was delivered", "done", "label 3, item 13")):
+            self.same(f"what is said at {at}", [Like(f"*{part}*"), style, Like(f"*{told}*")],
+                      "go(args[0]); return [$('says').textContent, $('says').className, "
+                      "$('happened').textContent];", at)
         for title, capacity in (("The worst start", 1), ("The worst start of capacity two", 2)):
-            said = self.run("show(RUNS[args[0]], 'x', 6); return ["
-                "$('ring').nextSibling.textContent, "
-                "all('#ring .lane li:not(.unseen), #ring .badge').length];", title)
-            self.see(f"the ring of {title}", said == [
+            self.same(f"the ring of {title}", [
                 "When full, this is Dijkstra's ring of 2c + 2 machines, here "
                 f"{2 * capacity + 2}: sender, c frames, receiver, c acknowledgements.",
-                2 * capacity + 2])
+                2 * capacity + 2], "shows(args[0], 6); return [$('ring').nextSibling.textContent, "
+                "all('#ring .lane li:not(.unseen), #ring .badge').length];", title)
         # (the shape of this circle is always good, and the first item is missing all the same)
-        said = self.run("show(RUNS['The receiver remembers the first label'], 'x', 4); "
-            "return [$('says').textContent, $('missing').textContent];")
-        self.see("a good shape is not enough", "does not show" in said[0]
-            and said[1].startswith("Missing: 0"))
+        self.same("a good shape is not enough", [Like("*does not show*"), Like("Missing: 0*")],
+                  "shows('The receiver remembers the first label', 4); "
+                  "return texts('says', 'missing');")
 
         says = "$('task').querySelector('[role=status]').textContent"
         card = (f"return [!$('task').hidden, {says}, "
                 "...['Show a solution', 'Hint'].map(it => $('task').innerText.includes(it)), "
                 "$('item').value];")
-        self.same("an exercise begins", [True, "So far 0 of 3 items are missing.", False, True,
-                                         "10"],
-                  "$('item').value = 77; $('tasks').children[3].click();" + card)
+        self.same("an exercise begins",
+                  [True, "So far 0 of 3 items are missing.", False, True, "10"],
+                  "$('item').value = 77; begins(3);" + card)
         button = "all('#task button').find(b => b.textContent === args[0]).click();"
-        self.see("a hint", "Three labels are on the circle" in self.run(
-            button + "return $('task').innerText", "Hint"))
-        said = self.run("for (const event of args[0]) { if (event[0] === 'offer') $('item').value ="
-                        " event.pop(); all(`[data-event=${[].concat(event)[0]}]`)[0].click(); }"
-                        + card, WORST)
-        self.see("it is solved by hand", said[:4] == [True, "Done.", True, False])
+        self.same("a hint", Like("*Three labels are on the circle*"),
+                  button + "return $('task').innerText", "Hint")
+        self.same("it is solved by hand", [True, "Done.", True, False, ANY],
+                  "for (const event of args[0]) { if (event[0] === 'offer') $('item').value ="
+                  " event.pop(); happens([[].concat(event)[0]], 'event'); }" + card, WORST)
         self.same("the solution solves it", ["Done.", 9, False],
                   f"{button} click('last'); return [{says}, job.events.length, $('task').hidden]",
                   "Show a solution")
-        self.see("another run has no exercise", self.run(
-            "$('runs').value = 'A clean start'; click('load'); return $('task').hidden"))
+        self.same("another run has no exercise", True,
+                  "$('runs').value = 'A clean start'; click('load'); return $('task').hidden")
         self.same("all solutions solve", [[""] * 6, [""] * 4], """return [
             [TASKS, checkTask], [TREE_TASKS, checkTree]].map(([tasks, check]) => tasks.map(
                 (task, i) => check(i, { ...task.job, events: task.solution })))""")
 
         ask = "return [$('ask').hidden, at, $('ask').innerText, ...texts('happened', 'score')];"
         answer = "$('ask').querySelectorAll('button')[args[0]].click();"
-        said = self.run("$('asks').checked = true; show(RUNS['The worst start'], 'x', 1); "
-                        "click('forth');" + ask)
-        self.see("a question", said[:2] == [False, 1] and "What will the sender do now?" in said[2])
-        said = self.run(answer + ask, 0)
-        self.see("a right answer", said[:2] == [True, 2] and "Right. This 0" in said[3]
-                 and said[4] == "1 of 1 right")
-        said = self.run("go(5); all('[data-event=recv_frame]')[0].click();" + answer + ask, 1)
-        self.see("a wrong answer", said[:2] == [True, 6] and "No. This frame" in said[3]
-                 and said[4] == "1 of 2 right")
+        self.same("a question", [False, 1, Like("*What will the sender do now?*"), ANY, ANY],
+                  "$('asks').checked = true; shows('The worst start', 1); click('forth');" + ask)
+        self.same("a right answer", [True, 2, ANY, Like("*Right. This 0*"), "1 of 1 right"],
+                  answer + ask, 0)
+        self.same("a wrong answer", [True, 6, ANY, Like("*No. This frame*"), "1 of 2 right"],
+                  f"go(5); happens(['recv_frame'], 'event'); {answer}{ask}", 1)
         self.run("$('asks').checked = false;")
 
         worst = {"frames": [[4, 97], [5, 98], [6, 99]], "acks": [0, 1, 2], "send": 0, "recv": 3}
         self.same("the worst start of capacity 3", [3, 8, worst, "a start of your own"],
                   "$('n-capacity').value = 3; fillWorst(); ownStart(); "
                   "return [job.capacity, job.labels, job.start, name];")
-        focus = "document.activeElement.click();"
-        self.same("the focus stays", "offer",
-                  "show(RUNS['A clean start'], 'x'); all('[data-event=offer]')[0].focus();" + focus
-                  + "return document.activeElement.dataset.event")
-        said = self.run("all('[data-event=send_frame]')[0].click(); all('#frames button')[0]"
-                        ".focus();" + focus + "return [document.activeElement.id, "
-                        "job.events.at(-1), ...texts('happened')]")
-        self.see("a message is lost by pressing it",
-                 said[:2] == ["frames", ["lose_frame", 0]] and "label 0, item 10" in said[2])
-        self.see("keys in the table do not step", self.run(
-            "const had = at; press('ArrowLeft', all('.table')[0]); return had === at"))
+        focus = "document.activeElement.click(); const { id, dataset } = document.activeElement;"
+        self.same("the focus stays", "offer", "shows('A clean start'); "
+                  f"all('[data-event=offer]')[0].focus(); {focus} return dataset.event")
+        self.same("a message is lost by pressing it",
+                  ["frames", ["lose_frame", 0], Like("*label 0, item 10*")],
+                  "happens(['send_frame'], 'event'); all('#frames button')[0].focus();"
+                  f"{focus} return [id, job.events.at(-1), ...texts('happened')]")
+        self.same("keys in the table do not step", True,
+                  "const had = at; press('ArrowLeft', all('.table')[0]); return had === at")
         for garbage in ("#job=garbage", "#nothing", "#tree=e30"):
             self.go(PAGE.as_uri() + garbage)
-            said = self.run("return [...texts('fault'), job.events.length];")
-            self.see(f"the address {garbage}", "cannot be read" in said[0] and said[1] == 12)
+            self.same(f"the address {garbage}", [Like("*cannot be read*"), 12],
+                      "return [...texts('fault'), job.events.length];")
         self.same("another run clears the address", ["#job=", ""],
                   "share(); const had = location.hash; click('load'); return [had.slice(0, 5), "
                   "location.hash];")
-        self.see("a number with a point", "and not a number with a point" in self.run(
-            "tryJob(args[0]); return texts('fault')[0]",
-            '{"capacity":1.0,"labels":4,"start":{"send":0,"recv":1},"events":[]}'))
+        self.same("a number with a point", Like("*and not a number with a point*"),
+                  "tryJob(args[0]); return texts('fault')[0]",
+                  SMALL_LINK.replace('"capacity": 1', '"capacity": 1.0'))
 
     def proof(self):
         """Each step of the proof shows what it says, and only the sentence of the step is
@@ -634,18 +638,18 @@ class Checks(Cases):
                 frames: marks('#frames button'), acks: marks('#acks button'),
                 ends: marks('#of-send, #of-recv'), chips: marks('#labels > *'),
                 ways: all('#ring svg path').map(e => getComputedStyle(e).stroke) };"""
-        self.run("show(RUNS['A clean start'], 'x');")
+        self.run("shows('A clean start');")
         before, step, plain = self.run(LIVE), 0, self.run(state)["ways"][0]
         for part, (count, labels, delivered) in enumerate(PROOF_PARTS):
             for _ in range(count):
-                self.run("$(args[0]).click();", "proof-forth" if step else "proof-begin")
+                self.run("click(args[0]);", "proof-forth" if step else "proof-begin")
                 said, live = self.run(state), self.run(LIVE)
-                at, free, missing, marks = PROOF[step]
+                _, free, _, marks = PROOF[step]
                 marks = marks.split()
                 chips = ["labels" in marks or "free" in marks and label in free
                          or "next" in marks and label == said["send"] for label in range(labels)]
                 self.see(f"step {step + 1} of the proof",
-                    said["is"] == list(PROOF[step]) and said["labels"] == labels)
+                         said["is"] == list(PROOF[step]) and said["labels"] == labels)
                 self.see(f"what step {step + 1} of the proof marks", set(said["frames"])
                          <= {"frames" in marks} and set(said["acks"]) <= {"acks" in marks}
                          and said["ends"] == ["send" in marks, "recv" in marks]
@@ -653,33 +657,29 @@ class Checks(Cases):
                          == ["frames" in marks, "acks" in marks])
                 changed = announced(before, live)
                 self.see(f"step {step + 1} of the proof is announced once",
-                    changed == ["proof-says"], changed)
+                         changed == ["proof-says"], changed)
                 before, step = live, step + 1
             self.see(f"what part {part + 1} of the proof delivers", said["delivered"] == delivered)
-        place = ("return [proofAt, at, $('proof').hidden, $('proof-part').value, "
-                 "$('ring').dataset.mark")
-        self.see("the proof ends", self.run(f"click('proof-forth'); {place}]")[0] == 44)
-        self.see("the left key in the proof",
-                 self.run(f"press('ArrowLeft'); {place}]")[:2] == [43, 12])
-        self.same("the first step by a key", [0, 0, False, "0", "frames"],
-                  f"press('Home'); {place}]")
-        self.same("a part of the proof", [18, 10, False, "3", "frames recv acks"],
-                  f"$('proof-part').value = 3; $('proof-part').onchange(); {place}]")
-        self.same("an own event in the proof", [18, 11, False, "3", "", "polite"],
-                  "happen('send_frame'); const own = $('happened').getAttribute('aria-live');"
-                  f"{place}, own]")
-        self.same("and on with the proof", [19, 11, False, "3", "frames"],
-                  f"click('proof-forth'); {place}]")
-        said = self.run("share(); const had = location.hash; click('proof-leave');"
-                        f"{place}, had, document.activeElement.id]")
-        self.see("the proof is left",
-                 said[0] == -1 and said[2] and said[4:] == ["", "#proof=20", "proof-begin"])
-        for address, wanted in (("#proof=24", [23, 16]), ("#proof", [0, 0]),
-                                ("#proof=99", [44, 14])):
+        place = """; return [proofAt, at, $('proof').hidden, $('proof-part').value,
+            $('ring').dataset.mark, $('happened').getAttribute('aria-live')];"""
+        for name, script, *wanted in (
+                ("the proof ends", "click('proof-forth')", 44),
+                ("the left key in the proof", "press('ArrowLeft')", 43, 12),
+                ("the first step by a key", "press('Home')", 0, 0, False, "0", "frames"),
+                ("a part of the proof", "$('proof-part').value = 3; $('proof-part').onchange()",
+                 18, 10, False, "3", "frames recv acks"),
+                ("an own event in the proof", "happen('send_frame')",
+                 18, 11, False, "3", "", "polite"),
+                ("and on with the proof", "click('proof-forth')", 19, 11, False, "3", "frames")):
+            self.see(name, self.run(script + place)[:len(wanted)] == wanted)
+        self.same("the proof is left", [-1, True, "", "#proof=20", "proof-begin"],
+                  """share(); const had = location.hash; click('proof-leave'); return [proofAt,
+                  $('proof').hidden, $('ring').dataset.mark, had, document.activeElement.id]""")
+        for address, *wanted in ("#proof=24", 23, 16), ("#proof", 0, 0), ("#proof=99", 44, 14):
             self.go(PAGE.as_uri() + address)
-            self.see(f"the address {address}", self.run(f"{place}]")[:3] == [*wanted, False])
-        said = self.run(f"click('load'); {place}]")
-        self.see("another run ends the proof", said[0] == -1 and said[2])
+            self.see(f"the address {address}", self.run(place)[:3] == [*wanted, False])
+        self.same("another run ends the proof", [-1, True],
+                  "click('load'); return [proofAt, $('proof').hidden]")
 
     def keys(self):
         """The keyboard alone, with as many keys as events."""
@@ -688,7 +688,7 @@ class Checks(Cases):
                 ("tasks", "task", SOLVED, "job.events.map(event => [].concat(event)[0])"),
                 ("t-tasks", "t-task", SOLVED_TREES, "tree.events.map(([at, word]) => [at, word])")):
             for i, solution in enumerate(solved):
-                self.run("showTree(TREES['A clean tree'], 'x'); click(args[0]); "
+                self.run("showsTree('A clean tree'); click(args[0]); "
                          "$(args[1]).children[args[2]].focus();",
                          "see-tree" if tasks == "t-tasks" else "see-link", tasks, i)
                 self.browser.key("Enter")
@@ -699,39 +699,36 @@ class Checks(Cases):
                     if tasks == "t-tasks":
                         node, word = event
                         wanted.append(event)
-                        self.browser.key(DIGITS[word], node != link)
-                        link = node
                     else:
-                        wanted.append(event if isinstance(event, str) else event[0])
-                        self.browser.key(DIGITS[wanted[-1]])
+                        node, word = A, event if isinstance(event, str) else event[0]
+                        wanted.append(word)
+                    self.browser.key(DIGITS[word], node != link)
+                    link = node
                 self.same(f"exercise {i + 1} of {tasks} by {len(solution)} keys",
                           [wanted, "Done."], f"return [{events}, {done}]", task)
         kept = ["recv_frame_keep", "recv_ack_keep", "lose_ack", "lose_frame", "close"]
         words = "return [job.events.map(event => [].concat(event)[0]), $('item').value]"
-        self.run("show(RUNS['The worst start'], 'x'); job = { ...job, events: [] }; go(0); "
-                 "all('[data-event]')[0].focus();")
+        empty = "shows('The worst start'); job = { ...job, events: [] }; go(0); "
+        self.run(empty + "all('[data-event]')[0].focus();")
         for word in [*kept, "offer"]:
             self.browser.key(DIGITS[word])
         self.same("each other event has a key, and one that would do nothing does nothing",
                   [kept, "10"], words)
         for place, item in (("load", "10"), ("item", "3")):
-            self.run("show(RUNS['The worst start'], 'x'); job = { ...job, events: [] }; go(0); "
-                     "$(args[0]).focus(); $(args[0]).select?.();", place)
+            self.run(empty + "$(args[0]).focus(); $(args[0]).select?.();", place)
             self.browser.key("3")
             self.same(f"a digit at {place} is no event", [[], item], words)
         # the hint is hidden once the exercise is solved, and the focus stays beside it
-        self.run("$('tasks').children[2].click(); "
-                 "all('#task button').find(b => b.textContent === 'Hint').focus();")
+        self.run("begins(2); all('#task button').find(b => b.textContent === 'Hint').focus();")
         self.browser.key("3")
         self.same("the focus stays in a card", ["task", "Done."],
                   f"return [document.activeElement.id, {done}]", "task")
         self.run("$('proof-begin').focus();")
-        for _ in range(len(PROOF)):
-            self.browser.key("Enter")
         ends = "return [proofAt, document.activeElement.id]"
-        self.same("the proof by Enter", [len(PROOF) - 1, "proof-forth"], ends)
-        self.browser.key("Enter")
-        self.same("the proof by Enter ends", [len(PROOF) - 1, "proof-forth"], ends)
+        for name, count in ("the proof by Enter", len(PROOF)), ("the proof by Enter ends", 1):
+            for _ in range(count):
+                self.browser.key("Enter")
+            self.same(name, [len(PROOF) - 1, "proof-forth"], ends)
         self.go(PAGE.as_uri() + "#proof=7")
         self.browser.key("Enter")
         self.same("on from an address by Enter", [7, "proof-forth"], ends)
@@ -741,14 +738,10 @@ class Checks(Cases):
         it."""
         inside = ("const box = e => e.getBoundingClientRect(), "
                   "isIn = e => -1 < box(e).top && box(e).bottom < innerHeight + 1;")
-        job = json.dumps({"capacity": 1, "labels": 4, "start": {"send": 0, "recv": 1},
-                          "events": ["send_ack"]})
-        tree = json.dumps({"capacity": 1, "labels": 4, "items": [7], "tree": [
-            {"name": "r"}, {"name": "a", "parent": "r"}], "schedule": [["a", "offer"]]})
         for width, height in SCREENS:
             self.browser.size(width, height)
-            for address, names in ((f"#job={packed(job)}", ["h-link", "lanes"]),
-                                   (f"#tree={packed(tree)}&at=1", ["h-tree", "t-drawn"]),
+            for address, names in ((f"#job={packed(SMALL_LINK)}", ["h-link", "lanes"]),
+                                   (f"#tree={packed(SMALL_TREE)}&at=1", ["h-tree", "t-drawn"]),
                                    ("#proof=19", ["proof", "lanes"])):
                 self.go(PAGE.as_uri() + address)
                 self.same(f"{address[:7]} is seen at {width}", [True, True],
@@ -763,7 +756,7 @@ class Checks(Cases):
                           "box($('proof')).top < 9, isIn($('lanes'))]")
             for i in range(len(SOLVED)):
                 self.same(f"exercise {i + 1} is seen at {width}", [True, True, True],
-                          inside + "scrollTo(0, 1e6); $('tasks').children[args[0]].click(); "
+                          inside + "scrollTo(0, 1e6); begins(args[0]); "
                           "return [isIn($('task')), box($('task')).top < 9, isIn($('lanes'))]", i)
         moves = inside + """
             const lanes = $(args[0]), isSeen = e => {
@@ -780,20 +773,18 @@ class Checks(Cases):
                 return [e.id || e.textContent, areSeen && isSeen(e)];
             });"""
         acts, times = ".acts button", ".time button, .time input"
+        moved = f"{acts}, #item, {times}, #play, #asks"
         self.same("the narrow form", True, "return matchMedia('(max-width: 44rem)').matches")
-        for view, prefix, controls, count in (
-                ("show(RUNS['The worst start'], 'x', 6);", "",
-                 f"{acts}, #item, {times}, #play, #asks", 14),
-                ("show(RUNS['The worst start of capacity two'], 'x', 8);", "",
-                 f"{acts}, #item, {times}, #play, #asks", 14),
-                ("proofTo(23);", "", "#proof button, #proof select", 5),
-                ("$('asks').checked = true; show(RUNS['The worst start'], 'x', 1); "
-                 "$('forth').click();", "", "#ask button", 2),
-                ("$('asks').checked = false; $('tasks').children[4].click();", "",
-                 f"#task button, {acts}", 12),
-                ("showTree(TREES['Backlogs at two nodes'], 'x', 9);", "t-",
+        for view, lanes, controls, count in (
+                ("shows('The worst start', 6);", "lanes", moved, 14),
+                ("shows('The worst start of capacity two', 8);", "lanes", moved, 14),
+                ("proofTo(23);", "lanes", "#proof button, #proof select", 5),
+                ("$('asks').checked = true; shows('The worst start', 1); click('forth');", "lanes",
+                 "#ask button", 2),
+                ("$('asks').checked = false; begins(4);", "lanes", f"#task button, {acts}", 12),
+                ("showsTree('Backlogs at two nodes', 9);", "t-lanes",
                  f"{acts}, {times}, #t-link, #t-rest, #t-strike, #t-restart", 15)):
-            said = self.run(view + moves, f"{prefix}lanes", controls)
+            said = self.run(view + moves, lanes, controls)
             self.see(f"the circle and what moves it after {view}",
                      len(said) == count and all(is_seen for _, is_seen in said), said)
         self.browser.size(*WIDE)
@@ -803,7 +794,7 @@ class Checks(Cases):
         # (what is hidden from a screen reader does not count)
         changes = """const seen = new MutationObserver(() => {}), found = new Set();
             seen.observe(document.body, { childList: true, subtree: true });
-            $(args[0]).click();
+            click(args[0]);
             for (const { target } of seen.takeRecords())
                 if (!target.closest('[aria-hidden], [role=img]')) found.add(target.id ||
                     target.parentElement.id);
@@ -813,54 +804,54 @@ class Checks(Cases):
         self.same("a step of the proof changes its sentence alone", ["proof-count", "proof-says"],
                   changes, "proof-forth")
         # the third event of this run puts the label 1 onto the way of the acknowledgements
-        self.run("show(RUNS['The worst start'], 'x', 2);")
-        said = self.run(changes, "forth")
-        self.see("an event changes what it changes alone", said == ["acks", "happened", "rows"])
-        for begin, forth, again in (("show(RUNS['The worst start'], 'x');", "forth", "draw();"),
-                ("showTree(TREES['Two links under one schedule'], 'x');", "t-forth",
-                    "pick(1); pick(2);")):
+        self.run("shows('The worst start', 2);")
+        self.same("an event changes what it changes alone", ["acks", "happened", "rows"],
+                  changes, "forth")
+        for begin, forth, again in (
+                ("shows('The worst start');", "forth", "draw();"),
+                ("showsTree('Two links under one schedule');", "t-forth", "pick(1); pick(2);")):
             before, place = self.run(begin + LIVE), forth.replace("forth", "happened")
             for k in range(12):
                 live = self.run("click(args[0]);" + LIVE, forth)
                 changed = announced(before, live)
                 self.see(f"event {k + 1} is announced once by {forth}", changed == [place], changed)
                 before = live
-            self.see(f"what is drawn again is not announced again by {forth}", self.run(
-                f"const had = $(args[0]).firstChild; {again} return had === $(args[0]).firstChild;",
-                place))
+            self.same(f"what is drawn again is not announced again by {forth}", True,
+                      "const had = $(args[0]).firstChild;"
+                      f"{again} return had === $(args[0]).firstChild;", place)
 
     def spoken(self):
         """Chromium's tree for screen readers, in every state of the page."""
         controls = {"button", "combobox", "spinbutton", "slider", "checkbox", "textbox",
-            "DisclosureTriangle"}
-        for state in ("show(RUNS['The worst start'], 'x', 6);",
-                      "show(RUNS['The worst start of capacity two'], 'x', 20);",
-                      "show(readJob(args[0]), 'x', 9);", "proofTo(20);",
-                      "$('tasks').children[3].click();",
-                      "$('asks').checked = true; show(RUNS['The worst start'], 'x', 1); "
-                      "$('forth').click();",
-                      "document.querySelectorAll('details').forEach(e => { e.open = true; });",
-                      "showTree(TREES['A clean tree'], 'x', 20);",
-                      "$('t-tasks').children[1].click();",
-                      "showTree(TREES['Backlogs at two nodes'], 'x', 6);",
-                      "showTree(TREES['A clean chain, nothing done yet'], 'x'); "
-                      "$('t-rest').click(); $('t-strike').click();"):
+                    "DisclosureTriangle"}
+        for state in ("shows('The worst start', 6);",
+                      "shows('The worst start of capacity two', 20);",
+                      "show(readJob(args[0]), 'x', 9);", "proofTo(20);", "begins(3);",
+                      "$('asks').checked = true; shows('The worst start', 1); click('forth');",
+                      "all('details').forEach(e => { e.open = true; });",
+                      "showsTree('A clean tree', 20);", "begins(1, 't-tasks');",
+                      "showsTree('Backlogs at two nodes', 6);",
+                      f"{CHAIN} click('t-rest', 't-strike');"):
             self.run(state, long_job())
             tree = self.browser.spoken()
-            nameless = [one for one in tree
-                if one[0] in controls | {"image", "region", "columnheader"} and not one[1]]
-            self.see(f"all has a name after {state[:50]}", not nameless, nameless)
-            roleless = [one for one in tree if one[3].get("focusable") and one[0] not in controls
-                        | {"RootWebArea", "option", "region", "list", "group"}]
-            self.see(f"all controls have a role after {state[:50]}", not roleless, roleless)
-            twice = [one for one in tree if one[2] and (one[1] in one[2] or one[2] in one[1])]
-            self.see(f"nothing is said twice after {state[:50]}", not twice, twice)
+            for name, wrong in (
+                    ("all has a name", [one for one in tree if not one[1] and one[0] in controls | {
+                        "image", "region", "columnheader"}]),
+                    ("all controls have a role", [
+                        one for one in tree if one[3].get("focusable") and one[0] not in controls
+                        | {"RootWebArea", "option", "region", "list", "group"}]),
+                    ("nothing is said twice", [
+                        one for one in tree if one[2] and (one[1] in one[2] or one[2] in one[1])])):
+                self.see(f"{name} after {state}", not wrong, wrong)
             texts = [one[1] for one in tree]
-            self.see(f"the picture has a text after {state[:50]}", any(text.startswith(
+            self.see(f"the picture has a text after {state}", any(text.startswith(
                 ("The run as a picture: ", "The tree: ")) for text in texts), texts)
-        self.run("$('asks').checked = false; show(RUNS['The worst start'], 'x', 6);"
+        self.run("$('asks').checked = false; shows('The worst start', 6);"
                  "all('details').forEach(e => { e.open = false; });")
-        named = lambda role: [one[1] for one in self.browser.spoken() if one[0] == role and one[1]]
+
+        def named(role):
+            return [one[1] for one in self.browser.spoken() if one[0] == role and one[1]]
+
         # after six events: no message is on the line, the receiver remembers 2, and 99 was
         # delivered
         items = sorted(named("listitem"))
@@ -886,18 +877,17 @@ class Checks(Cases):
                 ran(TOP / "lab/check_ends.py", TOP / f"lab/ends/{ends}.py", "-o", file)
                 address = re.search(r"index.html(#run=[\w-]+)", file.read_text())[1]
             self.go(PAGE.as_uri() + address)
-            found = self.run("""for (let k = 0; k <= job.events.length; k++) go(k);
+            self.same(f"a run of {ends}", [
+                "", f"Missing: {missing} of at most 3", f"Strays: {strays} of at most 1",
+                Like(f"*{last}"), Like("These are other ends*"), events, 0],
+                """for (let k = 0; k <= job.events.length; k++) go(k);
                 return [...texts('fault', 'missing', 'strays', 'happened', 'says'), at,
                     possible('event').length];""")
-            self.see(f"a run of {ends}", found[:3] == [
-                "", f"Missing: {missing} of at most 3", f"Strays: {strays} of at most 1"]
-                and found[3].endswith(last) and found[4].startswith("These are other ends")
-                and found[5:] == [events, 0], found)
         text = base64.urlsafe_b64decode(address[5:] + "==").decode()
         text = text.replace("[[65535, 90]]", "[[7, 90]]").replace("[[0, 90]]", "[[7, 90]]", 1)
         self.go(PAGE.as_uri() + "#run=" + packed(text))
-        said = self.run("return [...texts('fault'), 'record' in job];")
-        self.see("a run that does not follow", "do not follow" in said[0] and not said[1])
+        self.same("a run that does not follow", [Like("*do not follow*"), False],
+                  "return [...texts('fault'), 'record' in job];")
 
     def slides(self):
         """The runs on the slides of the lesson are drawn as the page draws them, and nothing is cut
@@ -926,8 +916,7 @@ class Checks(Cases):
         times = self.run("""show(readJob(args[0]), 'x', 4000);
             return [4001, 2000, 4096, 4095, 2100, 4090, 3000, 4001, 2000, 3500].map(to => {
                 const from = performance.now();
-                $('at').value = to;
-                $('at').dispatchEvent(new Event('input'));
+                set('at', to);
                 return Math.round(performance.now() - from);
             });""", long_job())
         print(f"{self.name}: steps of the slider take {times} ms")
@@ -936,17 +925,16 @@ class Checks(Cases):
     def narrow(self):
         """At 360 pixels, if the browser can be so narrow, and in print."""
         self.browser.size(360, 800)
-        for view in ("show(RUNS['The worst start of capacity two'], 'x', 8);",
-                     "$('tasks').children[4].click();", "$('see-tree').click();",
-                     "showTree(TREES['Backlogs at two nodes'], 'x', 10);",
-                     "$('t-tasks').children[3].click();", "show(readJob(args[0]), 'x', 9);"):
-            self.run(view, long_job())
-            said = self.run("return [document.documentElement.scrollWidth, innerWidth]")
+        for view in ("shows('The worst start of capacity two', 8);", "begins(4);",
+                     "click('see-tree');", "showsTree('Backlogs at two nodes', 10);",
+                     "begins(3, 't-tasks');", "show(readJob(args[0]), 'x', 9);"):
+            said = self.run(f"{view} return [document.documentElement.scrollWidth, innerWidth]",
+                            long_job())
             self.see("nothing is cut off at 360 pixels",
                      said[0] <= max(360, said[1] if self.name == "firefox" else 0))
         self.browser.size(*WIDE)
         if self.name == "chromium":
-            self.run("show(RUNS['The worst start'], 'x', 9);")
+            self.run("shows('The worst start', 9);")
             self.browser.ask_chromium("Emulation.setEmulatedMedia", media="print")
             self.same("no control is printed", 0, f"""return all('{CONTROLS}, summary').filter(e =>
                 e.checkVisibility() && !e.classList.contains('msg')).length""")
@@ -962,27 +950,24 @@ class Checks(Cases):
     def faults(self):
         """A struck link and a restarted node, against the program's answer to the job that is
         saved."""
-        chain = "showTree(TREES['A clean chain, nothing done yet'], 'x');"
         state = ("return [treeAt, isAtRest(stateOf(treeAt)), ['t-rest', 't-strike', "
                  "'t-restart'].map(id => isDim($(id)))];")
-        self.same("a tree with work left", [0, False, [False, True, True]], chain + state)
+        self.same("a tree with work left", [0, False, [False, True, True]], CHAIN + state)
         self.same("no fault before the rest", "", "click('t-strike'); return tree.since ?? ''")
         self.same("everything comes to rest", [40, True, [True, False, False]],
                   "click('t-rest');" + state)
         struck = {"acks": [0], "send": 0, "recv": 1}
-        nothing = [0, 0, 0]
+        empty = {"frames": [], "acks": [], "send": 0, "recv": 0}
         for button, node, start, events, cost in (
                 ("t-strike", 1, {"frames": [[2, 910]], **struck}, WORST_ON + ROUND,
-                 [nothing, [1, 0, 3], [1, 0, 3]]),
+                 [[0, 0, 0], [1, 0, 3], [1, 0, 3]]),
                 ("t-strike", 2, {"frames": [[2, 920]], **struck}, WORST_ON + ROUND,
-                 [nothing, nothing, [1, 0, 3]]),
-                ("t-restart", 1, {"frames": [], "acks": [], "send": 0, "recv": 0}, ROUND,
-                 [nothing, [0, 0, 1], [0, 0, 2]])):
-            saved = json.loads(self.run(
-                chain + "click('t-rest'); pick(args[1]); click(args[0]); return treeJobText(tree)",
-                button, node))
-            self.see(f"the start after {button} at {node}",
-                     saved["starts"][node - 1] == start and saved["items"][0] == 14, saved)
+                 [[0, 0, 0], [0, 0, 0], [1, 0, 3]]),
+                ("t-restart", 1, empty, ROUND, [[0, 0, 0], [0, 0, 1], [0, 0, 2]])):
+            self.same(f"the start after {button} at {node}", [start, 14], f"""{CHAIN}
+                click('t-rest'); pick(args[1]); click(args[0]);
+                const saved = JSON.parse(treeJobText(tree));
+                return [saved.starts[args[1] - 1], saved.items[0]]""", button, node)
             if node == 2:
                 self.run("pick(1); args[0].forEach(word => act(word)); pick(2);", ROUND * 5)
             text = self.run("args[0].forEach(word => act(word)); click('t-rest'); "
@@ -1003,18 +988,17 @@ class Checks(Cases):
         """Inner nodes that begin or come back with a backlog."""
         # the four items of this chain have the labels 0 to 3; then a comes back with 50 and 51, and
         # the root publishes 14 to 18, the first of which has the label 0 that a remembers
-        chain = "showTree(TREES['A clean chain, nothing done yet'], 'x');"
         state = ("return [counts(tree, treeAt), "
                  "all('#t-bounds > *').map(e => e.querySelector('b').textContent)];")
         self.same("a backlog is filled in", ["710 711", "backlog of a"],
-                  chain + "click('t-rest'); pick(1); set('t-hold', 2); "
+                  CHAIN + "click('t-rest'); pick(1); set('t-hold', 2); "
                   "return [$('t-held').value, ...texts('t-held-of')];")
-        for typed, why in (("50 51 52", "This backlog has 3 items, and h is 2."),
-                           ("50 x", "A backlog is a row of whole numbers"),
-                           ("1.5", "A backlog is a row")):
-            said = self.run("$('t-held').value = args[0]; click('t-restart'); "
-                            "return [...texts('t-why'), tree.since ?? ''];", typed)
-            self.see(f"the backlog {typed} is refused", said[0].startswith(why) and said[1] == "")
+        for typed, why in (("50 51 52", "This backlog has 3 items, and h is 2.*"),
+                           ("50 x", "A backlog is a row of whole numbers*"),
+                           ("1.5", "A backlog is a row*")):
+            self.same(f"the backlog {typed} is refused", [Like(why), ""],
+                      "$('t-held').value = args[0]; click('t-restart'); "
+                      "return [...texts('t-why'), tree.since ?? ''];", typed)
         saved = json.loads(self.run(
             "$('t-held').value = '50, 51'; click('t-restart'); return treeJobText(tree)"))
         clean = {"frames": [], "acks": [], "send": 0}
@@ -1026,9 +1010,9 @@ class Checks(Cases):
         self.same("just after the restart", [[none, some, [0, 2, 0, 2, 0, 6]], [
             "Strays of links at a: 0 of at most C = 1", "Strays of backlogs: 2 of at most E = 2",
             "Missing: 0 of at most M = 3"]], state)
-        self.see("it is said that a has a backlog",
-                 "with a backlog: 50 51. All numbers count from there"
-                 in self.run("return texts('t-since')[0]"))
+        self.same("it is said that a has a backlog",
+                  Like("*with a backlog: 50 51. All numbers count from there*"),
+                  "return texts('t-since')[0]")
         said = self.run("""pick(2); happens(['offer', 'send_frame']);
             const button = all('#t-frames button')[0];
             return [button.className, button.getAttribute('aria-label'),
@@ -1040,9 +1024,9 @@ class Checks(Cases):
                  and said[2] == "0=50◆" and "1◆ ↓" in said[3] and "2 items, 2◆" in said[3]
                  and "holds50 ◆" in said[4])
         self.see("a leaf has no backlog", said[5:] == [True, True])
-        said = self.run("happens(['recv_frame']); return texts('t-happened')[0]")
-        self.see("an item of a backlog arrives", said.endswith(
-            "so 50 is delivered, item number 0. It is a stray of the backlog of a."))
+        self.same("an item of a backlog arrives", Like(
+            "*so 50 is delivered, item number 0. It is a stray of the backlog of a."),
+            "happens(['recv_frame']); return texts('t-happened')[0]")
         wanted = [none, [0, 1, 2, 2, 1, 3], [0, 2, 2, 2, 1, 6]]
         self.same("both of the backlog arrive, and one item is missing", [wanted, [
             "Strays of links at b: 0 of at most C = 2", "Strays of backlogs: 2 of at most E = 2",
@@ -1061,23 +1045,21 @@ class Checks(Cases):
         own = "return [tree.hold, tree.openings, treeAt, tree.events.length, ...texts('fault')];"
         self.go(self.run("goTree(7); share(); return location.href"))
         self.same("backlogs in the address", [2, [[], [50, 51], []], 7, 25, ""], own)
-        old = {"capacity": 1, "labels": 4, "tree": [{"name": "r"}, {"name": "a", "parent": "r"}],
-               "items": [7], "links": [{"capacity": 1, "labels": 4}],
-               "starts": [{"frames": [], "acks": [], "send": 0, "recv": 65535}],
-               "schedule": [["a", "offer"]]}
+        old = {**json.loads(SMALL_TREE), "links": [{"capacity": 1, "labels": 4}],
+               "starts": [{**clean, "recv": 65535}]}
         self.go(PAGE.as_uri() + f"#tree={packed(json.dumps(old))}&at=1")
         self.same("an address without backlogs", [0, [[], []], 1, 1, ""], own)
         # of this tree a and c are inner nodes, numbers 1 and 3; h counts once for each leaf below
-        said = self.run("""showTree(TREES['A clean tree'], 'x'); set('t-hold', 3);
-            click('t-begin-all'); pick(3); $('t-held').value = '5'; click('t-begin');
-            return [tree.openings, tree.events.length, counts(tree, treeAt)]""")
-        self.see("all begin with backlogs, and one with another", said[:2] == [
-            [[], [710, 711, 712], [], [5], [], []], 0] and [row[2:4] for row in said[2]] == [
-                [0, 0], [3, 3], [0, 3], [1, 3], [0, 3], [0, 3]])
+        self.same("all begin with backlogs, and one with another", [
+            [[], [710, 711, 712], [], [5], [], []], 0,
+            [[0, 0], [3, 3], [0, 3], [1, 3], [0, 3], [0, 3]]], """showsTree('A clean tree');
+            set('t-hold', 3); click('t-begin-all'); pick(3); $('t-held').value = '5';
+            click('t-begin'); return [tree.openings, tree.events.length,
+                counts(tree, treeAt).map(row => row.slice(2, 4))]""")
         self.same("h is at least what the longest backlog has", [3, "3"],
                   "set('t-hold', 1); return [tree.hold, $('t-hold').value]")
         # below two inner nodes E is h twice, and c gets all: 98 is of the link into b
-        said = self.run("showTree(TREES['Backlogs at two nodes'], 'x', 1e9); pick(3); "
+        said = self.run("showsTree('Backlogs at two nodes', 1e9); pick(3); "
                         "return treeText(tree)"), self.run(state)
         self.see("backlogs of two nodes",
                  said[0].splitlines()[7] == "items: 720 721 98 710 711 10" and said[1] == [
@@ -1110,7 +1092,7 @@ class Checks(Cases):
         for labels, capacity, missing, why in [
                 (4, 1, "of at most 3", "only among the first 3 acknowledged"),
                 (3, 1, "of at most 3",
-                    "The bound holds with 3 labels; the program asks for one more"),
+                 "The bound holds with 3 labels; the program asks for one more"),
                 (2, 1, "Missing: ", "with 2 labels there is no bound: with capacity 1 it needs 3"),
                 (6, 2, "of at most 5", "only among the first 5 acknowledged"),
                 (5, 2, "of at most 5", "The bound holds with 5 labels"),
@@ -1119,37 +1101,35 @@ class Checks(Cases):
             self.see(f"{labels} labels with capacity {capacity}", missing in said[0]
                      and why in said[1] and ("at most" in said[0]) == (labels > 2 * capacity)
                      and ("one more" in said[1]) == (labels < 2 * capacity + 2))
-        said = self.run(body, 2, 1, 7)
-        self.see("an item under way",
-            said[2].endswith("is acknowledged, though its frame is still under way.")
-                 and said[3:] == ["gone", "late"])
-        said = self.run(body, 2, 1, 9)
-        self.see("and it comes", "item number 1" in said[2] and said[3:] == ["gone", "sent"])
-        said = self.run(body, 2, 1, 23)
-        self.see("an item that was lost",
-            said[2].endswith("is acknowledged, and it was never delivered."))
+        for name, at, happened, classes in (
+                ("an item under way", 7, "*is acknowledged, though its frame is still under way.",
+                 ["gone", "late"]),
+                ("and it comes", 9, "*item number 1*", ["gone", "sent"]),
+                ("an item that was lost", 23, "*is acknowledged, and it was never delivered.",
+                 None)):
+            said = self.run(body, 2, 1, at)
+            self.see(name, said[2] == Like(happened) and classes in (None, said[3:]))
 
     def hands(self):
         """Buttons, slider, keys and the address."""
-        state = "return [at, job.events.length, ...texts('strays', 'missing', 'happened')];"
-        self.see("forward to the end", self.run(
-            "show(RUNS['The worst start'], 'x'); for (let i = 0; i < 12; i++) click('forth');"
-            + state)[:4] == [12, 12, "Strays: 1 of at most 1", "Missing: 3 of at most 3"])
-        said = self.run("set('at', 6);" + state)
-        self.see("the slider", said[0] == 6 and "a stray" in said[4])
-        self.see("the left key", self.run("press('ArrowLeft');" + state)[0] == 5)
-        self.see("an event replaces the rest", self.run(
-            "click('back'); all('[data-event=send_ack]')[0].click();" + state)[:2] == [5, 5])
+        self.same("forward to the end",
+                  [12, 12, "Strays: 1 of at most 1", "Missing: 3 of at most 3"],
+                  "shows('The worst start'); for (let i = 0; i < 12; i++) click('forth');"
+                  "return [at, job.events.length, ...texts('strays', 'missing')];")
+        self.same("the slider", [6, Like("*a stray*")],
+                  "set('at', 6); return [at, ...texts('happened')]")
+        self.same("the left key", 5, "press('ArrowLeft'); return at")
+        self.same("an event replaces the rest", [5, 5],
+                  "click('back'); happens(['send_ack'], 'event'); return [at, job.events.length]")
         self.see("its text", self.run("return jobText(job)").count("send_ack") == 2)
         self.same("what can happen to a clean link", ["offer", "close", "send_ack"],
-                  "show(RUNS['A clean start'], 'x'); return possible('event');")
-        self.go(self.run("show(RUNS['Two labels are too few'], 'x'); go(99); share(); "
-                         "return location.href"))
+                  "shows('A clean start'); return possible('event');")
+        self.go(self.run("shows('Two labels are too few', 99); share(); return location.href"))
         self.same("a run in the address", [23, 2, "over", ""],
                   "return [at, job.labels, $('missing-box').className, ...texts('fault')];")
-        self.see("a refused job names the place", "events[1]" in self.run(
-            "tryJob(args[0]); return texts('fault')[0]",
-            '{"capacity":1,"labels":4,"start":{"send":0,"recv":1},"events":["send_ack","sent"]}'))
+        self.same("a refused job names the place", Like("*events[1]*"),
+                  "tryJob(args[0]); return texts('fault')[0]",
+                  SMALL_LINK.replace('"send_ack"', '"send_ack", "sent"'))
         self.same("each control has a name", 0, f"""return all('{CONTROLS}').filter(e =>
             !(e.textContent.trim() || e.getAttribute('aria-label') || e.closest('label'))
             ).length;""")
