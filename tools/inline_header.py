@@ -21,7 +21,8 @@ import shutil
 import subprocess
 import sys
 import tempfile
-from collections import Counter
+import textwrap
+from collections import Counter, namedtuple
 from pathlib import Path
 
 from crates import below, compiler, kit, listed, read
@@ -107,53 +108,50 @@ RELATIONS = {"eq": "==", "ne": "!=", "ult": "<", "ule": "<=", "ugt": ">"}
 OPPOSITE = {"==": "!=", "!=": "==", "<": ">=", ">=": "<", ">": "<=", "<=": ">"}
 
 
-class Step:
-    """An instruction: its result, its type, what it does, and its operands."""
-
-    def __init__(self, name, kind, act, *operands, more=None):
-        self.name, self.kind, self.act, self.operands = name, kind, act, operands
-        self.more = more
+# An instruction: its result, its type, what it does, its operands, and what else it says.
+Step = namedtuple("Step", "name kind act operands more")
+KIND = r"(?P<kind>i\d+|ptr)"
+A, B, C = (rf"(?P<{it}>-?\d+|true|false|null|%\w+|inttoptr \(i64 \d+ to ptr\))" for it in "abc")
+# What is known of instructions: the name of each kind here, and how it is written.
+FORMS = [
+    (act, f"{act} {KIND} {A}, {B}") for act in OPERATORS
+] + [
+    ("icmp", rf"icmp (?P<more>\w+ (?:i\d+|ptr)) {A}, {B}"),
+    ("select", rf"select i1 {A}, {KIND} {B}, \w+ {C}"),
+    ("zext", rf"zext (?P<more>i\d+) {A} to {KIND}"),
+    ("trunc", rf"trunc (?P<more>i\d+) {A} to {KIND}"),
+    ("load", f"load {KIND}, ptr {A}"),
+    ("store", f"store {KIND} {A}, ptr {B}"),
+    ("getelementptr", rf"getelementptr (?P<more>i\d+|\[\d+ x i8\]), ptr {A}, i64 {B}"),
+    ("minmax", rf"call {KIND} @llvm\.(?P<more>umax|umin|uadd\.sat|usub\.sat)\.i\d+"
+               rf"\(i\d+ {A}, i\d+ {B}\)"),
+    ("ctpop", rf"call {KIND} @llvm\.ctpop\.i\d+\(i\d+ {A}\)"),
+    ("clear", rf"call void @llvm\.memset\.p0\.i64\(ptr {A}, i8 0, i64 (?P<more>\d+), i1 false\)"
+              r"(?: #\d+)?"),
+    ("phi", f"phi {KIND} (?P<more>.*)"),
+    ("br", r"br (?P<more>label %\w+)"),
+    ("br", rf"br i1 {A}, (?P<more>label %\w+, label %\w+)"),
+    ("ret", "ret void"),
+    ("ret", f"ret {KIND} {A}"),
+]
 
 
 def step_of(line):
-    """The instruction of a line, or None where it says nothing."""
+    """The instruction of a line."""
     name, _, rest = line.rpartition(" = ") if re.match(r"%\w+ = ", line) else ("", "", line)
     rest = re.sub(r", (?:align \d+|!\w.*)", "", rest)
     rest = FLAGS.sub("", rest + " ").strip()
-    number = r"(-?\d+|true|false|null|%\w+|inttoptr \(i64 \d+ to ptr\))"
-    for pattern, make in (
-        (rf"({'|'.join(OPERATORS)}) (i\d+) {number}, {number}",
-         lambda act, kind, a, b: Step(name, kind, act, a, b)),
-        (rf"icmp (\w+) (i\d+|ptr) {number}, {number}",
-         lambda how, kind, a, b: Step(name, "i1", "icmp", a, b, more=(how, kind))),
-        (rf"select i1 {number}, (i\d+|ptr) {number}, \w+ {number}",
-         lambda c, kind, a, b: Step(name, kind, "select", c, a, b)),
-        (rf"(zext|trunc) (i\d+) {number} to (i\d+)",
-         lambda act, of, a, kind: Step(name, kind, act, a, more=of)),
-        (rf"load (i\d+), ptr {number}", lambda kind, a: Step(name, kind, "load", a)),
-        (rf"store (i\d+) {number}, ptr {number}",
-         lambda kind, a, to: Step("", kind, "store", a, to)),
-        (rf"getelementptr (i\d+|\[\d+ x i8\]), ptr {number}, i64 {number}",
-         lambda of, a, b: Step(name, "ptr", "getelementptr", a, b, more=of)),
-        (rf"call (i\d+) @llvm\.(umax|umin|uadd\.sat|usub\.sat)\.i\d+"
-         rf"\(i\d+ {number}, i\d+ {number}\)",
-         lambda kind, how, a, b: Step(name, kind, "minmax", a, b, more=how)),
-        (rf"call (i\d+) @llvm\.ctpop\.i\d+\(i\d+ {number}\)",
-         lambda kind, a: Step(name, kind, "ctpop", a)),
-        (rf"call void @llvm\.memset\.p0\.i64\(ptr {number}, i8 0, i64 (\d+), i1 false\)(?: #\d+)?",
-         lambda to, size: Step("", "", "clear", to, more=int(size))),
-        (rf"phi (i\d+) (.*)",
-         lambda kind, pairs: Step(name, kind, "phi", more=dict(
-             (block, value) for value, block in re.findall(rf"\[ {number}, %(\w+) \]", pairs)))),
-        (rf"br label %(\w+)", lambda to: Step("", "", "br", more=[to])),
-        (rf"br i1 {number}, label %(\w+), label %(\w+)",
-         lambda c, yes, no: Step("", "", "br", c, more=[yes, no])),
-        (r"ret void", lambda: Step("", "", "ret")),
-        (rf"ret (i\d+) {number}", lambda kind, a: Step("", kind, "ret", a)),
-    ):
-        found = re.fullmatch(pattern, rest)
+    for act, form in FORMS:
+        found = re.fullmatch(form, rest)
         if found:
-            return make(*found.groups())
+            its = found.groupdict("")
+            more = its.get("more")
+            if act == "phi":
+                more = {block: value for value, block in re.findall(r"\[ (\S+), %(\w+) \]", more)}
+            elif act == "br":
+                more = re.findall(r"%(\w+)", more)
+            kind = {"icmp": "i1", "getelementptr": "ptr"}.get(act, its.get("kind", ""))
+            return Step(name, kind, act, [its[it] for it in "abc" if it in its], more)
     raise Unknown(line)
 
 
@@ -163,13 +161,12 @@ class Function:
     def __init__(self, name, words, lines, header):
         self.name, self.header = name, header
         self.result, wanted = header.calls[name]
-        kinds = [re.match(r"(ptr|i\d+)\b", it.strip())[1] for it in self.split(words)]
-        names = [re.search(r"%\w+$", it.strip())[0] for it in self.split(words)]
-        if kinds != ["ptr" if star else next(
-                kind for kind, it in C_TYPES.items() if SIZES[it] == SIZES[of] and kind != "i1")
-                for of, star, _ in wanted]:
+        # (commas in parentheses part no words)
+        words = [it.split() for it in re.findall(r"(?:[^,()]|\((?:[^()]|\([^()]*\))*\))+", words)]
+        if [it[0] for it in words] != [
+                "ptr" if star else f"i{8 * SIZES[of]}" for of, star, _ in wanted]:
             raise Unknown(f"the words of {name}: {words}")
-        self.given = dict(zip(names, wanted))
+        self.given = {it[-1]: one for it, one in zip(words, wanted)}
         self.blocks = {}
         for line in lines:
             label = re.match(r"(\w+):", line)
@@ -177,14 +174,8 @@ class Function:
                 block = self.blocks.setdefault(label[1], [])
             else:
                 block.append(step_of(line.strip()))
-        self.first = next(iter(self.blocks))
         self.steps = {it.name: it for block in self.blocks.values() for it in block if it.name}
         self.look()
-
-    @staticmethod
-    def split(words):
-        """The words of a call, which commas in parentheses do not part."""
-        return re.findall(r"(?:[^,()]|\((?:[^()]|\([^()]*\))*\))+", words)
 
     def look(self):
         """Finds which block comes after which, which blocks several lead to, and the nearest block
@@ -199,13 +190,13 @@ class Function:
                     visit(it)
             order.insert(0, block)
 
-        visit(self.first)
+        visit(next(iter(self.blocks)))
         self.order = {block: place for place, block in enumerate(order)}
         if any(self.order[it] <= self.order[block] for block in order for it in self.after[block]):
             raise Unknown(f"a loop in {self.name}")
         ways = Counter(it for block in order for it in self.after[block])
         self.merges = {block for block, count in ways.items() if count > 1}
-        before = {self.first: None}
+        before = {order[0]: None}
         for block in order[1:]:
             near = None
             for it in (it for it in order if block in self.after[it]):
@@ -252,10 +243,10 @@ class Function:
         so nothing is ever looked at there, and C needs no other address."""
         self.nulls = {}
         for name, step in self.steps.items():
-            if step.act == "select" and step.operands[1:] == ("4096", "0"):
+            if step.act == "select" and step.operands[1:] == ["4096", "0"]:
                 asked = self.steps.get(step.operands[0])
                 users = [user for _, _, user in uses[name]]
-                if asked and asked.act == "icmp" and asked.more == ("eq", "ptr") \
+                if asked and asked.act == "icmp" and asked.more == "eq ptr" \
                         and asked.operands[1] == "null" and len(uses[asked.name]) == 1 and all(
                             it.act == "getelementptr" and it.operands[0] == asked.operands[0]
                             and it.more == "i8" for it in users):
@@ -277,9 +268,12 @@ class Function:
         self.names, self.taken, self.lines = {}, Counter(), []
         for _, _, name in self.given.values():
             self.taken[name] += 1
-        self.write(self.first, None, 1)
-        words = ", ".join(f"{of} {star}{name}" for of, star, name in self.given.values())
-        head = wrapped(f"static inline {self.result} {self.name}(", words, ")")
+        self.write(next(iter(self.blocks)), None, 1)
+        # (a line goes on under its parenthesis, and only after a comma)
+        words = ", ".join(f"{of}~{star}{name}" for of, star, name in self.given.values()) + ")"
+        before = f"static inline {self.result} {self.name}("
+        head = textwrap.fill(words.replace("const ", "const~"), 98, initial_indent=before,
+                             subsequent_indent=" " * len(before)).replace("~", " ")
         return "\n".join([head, "{", *self.lines, "}"]) + "\n"
 
     def say(self, depth, text):
@@ -300,29 +294,26 @@ class Function:
         for merge in merges:
             for step in self.phis(merge):
                 self.say(depth, f"{C_TYPES[step.kind]} {self.name_of(step)};")
-        following = merges[:1] or [follow]
-        ends = self.write_steps(block, following[0], depth)
-        for place, merge in enumerate(merges):
-            following = merges[place + 1:place + 2] or [follow]
-            ends = self.write(merge, following[0], depth)
+        after = [*merges, follow]
+        ends = self.write_steps(block, after[0], depth)
+        for merge, following in zip(merges, after[1:]):
+            ends = self.write(merge, following, depth)
         return ends
 
     def write_steps(self, block, follow, depth):
         """Writes the instructions of a block, and answers whether nothing follows them."""
         for step in self.blocks[block]:
-            if step.act == "phi":
-                continue
             if step.act == "store":
                 self.say(depth, f"{self.place(step.operands[1], step.kind)} = "
                          f"{bare(self.value(step.operands[0], step.kind))};")
             elif step.act == "clear":
                 self.clear(step, depth)
             elif step.act == "ret":
-                return self.end(step, None, depth)
+                return self.end(block, None, depth)
             elif step.act == "br":
                 return self.branch(block, step, follow, depth)
-            elif step.kind != "ptr" and step.name not in self.inlined and \
-                    step.name not in self.nulls:
+            elif step.act != "phi" and step.kind != "ptr" and \
+                    step.name not in {*self.inlined, *self.nulls}:
                 text = bare(self.expression(step))
                 self.say(depth, f"const {C_TYPES[step.kind]} {self.name_of(step)} = {text};")
         raise Unknown(f"a block without an end in {self.name}")
@@ -357,7 +348,7 @@ class Function:
     def go(self, block, to, follow, depth):
         """Writes the way from one block to another, and answers whether nothing follows it."""
         if self.is_return(to):
-            return self.end(self.blocks[to][-1], block, depth)
+            return self.end(to, block, depth)
         for step in self.phis(to):
             value = bare(self.value(step.more[block], step.kind))
             self.say(depth, f"{self.name_of(step)} = {value};")
@@ -367,20 +358,17 @@ class Function:
             raise Unknown(f"a jump in {self.name}")
         return False
 
-    def end(self, step, block, depth):
-        """Writes the return of a block, which is reached from another one."""
+    def end(self, at, block, depth):
+        """Writes the return at the end of a block, which is reached from another one, if any."""
+        step = self.blocks[at][-1]
         if step.operands:
             value = step.operands[0]
-            if block is not None and self.steps.get(value) in self.phis_of_return(step):
+            if block is not None and self.steps.get(value) in self.phis(at):
                 value = self.steps[value].more[block]
             self.say(depth, f"return {bare(self.value(value, step.kind))};")
-        elif depth > 1 or block is not None:
+        elif depth > 1:
             self.say(depth, "return;")
         return True
-
-    def phis_of_return(self, step):
-        return [it for block in self.blocks.values() if block[-1] is step
-                for it in block if it.act == "phi"]
 
     def phis(self, block):
         return [it for it in self.blocks[block] if it.act == "phi"]
@@ -450,14 +438,14 @@ class Function:
         """Writes 0 to all members of some bytes."""
         name, at, index = self.pointer(step.operands[0])
         of, _, it = self.given[name]
-        inside = [entry for entry in self.header.members[of] if at <= entry[0] < at + step.more]
-        end = at
-        for place, size, path in inside:
-            if place - end not in range(size):
-                raise Unknown(f"bytes between members of {it} in {self.name}")
-            end = place + size
-            self.say(depth, f"{it}->{path} = 0;")
-        if index is not None or end != at + step.more:
+        end, stop = at, at + int(step.more)
+        for place, size, path in self.header.members[of]:
+            if at <= place < stop:
+                if place - end not in range(size):
+                    raise Unknown(f"bytes between members of {it} in {self.name}")
+                end = place + size
+                self.say(depth, f"{it}->{path} = 0;")
+        if index is not None or end != stop:
             raise Unknown(f"{step.more} bytes at {at} of {it} in {self.name}")
 
     # Values.
@@ -544,7 +532,7 @@ class Function:
 
     def relation(self, step, negated):
         """Whether two values are so, or not so."""
-        (how, kind), (a, b) = step.more, step.operands
+        (how, kind), (a, b) = step.more.split(), step.operands
         sign = RELATIONS.get(how)
         if sign is None or kind == "ptr":
             raise Unknown(f"icmp {how} {kind} in {self.name}")
@@ -563,10 +551,7 @@ class Function:
         step = self.steps.get(condition)
         if condition in self.inlined and step.act == "icmp":
             return self.relation(step, True)
-        return self.negated_text(self.value(condition, "i1"))
-
-    @staticmethod
-    def negated_text(text):
+        text = self.value(condition, "i1")
         return f"!({bare(text)})" if re.search(r"\W", text) else f"!{text}"
 
 
@@ -580,18 +565,6 @@ def bare(text):
                 return text
         text = text[1:-1]
     return text
-
-
-def wrapped(before, words, after):
-    """A line that goes on under its parenthesis."""
-    lines, line = [], before
-    for word in re.findall(r"[^,]+,?", words):
-        word = word.strip()
-        if len(line) + len(word) + 2 > 100:
-            lines.append(line.rstrip())
-            line = " " * len(before)
-        line += word + (" " if word.endswith(",") else "")
-    return "\n".join([*lines, line + after])
 
 
 def plainly_named(text):
