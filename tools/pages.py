@@ -61,46 +61,25 @@ OTHERS = {"conflicts_with", "in_room", "sched_autogroup_enabled", "F_SETPIPE_SZ"
 # The first page, and how many words it may have.
 README, MOST_WORDS = "README.md", 900
 PROOF = "docs/PROOF.md"
-# What docs/PROOF.md says of every public function but those that it names: the words before these
-# names, whether a function is one of them (None where there is nothing to say), and what is wrong
-# if it is not named.
-GAPS = [
-    ("**No clause says what a refusal leaves**", lambda it: it.is_silent_on_what_stays(),
-     "no clause says what a refusal leaves of what it is lent"),
-    ("**No clause says why**", lambda it: it.is_silent_on_why(),
-     "no clause says of every refusal which one it is"),
-]
 
 
 class Function:
     """A function with what it requires and ensures, or a type, which has no clauses."""
 
     def __init__(self, owner, name, public, doc):
-        self.owner, self.name, self.public = owner, name, public
+        self.name, self.public = name, public
+        self.path, self.owner = f"{owner}::{name}" if owner else name, owner or name
         # each group: what is said of it, and its clauses, each a name, which may be none, and text
-        self.groups = [(doc, [])]
-        self.requires = []
+        self.groups, self.requires = [(doc, [])], []
         # what is before its clauses; of a type there is none
         self.signature = ""
-        # (what C calls is exported, whatever lib.rt names)
-        self.for_c = False
-        # (of a trait that another type has, the clauses are at the trait)
-        self.of_trait = False
-
-    def path(self):
-        return f"{self.owner}::{self.name}" if self.owner else self.name
+        # (what C calls is exported, whatever lib.rt names; of a trait that another type has, the
+        # clauses are at the trait)
+        self.for_c = self.of_trait = False
 
     def clauses(self):
-        """The names of its clauses, of which one may be none."""
-        return [name for _, clauses in self.groups for name, _ in clauses]
-
-    def ensures(self):
-        """The texts of its clauses."""
-        return [text for _, clauses in self.groups for _, text in clauses]
-
-    def is_tested_alone(self):
-        """Whether it is a function, and no clause says anything of it."""
-        return bool(self.signature) and not self.of_trait and set(self.ensures()) <= {"⊤"}
+        """Its clauses, each the name, which may be none, and the text."""
+        return [clause for _, clauses in self.groups for clause in clauses]
 
     def is_silent_on_what_stays(self):
         """Whether no clause says of all that it is lent to change what that is after a refusal, or
@@ -110,7 +89,7 @@ class Function:
             return None
         return not any(
             re.search(r"\b\w+\.new\b(?!\.)", text) and not re.match(r"(OnOk|IfOk)\b", text)
-            for text in self.ensures())
+            for _, text in self.clauses())
 
     def is_silent_on_why(self):
         """Whether no clause says of every refusal which one it is: what the whole answer is, of
@@ -119,7 +98,18 @@ class Function:
         refusal = re.search(r"-> Result<.*, (?:\w+::)*(\w+)>$", self.signature)
         if not refusal or refusal[1] == "AllocError":
             return None
-        return not any(says_why(text) for text in self.ensures())
+        return not any(says_why(text) for _, text in self.clauses())
+
+
+# What docs/PROOF.md says of every public function but those that it names: the words before these
+# names, whether a function is one of them (None where there is nothing to say), and what is wrong
+# if it is not named.
+GAPS = [
+    ("**No clause says what a refusal leaves**", Function.is_silent_on_what_stays,
+     "no clause says what a refusal leaves of what it is lent"),
+    ("**No clause says why**", Function.is_silent_on_why,
+     "no clause says of every refusal which one it is"),
+]
 
 
 def says_why(text):
@@ -142,13 +132,8 @@ def says_why(text):
 
 def in_one_line(lines):
     """The text of a comment as a cell of a table has it, without its examples in code."""
-    kept, code = [], False
-    for line in lines:
-        if line.startswith("```"):
-            code = not code
-        elif line and not code:
-            kept.append(line)
-    return re.sub(r"\[(`[^`]*`)\](?:\([^)]*\))?", r"\1", " ".join(kept)).replace("|", "\\|")
+    text = " ".join(line for line in without_code("\n".join(lines)) if line)
+    return re.sub(r"\[(`[^`]*`)\](?:\([^)]*\))?", r"\1", text).replace("|", "\\|")
 
 
 def read_head(function, lines, at):
@@ -243,25 +228,24 @@ def public_functions(crate):
     names = exported(crate)
     for path in sorted((TOP / "crates" / crate / "src").glob("*.rt"), key=lambda p: p.stem):
         for function in functions(path):
-            known = function.owner or function.name
-            if function.public and (known in names or function.for_c):
+            if function.public and (function.owner in names or function.for_c):
                 yield function
 
 
 def claims(crate):
-    """The lines of a crate's claims: each function and type, what is said of it, what it requires,
-    and its clauses with their texts."""
+    """The lines of a crate's claims: each function and type, and its clauses."""
     lines = []
     for function in public_functions(crate):
         said = function.groups[0][0]
         if not function.clauses() and (not said or said.startswith("As `")):
             continue
-        head = f"**`{function.path()}`**"
+        head = f"**`{function.path}`**"
         if function.signature:
             form = re.sub(r"^.*?\bfn \w+|\s+(?=\))|(?<=\()\s+|,(?=\s*\))", "", function.signature)
             head += f" `{form.strip(' ,')}`"
         lines += ["", f"{head} {said}".strip()]
-        if function.is_tested_alone():
+        if function.signature and not function.of_trait and {
+                text for _, text in function.clauses()} <= {"⊤"}:
             lines[-1] += " *No clause, tested.*"
         clauses = [f"- *requires* `{text}`" for text in function.requires]
         for at, (note, group) in enumerate(function.groups):
@@ -278,8 +262,7 @@ def files(crate, folder):
 
 
 def records_of(path):
-    """The records of a file of definitions: the name of each, what it is of, and its fields with
-    their texts."""
+    """The records of a file of definitions: of each its name, what it is of, and its fields."""
     for block in re.split(r"\n(?=\S)", path.read_text()):
         record = re.match(r"pub record (\w+) *(.*?) *: Type \S+ where\n(.*)", block, re.S)
         if record:
@@ -307,30 +290,25 @@ def libraries():
 
 
 def page_of_claims():
-    """The text of the page of claims."""
     # (the records that are shown are those of which a page cites a field)
     cited = {name for page in pages() for name in re.findall(r"`(\w+)\.\w+`", page.read_text())}
     lines = [HEAD]
     for crate in libraries():
         home = TOP / "crates" / crate
         lines += [f"## `{crate}`", "", first_comment(home / "src/lib.rt", "//!"), ""]
-        shown = claims(crate)
-        lines += ["### Claims", "", *shown, ""] if shown else []
-        for name, folder in ("Definitions", "specs"), ("Lemmas", "proofs"):
-            rows = files(crate, folder)
-            if rows:
-                lines += [f"| {name} | What they say |", "|---|---|", *rows, ""]
-            cited_here = records(crate, cited) if folder == "specs" else []
-            lines += [*cited_here, ""] if cited_here else []
         folders = home / "must-fail", TOP / "tests/edits" / crate
         bugs = sorted(f"`{path.stem}`" for at in folders for path in at.glob("*.edit"))
-        if bugs:
-            lines += [f"Planted bugs: {', '.join(bugs)}.", ""]
+        for head, shown in (
+                (["### Claims", ""], claims(crate)),
+                (["| Definitions | What they say |", "|---|---|"], files(crate, "specs")),
+                ([], records(crate, cited)),
+                (["| Lemmas | What they say |", "|---|---|"], files(crate, "proofs")),
+                ([], [f"Planted bugs: {', '.join(bugs)}."] * bool(bugs))):
+            lines += [*head, *shown, ""] if shown else []
     return "\n".join(lines)
 
 
 def pages():
-    """The pages of the repository."""
     return [path for path in all_files() if path.suffix == ".md"]
 
 
@@ -344,7 +322,7 @@ def all_files():
 
 
 def without_code(text):
-    """A page in which blocks of code are empty lines, so that all lines keep their numbers."""
+    """A text in which blocks of code are empty lines, so that all lines keep their numbers."""
     shown, code = [], False
     for line in text.splitlines():
         fence = line.lstrip("> ").startswith("```")
@@ -405,7 +383,7 @@ def gaps():
         named = re.findall(r"`([^`]+)`", sentence)
         met = set()
         for crate, function in public:
-            paths = (function.name, function.path(), f"{crate}::{function.path()}")
+            paths = (function.name, function.path, f"{crate}::{function.path}")
             covering = {name for name in named if any(
                 path == name or name.endswith("*") and path.startswith(name[:-1])
                 for path in paths)}
@@ -413,10 +391,10 @@ def gaps():
             # (a star may stand for functions of which there is nothing to say)
             met |= covering if gap is not None else set()
             if gap and not covering:
-                yield number, (f"{crate}::{function.path()}: {fault}, and the sentence {words} "
+                yield number, (f"{crate}::{function.path}: {fault}, and the sentence {words} "
                                "does not name it: write the clause, or name it there")
             elif covering and gap is False:
-                yield number, (f"{crate}::{function.path()} has a clause on it now: take "
+                yield number, (f"{crate}::{function.path} has a clause on it now: take "
                                f"{', '.join(sorted(covering))} out of the sentence {words}")
         for name in sorted(set(named) - met):
             yield number, (f"{name}: take it out of the sentence {words}, since there is no such "
@@ -449,12 +427,11 @@ class Sources:
     def add(self, some):
         """Adds the clauses of some functions, by their names with and without what they are of."""
         for function in some:
-            for name in {function.name, function.path()}:
-                self.clauses.setdefault(name, set()).update(function.clauses())
+            for name in {function.name, function.path}:
+                self.clauses.setdefault(name, set()).update(its for its, _ in function.clauses())
 
     def has_file(self, name):
-        """Whether there is such a file or folder. The folders above may be left out, and the ending
-        of an example."""
+        """Whether there is such a file or folder, with or without the folders above it."""
         name = "/" + name.removeprefix("./").removeprefix("examples/").rstrip("/")
         return (TOP / name[1:]).exists() or any(
             file.endswith(name) or name + "/" in file or name + "." in file for file in self.files)
@@ -503,23 +480,18 @@ def check():
             found += gaps()
         if name == README:
             found += faults_of_readme()
-        if not found:
-            passed += 1
+        passed += not found
         wrong += [f"{name}:{number}: {what}" for number, what in sorted(found)]
-    for path in sorted(TOP.glob("*")):
-        if path.is_symlink() and path.exists():
-            passed += 1
-        elif path.is_symlink():
-            wrong.append(f"{path.name}: it leads nowhere")
-    for line in wrong:
-        print(line)
-    print(f"{passed} passed, {len(wrong)} failed")
-    return not wrong
+    links = [path for path in sorted(TOP.glob("*")) if path.is_symlink()]
+    broken = [f"{path.name}: it leads nowhere" for path in links if not path.exists()]
+    wrong += broken
+    print(*wrong, f"{passed + len(links) - len(broken)} passed, {len(wrong)} failed", sep="\n")
+    return 1 if wrong else 0
 
 
 def main():
     if sys.argv[1:] == ["--check"]:
-        sys.exit(0 if check() else 1)
+        sys.exit(check())
     if len(sys.argv) > 2 or sys.argv[1:2] and sys.argv[1].startswith("-"):
         sys.exit("tools/pages.py takes --check, or a file, or no words at all")
     page = Path(sys.argv[1]) if sys.argv[1:] else TOP / "out/CLAIMS.md"
