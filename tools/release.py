@@ -30,12 +30,10 @@ nothing. It needs Python 3.8.
 import contextlib
 import fcntl
 import functools
-import glob
 import os
 import re
 import shutil
 import signal
-import stat
 import subprocess
 import sys
 import tempfile
@@ -79,11 +77,6 @@ def target_of(name):
     return f"{processor_of(name)}-unknown-linux-gnu"
 
 
-def flat(name):
-    """The name of an artefact as one of a file."""
-    return name.replace("/", "-")
-
-
 @functools.lru_cache
 def library_for(name):
     """The C library that goes into a program, or None."""
@@ -117,7 +110,6 @@ class Release(Commands):
         sys.exit(3)
 
     def look(self):
-        """Asks tools/launch what is here."""
         self.artefacts, self.released = {}, {}
         ask = '. "$1/tools/launch"; tell "${@:2}"'
         said = subprocess.run(["bash", "-c", ask, "bash", TOP, self.speaker, *self.names],
@@ -144,7 +136,6 @@ class Release(Commands):
         return found
 
     def file(self, name):
-        """The file of an artefact in release/."""
         is_program = name in self.daemon or self.artefacts[name].kind == "program"
         return RELEASE / (f"{name}.gz" if is_program else name)
 
@@ -168,19 +159,16 @@ class Release(Commands):
     # How it is built.
 
     def start(self, words, folder, **options):
-        """Starts a command in a folder."""
         env = {name: value for name, value in os.environ.items() if name != "RT_BACKEND"}
         return super().start(words, cwd=folder, env=env, stderr=subprocess.STDOUT, **options)
 
     def does(self, words, folder, **options):
-        """Runs a command in a folder, whose words go to the log, and answers whether it ends well.
-        """
+        """Runs a command whose words go to the log, and answers whether it ends well."""
         with open(LOG, "a", encoding="utf-8") as log:
             return self.end(self.start(words, folder, stdout=log, **options)) == 0
 
     def take_lock(self):
-        """Waits until no other script builds in this folder. The lock is free again when this one
-        has ended, however it ends."""
+        """Waits until no other script builds here. The lock ends with this process."""
         self.lock = open(KEPT / "lock", "a", encoding="utf-8")
         try:
             fcntl.flock(self.lock, fcntl.LOCK_EX | fcntl.LOCK_NB)
@@ -243,19 +231,16 @@ class Release(Commands):
         """Words that have the compiler take what checks of a crate have kept, if there is any."""
         return ["--incremental", "out/incremental"] if (out / "incremental").is_dir() else []
 
-    def make_archive(self, tree, name, made):
-        """Has the compiler make a library for C over the libraries that are there."""
-        return self.compile(tree, self.artefacts[name].crate, "src/lib.rt", made, "--crate-type",
-                            "staticlib", "--backend", "llvm", "--target", target_of(name),
-                            "--jobs", "2", *self.incremental(made.parent))
-
-    def make_module(self, tree, crate, made):
-        """Has the compiler make a module of a crate over the libraries that are there."""
-        archive = f"{made}.a"
-        return self.compile(
-            tree, crate, "src/lib.rt", archive, "--crate-type", "staticlib", "--target", WASM,
-            "--incremental", "out/incremental", "--jobs", "1",
-        ) and self.link(WASM, made, archive, options=["--stack", STACK])
+    def make_library(self, tree, name, made):
+        """Has the compiler make a library for C, or a module, over the libraries that are there."""
+        words = [tree, self.artefacts[name].crate, "src/lib.rt"]
+        own = ["--crate-type", "staticlib", "--target"]
+        if self.artefacts[name].kind == "library":
+            return self.compile(*words, made, *own, target_of(name), "--backend", "llvm",
+                                "--jobs", "2", *self.incremental(made.parent))
+        return self.compile(*words, f"{made}.a", *own, WASM, "--incremental", "out/incremental",
+                            "--jobs", "1") and self.link(
+                                WASM, made, f"{made}.a", options=["--stack", STACK])
 
     def make_after_ci(self, tree, name):
         """Makes an artefact in a tree where rt ci has proved its crates, and answers its file, or
@@ -264,15 +249,12 @@ class Release(Commands):
         kind, crate = self.artefacts[name][:2]
         if kind == "program":
             return self.make_program(tree, name)
-        home = tree / "crates" / crate
-        made = home / "out" / flat(name)
+        made = tree / "crates" / crate / "out" / name.replace("/", "-")
         made.parent.mkdir(exist_ok=True)
         made.unlink(missing_ok=True)
         if any((tree / f"crates/{it}/out/rlib/stamp").is_file() for it in below(crate, listed())):
             self.fail("checks have left other libraries here than rt ci does: run that first")
-        is_well = (self.make_module(tree, crate, made) if kind == "module" else
-                   self.make_archive(tree, name, made))
-        return made if is_well and made.is_file() else None
+        return made if self.make_library(tree, name, made) and made.is_file() else None
 
     def build_in_copy(self, is_anew):
         """Proves and builds the artefacts, as the gate does, in a copy of the sources: each crate
@@ -321,30 +303,27 @@ class Release(Commands):
         write to."""
         for name, data in self.fresh.items():
             built = self.artefacts[name].kept_as + digest_of(data)
-            fresh = KEPT / f"new-{flat(name)}"
-            with contextlib.suppress(FileNotFoundError):
-                fresh.unlink()
-            with open(os.open(fresh, os.O_WRONLY | os.O_CREAT | os.O_EXCL, 0o700), "wb") as to:
+            handle, fresh = tempfile.mkstemp(dir=KEPT)
+            with open(handle, "wb") as to:
                 to.write(data)
-                os.fchmod(to.fileno(), 0o755)
+                os.fchmod(handle, 0o755)
             try:
                 os.rename(fresh, built)
             except OSError:
+                os.unlink(fresh)
                 self.fail(f"{name} cannot be kept as {built}")
-            for other in glob.glob(f"{glob.escape(str(KEPT))}/{flat(name)}-*"):
-                if other != built and re.search("-[0-9a-f]{64}$", other):
-                    os.unlink(other)
+            for other in KEPT.glob(f"{name.replace('/', '-')}-*"):
+                if str(other) != built and re.search("-[0-9a-f]{64}$", other.name):
+                    other.unlink()
             self.artefacts[name] = self.artefacts[name]._replace(built=built)
 
-    def is_kept_own(self):
-        """Makes the folder of what is kept, if there is none. Answers whether what lies there can
-        only be of this user or of root."""
-        if not KEPT.exists():
-            KEPT.mkdir(mode=0o755)
-            KEPT.chmod(0o755)
-        it = KEPT.lstat()
-        return (stat.S_ISDIR(it.st_mode) and it.st_uid in (0, os.geteuid())
-                and not it.st_mode & 0o022)
+    def begin(self):
+        """Makes the folder of what is kept, if there is none, with an empty log. Answers whether
+        what lies there can only be of this user or of root."""
+        is_own = subprocess.call(["bash", "-c", '. "$0/tools/launch"; make_kept', TOP]) == 0
+        if is_own:
+            LOG.write_text("")
+        return is_own
 
     def build(self, why, is_anew):
         """Proves and builds the artefacts. With `is_anew` this begins from nothing; else it takes
@@ -352,10 +331,9 @@ class Release(Commands):
         if not shutil.which("rt"):
             self.fail(f"{why}: the command rt of the Rattle kit is needed to prove and build the "
                       "program")
-        if not self.is_kept_own():
+        if not self.begin():
             self.fail(f"{why}, and nothing is built in {KEPT}:\n    it is not a folder of this "
                       "user to which nobody else may write; delete it")
-        LOG.write_text("")
         self.take_lock()
         for count in range(MAX_BUILDS):
             if not is_anew and all(it.built for it in self.artefacts.values()):
@@ -392,8 +370,7 @@ class Release(Commands):
             self.say("the release is ANOTHER program than these sources give, which runs now")
 
     def become(self, name, mode, why, *words):
-        """Builds a program for its launcher, and starts it in the place of this script, under its
-        own name, as the newest one of out/."""
+        """Builds a program for its launcher, and starts it in the place of this script."""
         self.build(why, mode == "prove")
         if mode == "prove":
             self.compare(name)
@@ -416,8 +393,7 @@ class Release(Commands):
             file.write_bytes(data)
 
     def copy_archives(self):
-        """Copies the archives for the package of the crate for Rust, which has those of its targets
-        inside."""
+        """Copies the archives for the crate for Rust, which has those of its targets inside."""
         to = TOP / "rust/rignolda/lib"
         for name, it in self.artefacts.items():
             if it.kind == "library" and to.parent.is_dir():
@@ -465,8 +441,7 @@ class Release(Commands):
 
     def make_over_ci(self):
         """Makes the files of release/ of what rt ci has just proved and built here."""
-        self.is_kept_own()
-        LOG.write_text("")
+        self.begin()
         cases = Cases()
         for name in self.artefacts:
             made = self.make_after_ci(TOP, name)
@@ -479,8 +454,7 @@ class Release(Commands):
         return cases.sum_up()
 
     def is_of_another_library(self, name):
-        """Whether the program of the release has another C library inside than is here, as its line
-        of the manifest says."""
+        """Whether another C library than is here is in the program of the release."""
         named = re.search(" and (musl [0-9a-f]{64})$", self.released.get(name, ("",))[-1])
         library = library_for(name)
         return (self.artefacts[name].kind == "program" and bool(named)
@@ -527,8 +501,7 @@ class Release(Commands):
                f"the release was built by another kit: {self.released_by}")
 
     def check(self):
-        self.is_kept_own()
-        LOG.write_text("")
+        self.begin()
         cases = Cases()
         for case in self.cases():
             cases.holds(*case)
@@ -538,7 +511,6 @@ class Release(Commands):
         return cases.sum_up()
 
     def maker(self, name):
-        """What makes the file of an artefact."""
         if name not in self.daemon:
             return "./release.sh"
         return f"tools/build_daemon {'--arm64 ' * name.startswith(ARM64)}--keep"
@@ -611,7 +583,7 @@ class Release(Commands):
             if own and own[1] != version:
                 self.fail(f"CHANGELOG.md has the version {version}, and the crate {part} for Rust "
                           f"{own[1]}")
-        self.is_kept_own()
+        self.begin()
         names = []
         for processor in sorted({*map(processor_of, self.artefacts)}, reverse=True):
             names += self.archive_for(processor, version, day)
