@@ -117,8 +117,7 @@ class Browser:
         return json.loads(said["result"]["value"])
 
     def spoken(self):
-        """What a screen reader is told: of each thing its role, name, description and
-        properties."""
+        """What a screen reader is told: the role, name, description and properties of each."""
         value = lambda node, key: node.get(key, {}).get("value", "")
         return [(value(node, "role"), value(node, "name"), value(node, "description"),
                  {one["name"]: one["value"].get("value") for one in node.get("properties", [])})
@@ -148,8 +147,7 @@ def programs():
 
 
 def program(job, *words):
-    """What `stab link --trace` answers, or `stab` with these words: its text, or None where it
-    refuses."""
+    """The text of `stab link --trace`, or of other words; None where it refuses."""
     status, text, _ = answered(programs()[0], *(words or ["link", "--trace"]), given=job)
     return text if status == 0 else None
 
@@ -448,8 +446,7 @@ class Checks(Cases):
                 part, self.run(script, [text for _, text, _ in part]), strict=True))
 
     def texts(self):
-        """Each link gives the text of the program, with strays and missing items in their bounds,
-        or is refused as there."""
+        """Each link gives the text of the program, within its bounds, or is refused as there."""
         for job, _, want, text in self.answers(TEXTS, self.jobs):
             self.see(job, text == want, f"{text}\nand not\n{want}")
 
@@ -534,8 +531,7 @@ class Checks(Cases):
         """The circle, the exercise beside it, questions, the address, and where the focus is."""
         self.same("the start", [
             Like("*Nobody knows from when*"), [" next", "", "", "free"],
-            ["msg old ", "msg old lie"], "badge msg old "], """shows('The worst start');
-            return [...texts('happened'), [...$('labels').children].map(c => c.className),
+            ["msg old ", "msg old lie"], "badge msg old "], """show(RUNS['The worst start'], 'The worst start'); return [...texts('happened'), [...$('labels').children].map(c => c.className),
                 ['frames', 'acks'].map(id => $(id).querySelector('button').className),
                 $('of-recv').className];""")
         for at, part, style, told in (
@@ -621,8 +617,7 @@ class Checks(Cases):
                   SMALL_LINK.replace('"capacity": 1', '"capacity": 1.0'))
 
     def proof(self):
-        """Each step of the proof shows what it says, and only the sentence of the step is
-        announced."""
+        """Each step of the proof shows what it says, and its sentence alone is announced."""
         self.see("the steps of the proof", sum(count for count, _, _ in PROOF_PARTS)
                  == len(PROOF) == self.run("return PROOF_STEPS.length"))
         # with 2c + 1 labels the bound holds, and with 2c it does not: `texts` and `labels` try both
@@ -734,8 +729,7 @@ class Checks(Cases):
         self.same("on from an address by Enter", [7, "proof-forth"], ends)
 
     def seen(self):
-        """What an address or an exercise names is on the screen, and the circle with what moves
-        it."""
+        """What an address or an exercise names is on the screen, with what moves it."""
         inside = ("const box = e => e.getBoundingClientRect(), "
                   "isIn = e => -1 < box(e).top && box(e).bottom < innerHeight + 1;")
         for width, height in SCREENS:
@@ -890,8 +884,7 @@ class Checks(Cases):
                   "return [...texts('fault'), 'record' in job];")
 
     def slides(self):
-        """The runs on the slides of the lesson are drawn as the page draws them, and nothing is cut
-        off."""
+        """The runs on the slides are drawn as the page draws them, and nothing is cut off."""
         drawn = self.run("return args.map(title => { show(RUNS[title], 'x', 1e9); "
                          "return all('#drawn text').map(e => e.textContent); });",
                          "The worst start", "The shortest run with two labels")
@@ -948,8 +941,7 @@ class Checks(Cases):
             self.browser.ask_chromium("Emulation.setEmulatedMedia", media="")
 
     def faults(self):
-        """A struck link and a restarted node, against the program's answer to the job that is
-        saved."""
+        """A struck link and a restarted node, against the program's answer to that job."""
         state = ("return [treeAt, isAtRest(stateOf(treeAt)), ['t-rest', 't-strike', "
                  "'t-restart'].map(id => isDim($(id)))];")
         self.same("a tree with work left", [0, False, [False, True, True]], CHAIN + state)

@@ -65,7 +65,6 @@ def planted(room, old, new):
 
 
 def flags():
-    """What the system says of the processor."""
     found = re.search("^flags\\s*: (.*)$", Path("/proc/cpuinfo").read_text(), re.M)
     return {*(found[1] if found else "").split()}
 

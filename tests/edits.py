@@ -60,8 +60,7 @@ def edits_in(folder):
 
 
 def path_of(crate, file, old):
-    """The end of the name of the function that has this text, as a check prints it, or an empty
-    text."""
+    """The end of the name of the function with this text, as a check prints it, or ''."""
     text = read(f"{TOP}/crates/{crate}/{file}")
     if text.count(old) != 1 or not file.startswith("src/"):
         return ""

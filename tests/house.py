@@ -85,7 +85,6 @@ UNSET = ("CDPATH", "TMPDIR", "RT_JOBS", "RT_BACKEND")
 
 
 def digest(data):
-    """The digest of a file, or of bytes."""
     return hashlib.sha256(data.read_bytes() if isinstance(data, Path) else data).hexdigest()
 
 
@@ -99,8 +98,6 @@ def remove(*paths):
 
 
 class Ended:
-    """How a command ended, and what it wrote."""
-
     def __init__(self, status, out, err):
         self.status, self.out, self.err = status if status >= 0 else 128 - status, out, err
         self.last = out.rpartition("\n")[0].rpartition("\n")[2]
@@ -171,15 +168,13 @@ class House(Cases):
             self.change("tools/launch", "^    'arm64/.*\n", "")
 
     def musl(self, text, *machines):
-        """Says which C library there is for programs, of x86-64 or of these machines: one whose
-        files have this text, or none."""
+        """Says which C library these machines have: one whose files have this text, or none."""
         for machine in machines or ("x86_64",):
             remove(self.work / "musl" / machine)
             for name in ("rcrt1.o", "crti.o", "libc.a", "crtn.o") if text else ():
                 self.write(self.work / "musl" / machine / "lib" / name, text)
 
     def kit(self, name):
-        """Says which kit there is."""
         self.write(self.work / "kit", f"{name}\n")
 
     def read(self, name):
@@ -188,16 +183,14 @@ class House(Cases):
         return path.read_text() if path.exists() else ""
 
     def run(self, *words, given="", cwd=None, **env):
-        """Runs a command, and notes and answers how it ended. The environment is that of the house
-        with these changes."""
+        """Runs a command with these changes of the environment, and notes how it ended."""
         done = subprocess.run(words, input=given, capture_output=True, text=True, cwd=cwd,
                               errors="replace", env={**self.env, **env})
         self.ended = Ended(done.returncode, done.stdout, done.stderr)
         return self.ended
 
     def interrupted(self, number, *words, **env):
-        """Runs a command that writes to the file `started` and does not end by itself, and sends it
-        a signal then."""
+        """Runs a command until it writes to the file `started`, and sends it a signal then."""
         remove(self.work / "started", self.work / "ended")
         # (a signal that is ignored here, as HUP under nohup, would be ignored there)
         with open(self.work / "out", "w") as out, open(self.work / "err", "w") as err:

@@ -118,7 +118,6 @@ def folded(words, width):
 
 
 def bash(program, commands, options):
-    """The completions for bash."""
     cases, names = [], [it.name for it in commands]
     for it in commands:
         if it.name == "help":
@@ -139,12 +138,10 @@ def bash(program, commands, options):
 
 
 def quoted(text):
-    """A text in the quotation marks of a shell."""
     return "'" + text.replace("'", "'\\''") + "'"
 
 
 def zsh(program, commands, options):
-    """The completions for zsh."""
     def escaped(text):
         return re.sub(r"([\[\]:])", r"\\\1", text)
 
@@ -166,7 +163,6 @@ def zsh(program, commands, options):
 
 
 def fish(program, commands, options):
-    """The completions for fish."""
     first = f"complete -c {program} -n __fish_use_subcommand"
     lines = [f"{first} -l {name} -d {quoted(text)}" for name, _, text in options]
     for it in commands:
@@ -194,7 +190,6 @@ def completed(program, *words):
 
 
 def cases(both):
-    """Each case: its name, and whether it holds."""
     made = files_of(both)
     yield "the files of completions/", sorted(os.listdir(HOME)) == sorted(made)
     for name, text in made.items():
@@ -216,7 +211,6 @@ def cases(both):
 
 
 def main(program):
-    """Writes the files, or compares them and tries them."""
     both, found = {"rignolda": rignolda(program), "stab": stab()}, Cases()
     if not sys.argv[1:]:
         for name, text in files_of(both).items():

@@ -76,7 +76,6 @@ def page(module):
 
 
 def write():
-    """Writes the page."""
     TO.write_text(page(MODULE.read_bytes()))
 
 

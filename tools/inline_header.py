@@ -178,8 +178,7 @@ class Function:
         self.look()
 
     def look(self):
-        """Finds which block comes after which, which blocks several lead to, and the nearest block
-        that is on each way to one."""
+        """Finds which blocks follow a block, where ways meet, and what is on each way."""
         self.after = {it: block[-1].more or [] for it, block in self.blocks.items()}
         order, seen = [], set()
 
@@ -468,7 +467,6 @@ class Function:
         return self.expression(self.steps[operand], inside=True)
 
     def expression(self, step, inside=False):
-        """What an instruction does, as an expression."""
         if step.act == "load":
             return self.place(step.operands[0], step.kind)
         if step.act == "phi":
@@ -499,7 +497,6 @@ class Function:
         return f"({C_TYPES[kind]})({text})" if kind in ("i8", "i16") else text
 
     def operation(self, step):
-        """A sum, a product, or the like."""
         kind, (a, b) = step.kind, step.operands
         if kind == "i1":
             if step.act not in ("and", "or"):
@@ -590,8 +587,7 @@ def translated(text, header):
 
 
 def build(work):
-    """Builds the archive in a folder as a release does, and answers its file and the text of the
-    module that clang was given."""
+    """Builds the archive in a folder; answers its file and the module's text."""
     home, tools = kit(), work / "toolchain"
     shutil.copytree(f"{home}/toolchain", tools, copy_function=os.symlink)
     clang, module, archive = f"{home}/toolchain/bin/clang", work / "module.bc", work / "library.a"

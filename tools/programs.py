@@ -40,8 +40,7 @@ def kept(room, name, *machine):
 
 
 def program(name, room):
-    """The program of this name, or None: the one that PROGRAM_RIGNOLDA or PROGRAM_STAB names, or
-    one of these sources."""
+    """The program of this name, or None: one of these sources, or what PROGRAM_NAME names."""
     named = os.environ.get("PROGRAM_" + name.upper())
     if named:
         return Path(named).resolve()
@@ -63,8 +62,7 @@ def built(name, room):
 
 
 def run_with(do, *names):
-    """Runs a check with the files of these programs, and answers its status, or says that one of
-    them is missing."""
+    """Runs a check with the files of these programs, or says that one is missing."""
     with tempfile.TemporaryDirectory() as room:
         files = {name: program(name, room) for name in names}
         missing = [name for name in names if files[name] is None]
@@ -86,8 +84,7 @@ def ran(*words, **options):
 
 
 def answered(file, *words, given="", **options):
-    """The status of a program that reads this text, or these bytes, or this job, and what it writes
-    on both of its outputs."""
+    """The status of a program that reads this text, bytes or job, and its outputs."""
     given = given if isinstance(given, (str, bytes)) else json.dumps(given)
     given = given if isinstance(given, bytes) else given.encode()
     done = subprocess.run([file, *words], input=given, capture_output=True, **options)

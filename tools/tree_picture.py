@@ -27,8 +27,7 @@ def style():
 
 
 def lists(text):
-    """By the name of each node what it received and what was published, in the order of the text.
-    """
+    """By the name of each node what it received and what was published, in their order."""
     found = {}
     for line in text.splitlines():
         words = line.split()
@@ -72,8 +71,7 @@ def places(tree):
 
 
 def drawn(job, text):
-    """The picture of a job, the root first in its tree, and of what `rignolda scenario` prints of
-    it."""
+    """The picture of a job, the root first, and of what `rignolda scenario` prints of it."""
     at, nodes = places(job["tree"]), lists(text)
     end = TOP + ROW * max(depth for _, depth in at.values()) + HIGH
     lines, boxes = [], []
