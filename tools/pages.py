@@ -54,8 +54,7 @@ UNCITED = {"CHANGELOG.md"}
 # What only a build makes.
 MADE = re.compile(r"(out|bench/build)/")
 # Names that pages cite of other programs and of the system, or as an example.
-OTHERS = {"conflicts_with", "in_room", "sched_autogroup_enabled", "F_SETPIPE_SZ", "O_DIRECT",
-          "O_NONBLOCK"}
+OTHERS = {"conflicts_with", "in_room", "F_SETPIPE_SZ", "O_DIRECT", "O_NONBLOCK"}
 
 
 # The first page, and how many words it may have.

@@ -162,10 +162,10 @@ class Release(Commands):
         env = {name: value for name, value in os.environ.items() if name != "RT_BACKEND"}
         return super().start(words, cwd=folder, env=env, stderr=subprocess.STDOUT, **options)
 
-    def does(self, words, folder, **options):
+    def does(self, words, folder):
         """Runs a command whose words go to the log, and answers whether it ends well."""
         with open(LOG, "a", encoding="utf-8") as log:
-            return self.end(self.start(words, folder, stdout=log, **options)) == 0
+            return self.end(self.start(words, folder, stdout=log)) == 0
 
     def take_lock(self):
         """Waits until no other script builds here. The lock ends with this process."""
@@ -233,14 +233,13 @@ class Release(Commands):
 
     def make_library(self, tree, name, made):
         """Has the compiler make a library for C, or a module, over the libraries that are there."""
-        words = [tree, self.artefacts[name].crate, "src/lib.rt"]
-        own = ["--crate-type", "staticlib", "--target"]
+        crate, own = self.artefacts[name].crate, ["--crate-type", "staticlib", "--target"]
         if self.artefacts[name].kind == "library":
-            return self.compile(*words, made, *own, target_of(name), "--backend", "llvm",
-                                "--jobs", "2", *self.incremental(made.parent))
-        return self.compile(*words, f"{made}.a", *own, WASM, "--incremental", "out/incremental",
-                            "--jobs", "1") and self.link(
-                                WASM, made, f"{made}.a", options=["--stack", STACK])
+            return self.compile(tree, crate, "src/lib.rt", made, *own, target_of(name), "--backend",
+                                "llvm", "--jobs", "2", *self.incremental(made.parent))
+        archive, own = f"{made}.a", [*own, WASM, "--incremental", "out/incremental", "--jobs", "1"]
+        return (self.compile(tree, crate, "src/lib.rt", archive, *own)
+                and self.link(WASM, made, archive, options=["--stack", STACK]))
 
     def make_after_ci(self, tree, name):
         """Makes an artefact in a tree where rt ci has proved its crates, and answers its file, or
@@ -303,14 +302,14 @@ class Release(Commands):
         write to."""
         for name, data in self.fresh.items():
             built = self.artefacts[name].kept_as + digest_of(data)
-            handle, fresh = tempfile.mkstemp(dir=KEPT)
-            with open(handle, "wb") as to:
+            fresh = KEPT / f"new-{name.replace('/', '-')}"
+            fresh.unlink(missing_ok=True)
+            with open(os.open(fresh, os.O_WRONLY | os.O_CREAT | os.O_EXCL, 0o700), "wb") as to:
                 to.write(data)
-                os.fchmod(handle, 0o755)
+                os.fchmod(to.fileno(), 0o755)
             try:
                 os.rename(fresh, built)
             except OSError:
-                os.unlink(fresh)
                 self.fail(f"{name} cannot be kept as {built}")
             for other in KEPT.glob(f"{name.replace('/', '-')}-*"):
                 if str(other) != built and re.search("-[0-9a-f]{64}$", other.name):
