@@ -50,13 +50,15 @@ def lines():
     return house.ended.out.split("\n")
 
 
-def ended(status, last):
+def ended(last):
+    """Whether it ended with this last line, and with status 1 where that counts a failure."""
+    status = int(bool(re.search(" [1-9][0-9]* failed$", last)))
     return (house.ended.status, house.ended.last) == (status, last) and house.left_nothing()
 
 
-def gave(status, last):
-    """Whether the gate ended with this status and this last line, after all parts."""
-    return (ended(status, last) and house.ended.out.count(": a script of tests\n") == len(SCRIPTS)
+def gave(last):
+    """Whether the gate ended with this last line, after all parts."""
+    return (ended(last) and house.ended.out.count(": a script of tests\n") == len(SCRIPTS)
             and any(re.fullmatch(rf"{house.top}: rt ci, [0-9]+", it) for it in lines())
             and {f"{house.top}: {it}" for it in (
                 "check ", "edits low", "edits mid", "edits high", "release --check",
@@ -68,38 +70,38 @@ for at in range(len(SCRIPTS)):
 script(0, "echo 5 passed, 0 failed")
 house.command("tests/try_edits.py", 'echo "$PWD: edits $*"; echo 0 passed, 0 failed')
 pages_and_release()
-for first, second, status, last, name in (
-        (*PARTS, 0, "352 passed, 0 failed", "the counts of all parts are added"),
-        ("echo 299 passed, 1 failed; exit 1", PARTS[1], 1, "351 passed, 1 failed",
+for first, second, last, name in (
+        (*PARTS, "352 passed, 0 failed", "the counts of all parts are added"),
+        ("echo 299 passed, 1 failed; exit 1", PARTS[1], "351 passed, 1 failed",
          "a failure of the first part fails"),
-        (PARTS[0], "echo 40 passed, 2 failed; exit 1", 1, "350 passed, 2 failed",
+        (PARTS[0], "echo 40 passed, 2 failed; exit 1", "350 passed, 2 failed",
          "failures of the second part fail"),
-        ("echo 08 passed, 3 failed; exit 1", "echo 1 passed, 09 failed; exit 1", 1,
+        ("echo 08 passed, 3 failed; exit 1", "echo 1 passed, 09 failed; exit 1",
          "19 passed, 12 failed", "failures of both parts are added"),
-        ("echo 0 passed, 1 failed; exit 2", "echo 0 passed, 1 failed; exit 1", 1,
+        ("echo 0 passed, 1 failed; exit 2", "echo 0 passed, 1 failed; exit 1",
          "10 passed, 2 failed", "after a first part that stopped the second one is still run"),
-        (f"{PARTS[0]}; exit 1", PARTS[1], 1, "352 passed, 1 failed",
+        (f"{PARTS[0]}; exit 1", PARTS[1], "352 passed, 1 failed",
          "a status that no count explains is a failure"),
-        ("echo 300 passed, 1 failed", PARTS[1], 1, "352 passed, 1 failed",
+        ("echo 300 passed, 1 failed", PARTS[1], "352 passed, 1 failed",
          "a failure with status 0 is a failure"),
-        ("echo nothing", PARTS[1], 1, "52 passed, 1 failed",
+        ("echo nothing", PARTS[1], "52 passed, 1 failed",
          "a first part without a count is a failure"),
-        (PARTS[0], "exit 0", 1, "310 passed, 1 failed", "a second part without a count is one"),
-        (f"{PARTS[0]}; echo more", PARTS[1], 1, "52 passed, 1 failed",
+        (PARTS[0], "exit 0", "310 passed, 1 failed", "a second part without a count is one"),
+        (f"{PARTS[0]}; echo more", PARTS[1], "52 passed, 1 failed",
          "a count that is not in the last line does not count"),
-        (f"{PARTS[0]}, 1 lost", PARTS[1], 1, "52 passed, 1 failed",
+        (f"{PARTS[0]}, 1 lost", PARTS[1], "52 passed, 1 failed",
          "nor does a line of another form"),
-        ("kill -KILL $$", PARTS[1], 1, "52 passed, 1 failed", "a part that is killed is one")):
+        ("kill -KILL $$", PARTS[1], "52 passed, 1 failed", "a part that is killed is one")):
     run(first, second)
-    holds(name, gave(status, last))
+    holds(name, gave(last))
 script(1, "kill -KILL $$")
 run()
-holds("and so is one beside others", gave(1, "352 passed, 1 failed"))
+holds("and so is one beside others", gave("352 passed, 1 failed"))
 holds("which is named",
       f"gate: {SCRIPTS[1]} ended with status 137, and no count in its last line" in lines())
 script(1, "echo 4 passed, 1 failed; exit 1")
 run(RT_JOBS="1")
-holds("and one at a time they count the same", gave(1, "356 passed, 1 failed"))
+holds("and one at a time they count the same", gave("356 passed, 1 failed"))
 script(1)
 said = run().out
 holds("what a part writes is shown", "\n300 passed, 0 failed\n" in said)
@@ -127,27 +129,25 @@ holds("with --anew all of it is proved again",
       re.search(f"^{house.top}: rt ci --anew, [0-9]+$", said, re.M))
 said = house.run("taskset", "-c", "0", house.top / "gate", TMPDIR=str(house.temporary)).out
 holds("never more than the processors", "gate: 1 tasks at once: 1 processors, " in said)
-for pages, release, last, name in (
-        ("2 passed, 0 failed", "2 passed, 1 failed; exit 1", "351 passed, 1 failed",
-         "a release that differs fails the gate"),
-        ("1 passed, 1 failed; exit 1", "3 passed, 0 failed", "351 passed, 1 failed",
-         "and so does a page that is out of date")):
-    pages_and_release(pages, release)
+for name, parts in (
+        ("a release that differs fails the gate", {"release": "2 passed, 1 failed; exit 1"}),
+        ("and so does a page that is out of date", {"pages": "1 passed, 1 failed; exit 1"})):
+    pages_and_release(**parts)
     run()
-    holds(name, ended(1, last))
+    holds(name, ended("351 passed, 1 failed"))
 pages_and_release()
 for missing, last in ("release.sh", "349 passed, 1 failed"), (
         "tests/refused/check.py", "310 passed, 1 failed"):
     run()
     remove(house.top / missing)
     run_gate()
-    holds(f"a part that is missing is a failure ({missing})", ended(1, last))
+    holds(f"a part that is missing is a failure ({missing})", ended(last))
     pages_and_release()
 run()
 holds("another word is refused", run_gate("--other").status == 2)
 holds("--help prints what the words of the gate do, and nothing runs", run_gate("--help").out ==
-      re.search('^"""(.*?)"""', (TOP / "gate").read_text(), re.S | re.M)[1] and ended(0, "as well, "
-      "and Linux.") and not house.ended.err)
+      re.search('^"""(.*?)"""', (TOP / "gate").read_text(), re.S | re.M)[1] and ended("as well, and "
+      "Linux.") and not house.ended.err)
 holds("without the kit it says what is missing", (house.run(
     sys.executable, "-B", house.top / "gate", PATH=str(house.temporary)).status == 2
     and house.ended.out == "gate: it needs the command rt of the Rattle kit, and finds none\n"))
@@ -226,11 +226,6 @@ holds("and what rt says of that is kept", "`rt ci` did 3 of the 9 proofs (of cra
       "tests), and took" in page.read_text())
 remove(house.top / "tests/edits")
 
-def did(status, last, *steps):
-    """Whether it ended with this status and this last line, after these steps."""
-    return ended(status, last) and house.read("steps").split("\n")[:-1] == [*steps]
-
-
 # Planted bugs that are tried apart, of a crate of four functions. The prover is a command that goes
 # by what a body says.
 house.bring("tests/edits.py", "tests/try_edits.py", "tools/programs.py")
@@ -271,7 +266,7 @@ house.command(KIT / "bin/rattle", r"""words=$*
     exit $status""".replace("\\`", "\`"))
 
 
-def tried(name, status, last, steps, edits, *words, folder="edits"):
+def tried(name, last, steps, edits, *words, folder="edits"):
     """Whether it ends so, with these checks, for planted bugs, each a pair of texts."""
     house.write(house.work / "steps")
     remove(house.top / "tests/edits", house.top / "tests/more_edits")
@@ -279,32 +274,32 @@ def tried(name, status, last, steps, edits, *words, folder="edits"):
         house.write(f"tests/{folder}/low/{'abc'[at]}.edit",
                     f"file: src/lib.rt\nold: {old}\nnew: {new}\n")
     house.run(house.top / "tests/try_edits.py", *words, TMPDIR=str(house.temporary))
-    holds(name, did(status, last, *(f"check {it}" for it in steps)))
+    holds(name, ended(last) and house.read("steps") == "".join(f"check {it}\n" for it in steps))
 
 
 ONE, TWO, THREE = " --only one", " --only Cup::two", " --only CupFromFull::three"
 FIRST = "first", "wrong"
-tried("bugs of several functions are tried together", 0, "3 passed, 0 failed",
+tried("bugs of several functions are tried together", "3 passed, 0 failed",
       [TWO + THREE + ONE], [FIRST, ("second", "wrong"), ("third", "wrong")])
-tried("and those of one function one after the other", 0, "2 passed, 0 failed", [ONE, ONE],
+tried("and those of one function one after the other", "2 passed, 0 failed", [ONE, ONE],
       [FIRST, ("{ first", "{ also_wrong; first")])
-tried("one that is still proved fails", 1, "0 passed, 1 failed", [ONE], [("first", "right")])
+tried("one that is still proved fails", "0 passed, 1 failed", [ONE], [("first", "right")])
 holds("and is named", "\nFAILED low/a: " in f"\n{house.ended.out}")
 for name, word in ("as the one that it is", "right"), (
         "also where another one keeps it from being proved", "rests"):
-    tried(name, 1, "1 passed, 1 failed", [TWO + ONE, TWO], [FIRST, ("second", word)])
-tried("so does one whose function only calls another one that is refused", 1, "0 passed, 1 failed",
+    tried(name, "1 passed, 1 failed", [TWO + ONE, TWO], [FIRST, ("second", word)])
+tried("so does one whose function only calls another one that is refused", "0 passed, 1 failed",
       [ONE], [("first", "calls")])
-tried("but one that is refused in a closure of its function is refused", 0, "2 passed, 0 failed",
+tried("but one that is refused in a closure of its function is refused", "2 passed, 0 failed",
       [TWO + ONE], [("first", "inside"), ("second", "inside")])
-tried("or whose proof names what is gone", 1, "0 passed, 1 failed", [ONE], [("first", "gone")])
-tried("and one that cannot be applied", 1, "1 passed, 1 failed", [TWO],
+tried("or whose proof names what is gone", "0 passed, 1 failed", [ONE], [("first", "gone")])
+tried("and one that cannot be applied", "1 passed, 1 failed", [TWO],
       [("{ second }", "{ second } // wrong"), ("no_such", "wrong")])
-tried("one that is in no function is tried in the whole crate", 0, "1 passed, 0 failed", [""],
+tried("one that is in no function is tried in the whole crate", "1 passed, 0 failed", [""],
       [("= 4", "= 5 wrong")])
-tried("those that are tried by hand", 0, "1 passed, 0 failed", [ONE], [FIRST], "--more", "low",
+tried("those that are tried by hand", "1 passed, 0 failed", [ONE], [FIRST], "--more", "low",
       folder="more_edits")
-tried("controls are proved, and where one is not, each is tried alone", 1, "1 passed, 1 failed",
+tried("controls are proved, and where one is not, each is tried alone", "1 passed, 1 failed",
       [TWO + ONE, ONE, TWO], [("first", "right"), ("second", "wrong")], "--controls", "low",
       folder="controls")
 holds("a crate that is not listed is refused",

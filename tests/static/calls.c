@@ -72,11 +72,10 @@ static struct {
 } blocks[BLOCKS];
 
 static bool is_whole(int place) {
-    for (size_t at = 0; at < blocks[place].size; at++) {
-        if (blocks[place].at[at] != (unsigned char)place)
-            return false;
-    }
-    return true;
+    bool is_whole = true;
+    for (size_t at = 0; at < blocks[place].size; at++)
+        is_whole = is_whole && blocks[place].at[at] == (unsigned char)place;
+    return is_whole;
 }
 
 static void *changes_blocks(void *unused) {
@@ -128,27 +127,6 @@ static void many_blocks(void) {
     changes_blocks(NULL);
 }
 
-// (qemu lets a program have what it wants)
-#ifdef __x86_64__
-static void refusals(void) {
-    struct rlimit before, less = {64 << 20, RLIM_INFINITY};
-    holds("memory has a limit", getrlimit(RLIMIT_AS, &before) == 0);
-    less.rlim_max = before.rlim_max;
-    holds("which can be set", setrlimit(RLIMIT_AS, &less) == 0);
-    struct tried block;
-    int count = 0;
-    do {
-        block = rattle_alloc(1000, 8);
-    } while (block.ok && ++count < 100000);
-    holds("small blocks end, and then are refused", !block.ok && block.at && count > 10000);
-    holds("so are others", !rattle_alloc(64 << 20, 8).ok);
-    holds("without the limit there are more",
-          setrlimit(RLIMIT_AS, &before) == 0 && rattle_alloc(1000, 8).ok);
-}
-#else
-static void refusals(void) {}
-#endif
-
 static void words(void) {
     char buffer[8];
     holds("the words are counted, with the name of the program", rattle_arg_count() == 4);
@@ -197,6 +175,23 @@ static void output(void) {
 }
 
 #ifdef __x86_64__
+// (qemu lets a program have what it wants)
+static void refusals(void) {
+    struct rlimit before, less = {64 << 20, RLIM_INFINITY};
+    holds("memory has a limit", getrlimit(RLIMIT_AS, &before) == 0);
+    less.rlim_max = before.rlim_max;
+    holds("which can be set", setrlimit(RLIMIT_AS, &less) == 0);
+    struct tried block;
+    int count = 0;
+    do {
+        block = rattle_alloc(1000, 8);
+    } while (block.ok && ++count < 100000);
+    holds("small blocks end, and then are refused", !block.ok && block.at && count > 10000);
+    holds("so are others", !rattle_alloc(64 << 20, 8).ok);
+    holds("without the limit there are more",
+          setrlimit(RLIMIT_AS, &before) == 0 && rattle_alloc(1000, 8).ok);
+}
+
 struct leaf {
     unsigned has[4], may_be_used[4];
 };
@@ -214,18 +209,13 @@ static void leaves(void) {
         if (more[bit] && last[2] >> bit & 1)
             puts(more[bit]);
     }
-    for (unsigned index = 3; index < 40; index++) {
-        for (int at = 0; at < 4; at++) {
-            holds("of no other leaf is anything there",
-                  !__x86_get_cpuid_feature_leaf(index)->may_be_used[at]);
-        }
-    }
+    for (unsigned it = 3 * 4; it < 40 * 4; it++)
+        holds("of no other leaf is anything there",
+              !__x86_get_cpuid_feature_leaf(it / 4)->may_be_used[it % 4]);
 }
-#else
-static void leaves(void) {}
-#endif
 
-#ifdef __aarch64__
+static void steps(void) {}
+#else
 #define TRIES(bytes, type)                                                                        \
     type __aarch64_swp##bytes##_acq_rel(type it, type *at);                                       \
     type __aarch64_ldadd##bytes##_acq_rel(type it, type *at);                                     \
@@ -255,14 +245,13 @@ TRIES(8, uint64_t)
 static uint64_t counts[2];
 
 static void *adds(void *unused) {
-    (void)unused;
     for (int it = 0; it < 20000; it++) {
         __aarch64_ldadd8_acq_rel(1, &counts[0]);
         uint64_t was = 0, seen;
         while ((seen = __aarch64_cas8_acq_rel(was, was + 1, &counts[1])) != was)
             was = seen;
     }
-    return NULL;
+    return unused;
 }
 
 static void steps(void) {
@@ -277,8 +266,9 @@ static void steps(void) {
         pthread_join(threads[it], NULL);
     holds("threads that add at once lose nothing", counts[0] == 80000 && counts[1] == 80000);
 }
-#else
-static void steps(void) {}
+
+static void refusals(void) {}
+static void leaves(void) {}
 #endif
 
 int main(int argc, char **argv) {
