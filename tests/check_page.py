@@ -22,7 +22,6 @@ import sys
 import tempfile
 import threading
 import time
-import urllib.request
 from unittest.mock import ANY
 
 import websocket
@@ -50,40 +49,25 @@ class Browser:
     """Chromium or Firefox, driven by WebDriver BiDi over a socket of this machine."""
 
     def __init__(self, name, folder):
-        self.count = 0
-        (self.chromium if name == "chromium" else self.firefox)(folder)
+        words, wanted = {"chromium": (["chromedriver", "--port=0"], {"goog:chromeOptions": {"args": [
+            "--headless=new", "--no-sandbox", "--disable-gpu", f"--user-data-dir={folder}"]}}),
+            "firefox": (["firefox-esr", "--headless", "--remote-debugging-port=0", "--no-remote",
+                         "--profile", folder], {})}[name]
+        self.count, self.process = 0, subprocess.Popen(
+            words, env={**os.environ, "HOME": folder}, text=True, stdout=subprocess.PIPE,
+            stderr=subprocess.STDOUT)
+        for line in self.process.stdout:
+            if found := re.search(r"(?:successfully on port |listening on ws:\S+:)(\d+)", line):
+                break
+        else:
+            raise RuntimeError(f"{words[0]} has ended")
+        # (what it says later is not read)
+        threading.Thread(target=self.process.stdout.read, daemon=True).start()
+        self.socket = websocket.create_connection(f"ws://127.0.0.1:{found[1]}/session",
+                                                  suppress_origin=True)
+        self.ask("session.new", capabilities={"alwaysMatch": wanted})
         # (in the first tab of Firefox, which has no focus, Enter presses no button)
         self.context = self.ask("browsingContext.create", type="tab")["context"]
-
-    def started(self, said, *words, **env):
-        """Starts a program, and answers what it says where its socket is."""
-        self.process = subprocess.Popen(words, env={**os.environ, **env}, text=True,
-                                        stdout=subprocess.PIPE, stderr=subprocess.STDOUT)
-        for line in self.process.stdout:
-            if found := re.search(said, line):
-                # (what it says later is not read)
-                threading.Thread(target=self.process.stdout.read, daemon=True).start()
-                return found[1]
-        raise RuntimeError(f"{words[0]} has ended")
-
-    def chromium(self, folder):
-        port = self.started(r"successfully on port (\d+)", "chromedriver", "--port=0")
-        args = ["--headless=new", "--no-sandbox", "--disable-gpu", f"--user-data-dir={folder}"]
-        asked = {"capabilities": {"alwaysMatch": {
-            "webSocketUrl": True, "goog:chromeOptions": {"args": args}}}}
-        request = urllib.request.Request(f"http://127.0.0.1:{port}/session",
-                                         json.dumps(asked).encode(),
-                                         {"Content-Type": "application/json"})
-        with urllib.request.urlopen(request) as it:
-            its = json.load(it)["value"]["capabilities"]
-        self.socket = websocket.create_connection(its["webSocketUrl"], suppress_origin=True)
-
-    def firefox(self, folder):
-        url = self.started(r"listening on (ws:\S+)", "firefox-esr", "--headless",
-                           "--remote-debugging-port=0", "--no-remote", "--profile", folder,
-                           HOME=folder)
-        self.socket = websocket.create_connection(f"{url}/session", suppress_origin=True)
-        self.ask("session.new", capabilities={})
 
     def ask(self, method, /, **params):
         self.count += 1
@@ -679,28 +663,24 @@ class Checks(Cases):
     def keys(self):
         """The keyboard alone, with as many keys as events."""
         done = "$(args[0]).querySelector('[role=status]').textContent"
-        for tasks, task, solved, events in (
-                ("tasks", "task", SOLVED, "job.events.map(event => [].concat(event)[0])"),
-                ("t-tasks", "t-task", SOLVED_TREES, "tree.events.map(([at, word]) => [at, word])")):
+        for view, tasks, task, solved, events in (
+                ("see-link", "tasks", "task", [
+                    [[A, it if isinstance(it, str) else it[0]] for it in events]
+                    for events in SOLVED], "job.events.map(it => [1, [].concat(it)[0]])"),
+                ("see-tree", "t-tasks", "t-task", SOLVED_TREES,
+                 "tree.events.map(([at, word]) => [at, word])")):
             for i, solution in enumerate(solved):
                 self.run("showsTree('A clean tree'); click(args[0]); "
-                         "$(args[1]).children[args[2]].focus();",
-                         "see-tree" if tasks == "t-tasks" else "see-link", tasks, i)
+                         "$(args[1]).children[args[2]].focus();", view, tasks, i)
                 self.browser.key("Enter")
                 self.same(f"exercise {i + 1} of {tasks} has the focus", True,
                           "return $(args[0]).contains(document.activeElement)", task)
-                link, wanted = A, []
-                for event in solution:
-                    if tasks == "t-tasks":
-                        node, word = event
-                        wanted.append(event)
-                    else:
-                        node, word = A, event if isinstance(event, str) else event[0]
-                        wanted.append(word)
+                link = A
+                for node, word in solution:
                     self.browser.key(DIGITS[word], node != link)
                     link = node
                 self.same(f"exercise {i + 1} of {tasks} by {len(solution)} keys",
-                          [wanted, "Done."], f"return [{events}, {done}]", task)
+                          [solution, "Done."], f"return [{events}, {done}]", task)
         kept = ["recv_frame_keep", "recv_ack_keep", "lose_ack", "lose_frame", "close"]
         words = "return [job.events.map(event => [].concat(event)[0]), $('item').value]"
         empty = "shows('The worst start'); job = { ...job, events: [] }; go(0); "

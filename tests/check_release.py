@@ -348,9 +348,8 @@ lines = manifest.read_text().splitlines()[:5]
 said("they are kept", 0, "", "--keep")
 daemon("--keep")
 sources = daemon("--sources").out.strip()
-own = [f"{it} sha256 {digest(top / 'rust/target/release' / it)} sources {sources}"
-       for it in DAEMON]
-lines += [f"{line} compared with rustc 1.0" for line in own]
+lines += [f"{it} sha256 {digest(top / 'rust/target/release' / it)} sources {sources} compared with "
+          "rustc 1.0" for it in DAEMON]
 holds("with lines of their own, each once", manifest.read_text().splitlines() == lines)
 checked("then nothing is wrong", 20)
 keep()
@@ -455,8 +454,7 @@ holds("(the others are)", house.read("compiled").count("aarch64") == 0
 remove(top / "out")
 for text in "another", "":
     house.musl(text, "aarch64")
-    checked(f"of another C library or none one for arm64 passes that is of the object ({text})",
-            33)
+    checked(f"of another C library or none one for arm64 passes that is of the object ({text})", 33)
     holds("which is said", "arm64/stab is NOT COMPARED as a whole" in house.ended.out)
 house.musl("musl", "aarch64")
 checked("another program for arm64 fails", 31, *of("arm64/stab")[1:],

@@ -237,8 +237,7 @@ def nothing_runs(name):
 # What others could have put into out/, without a release.
 remove(out)
 of_umask_0()
-nobody_else_may_write(
-    "with a umask of 000 nobody else may write to out/ and what is built in it")
+nobody_else_may_write("with a umask of 000 nobody else may write to out/ and what is built in it")
 gave("so it is kept", "new")
 text("stab_cli", "planted_for")
 planted = name_of_built()

@@ -229,8 +229,7 @@ class Function:
                     at, then = when[user.name]
                 elif user.kind == "ptr" and user.name:
                     continue
-                if step.act == "load" and (
-                        at != block or any(place < it < then for it in writes)):
+                if step.act == "load" and (at != block or any(place < it < then for it in writes)):
                     continue
                 self.inlined.add(step.name)
                 when[step.name] = at, then

@@ -128,11 +128,9 @@ class Release(Commands):
     def sources(self, *more):
         """The digest of the sources of each artefact, and of these programs of the daemon."""
         found = {name: it.sources for name, it in self.artefacts.items()}
-        of = {}
         for name in more:
-            words = ("--arm64",) if name.startswith(ARM64) else ()
-            of[words] = of.get(words) or output(DAEMON, *words, "--sources", text=True).strip()
-            found[name] = of[words]
+            words = ["--arm64"] * name.startswith(ARM64)
+            found[name] = output(DAEMON, *words, "--sources", text=True).strip()
         return found
 
     def file(self, name):
@@ -582,7 +580,7 @@ class Release(Commands):
             if own and own[1] != version:
                 self.fail(f"CHANGELOG.md has the version {version}, and the crate {part} for Rust "
                           f"{own[1]}")
-        self.begin()
+        KEPT.mkdir(mode=0o755, exist_ok=True)
         names = []
         for processor in sorted({*map(processor_of, self.artefacts)}, reverse=True):
             names += self.archive_for(processor, version, day)
