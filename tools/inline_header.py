@@ -197,10 +197,12 @@ class Function:
         self.merges = {block for block, count in ways.items() if count > 1}
         before = {order[0]: None}
         for block in order[1:]:
-            near = None
-            for it in (it for it in order if block in self.after[it]):
-                near = it if near is None else self.common(near, it, before)
-            before[block] = near
+            # (of those that lead to it, the last gives way to what is before it, until one is left)
+            near = {it for it in order if block in self.after[it]}
+            while len(near) > 1:
+                last = max(near, key=self.order.get)
+                near = near - {last} | {before[last]}
+            before[block], = near
         self.below = {block: [it for it in order if before[it] == block and it in self.merges]
                       for block in order}
         self.find_uses(order)
@@ -209,7 +211,8 @@ class Function:
         """Finds the values that are written where they are used: of those that are used once, all
         but what is loaded before something is stored, what would have to be worked out twice, and
         what is loaded for another block."""
-        uses, self.inlined, when = {}, set(), {}
+        # (of each such value the block and the place where it is written)
+        uses, self.inlined = {}, {}
         for block in order:
             for place, step in enumerate(self.blocks[block]):
                 for before, it in step.more.items() if step.act == "phi" else ():
@@ -226,14 +229,12 @@ class Function:
                 if user.act in ("minmax", "ctpop"):
                     continue
                 if user.name in self.inlined and user.act != "phi":
-                    at, then = when[user.name]
+                    at, then = self.inlined[user.name]
                 elif user.kind == "ptr" and user.name:
                     continue
                 if step.act == "load" and (at != block or any(place < it < then for it in writes)):
                     continue
-                self.inlined.add(step.name)
-                when[step.name] = at, then
-
+                self.inlined[step.name] = at, then
         self.skip_nulls(uses)
 
     def skip_nulls(self, uses):
@@ -249,15 +250,6 @@ class Function:
                             it.act == "getelementptr" and it.operands[0] == asked.operands[0]
                             and it.more == "i8" for it in users):
                     self.nulls[name] = self.nulls[asked.name] = asked.operands[0]
-
-    def common(self, one, other, before):
-        """The nearest block on each way to both of two blocks."""
-        while one != other:
-            if self.order[one] > self.order[other]:
-                one = before[one]
-            else:
-                other = before[other]
-        return one
 
     # What is written.
 
@@ -322,26 +314,22 @@ class Function:
             return self.go(block, step.more[0], follow, depth)
         (yes, no), condition = step.more, step.operands[0]
         texts = bare(self.value(condition, "i1")), self.negated(condition)
-        if self.is_return(no) and not self.is_return(yes):
+        if self.is_return(no) and not self.is_return(yes) or self.is_empty(yes, follow):
             yes, no, texts = no, yes, texts[::-1]
-        at = len(self.lines)
         self.say(depth, f"if ({texts[0]}) {{")
-        body = len(self.lines)
         ends = self.go(block, yes, follow, depth + 1)
-        if len(self.lines) == body:
-            # (nothing is done on this way)
-            del self.lines[at:]
-            self.say(depth, f"if ({texts[1]}) {{")
-            self.go(block, no, follow, depth + 1)
-            self.say(depth, "}")
-            return False
         self.say(depth, "}")
         if ends:
             return self.go(block, no, follow, depth)
-        self.lines[-1] += " else {"
-        self.go(block, no, follow, depth + 1)
-        self.say(depth, "}")
+        if not self.is_empty(no, follow):
+            self.lines[-1] += " else {"
+            self.go(block, no, follow, depth + 1)
+            self.say(depth, "}")
         return False
+
+    def is_empty(self, to, follow):
+        """Whether nothing is done on the way to a block."""
+        return to == follow and not self.phis(to)
 
     def go(self, block, to, follow, depth):
         """Writes the way from one block to another, and answers whether nothing follows it."""
