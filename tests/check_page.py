@@ -49,13 +49,14 @@ class Browser:
     """Chromium or Firefox, driven by WebDriver BiDi over a socket of this machine."""
 
     def __init__(self, name, folder):
-        words, wanted = {"chromium": (["chromedriver", "--port=0"], {"goog:chromeOptions": {"args": [
-            "--headless=new", "--no-sandbox", "--disable-gpu", f"--user-data-dir={folder}"]}}),
-            "firefox": (["firefox-esr", "--headless", "--remote-debugging-port=0", "--no-remote",
-                         "--profile", folder], {})}[name]
-        self.count, self.process = 0, subprocess.Popen(
-            words, env={**os.environ, "HOME": folder}, text=True, stdout=subprocess.PIPE,
-            stderr=subprocess.STDOUT)
+        self.count = 0
+        words, wanted = ["chromedriver", "--port=0"], {"goog:chromeOptions": {"args": [
+            "--headless=new", "--no-sandbox", "--disable-gpu", f"--user-data-dir={folder}"]}}
+        if name == "firefox":
+            words, wanted = ["firefox-esr", "--headless", "--remote-debugging-port=0",
+                             "--no-remote", "--profile", folder], {}
+        self.process = subprocess.Popen(words, env={**os.environ, "HOME": folder}, text=True,
+                                        stdout=subprocess.PIPE, stderr=subprocess.STDOUT)
         for line in self.process.stdout:
             if found := re.search(r"(?:successfully on port |listening on ws:\S+:)(\d+)", line):
                 break
@@ -217,37 +218,37 @@ def tells_apart(job):
             and not strays & opened)
 
 
-def offered(item):
-    return ["offer", item]
+def events(text):
+    """The events of a link that a text names: a number is of the word before it."""
+    return [[word, int(number)] if number else word
+            for word, number in re.findall(r"([a-z_]+) ?(\d*)", text)]
 
 
 def one_round(item):
-    return [offered(item), "send_frame", "recv_frame", "send_ack", "recv_ack"]
+    return events(f"offer {item} send_frame recv_frame send_ack recv_ack")
 
 
 LATE = [event for item in (11, 12, 13)
-        for event in (offered(item), "send_frame", "recv_ack", "send_ack", "recv_frame")]
-WORST = [offered(10), "recv_ack", "send_ack", offered(11), "recv_ack", "recv_frame", "send_ack",
-         offered(12), "recv_ack"]
+        for event in events(f"offer {item} send_frame recv_ack send_ack recv_frame")]
+WORST = events("offer 10 recv_ack send_ack offer 11 recv_ack recv_frame send_ack offer 12 recv_ack")
 
 # for each exercise events that solve it; without the last of them it is not solved
-SOLVED = [one_round(7) + one_round(8), [offered(7), "send_frame", ["lose_frame", 0], "send_frame",
-                                        "recv_frame", "send_ack", "recv_ack"], ["recv_frame"],
-          WORST, [offered(10), "recv_ack", "send_ack", "recv_frame", *LATE, offered(14),
-                  "send_frame", ["lose_frame", 0], "recv_ack"], WORST + one_round(13),]
+SOLVED = [one_round(7) + one_round(8),
+          events("offer 7 send_frame lose_frame 0 send_frame recv_frame send_ack recv_ack"),
+          ["recv_frame"], WORST, events("offer 10 recv_ack send_ack recv_frame") + LATE
+          + events("offer 14 send_frame lose_frame 0 recv_ack"), WORST + one_round(13)]
 
 # the digit that is the key of an event: in the order of a round, then the losses, and then the rest
-DIGITS = {"offer": "1", "send_frame": "2", "recv_frame": "3", "send_ack": "4", "recv_ack": "5",
-          "lose_frame": "6", "lose_ack": "7", "recv_frame_keep": "8", "recv_ack_keep": "9",
-          "close": "0"}
+DIGITS = dict(zip("offer send_frame recv_frame send_ack recv_ack lose_frame lose_ack "
+                  "recv_frame_keep recv_ack_keep close".split(), "1234567890"))
 
 # events that only seem to solve an exercise, by its number, or after which it cannot be solved, and
 # how what the page says of them begins
-LOST = [offered(7), "send_frame", ["lose_frame", 0]]
+LOST = events("offer 7 send_frame lose_frame 0")
 UNSOLVED = [
     (2, one_round(6), "No frame was lost"),
     (2, one_round(6) + LOST, "The item of the lost frame has to be delivered"),
-    (2, LOST + ["send_frame", "recv_frame", "send_ack", ["lose_ack", 0]], "This item has to be"),
+    (2, LOST + events("send_frame recv_frame send_ack lose_ack 0"), "This item has to be"),
     (5, SOLVED[4][:4] + LATE[:-2], "Such an item is acknowledged, "
         "but its frame is still under way"),
     (5, SOLVED[4][:4] + LATE, "No such item is missing so far"),
@@ -261,16 +262,14 @@ UNSOLVED = [
 ]
 
 # the same for the exercises of a tree: the node, and what happens on the link into it
-WORST_ON = ["offer", "recv_ack", "send_ack", "offer", "recv_ack", "recv_frame", "send_ack", "offer",
-    "recv_ack"]
-ROUND = ["offer", "send_frame", "recv_frame", "send_ack", "recv_ack"]
+ROUND = "offer send_frame recv_frame send_ack recv_ack".split()
+WORST_ON = "offer recv_ack send_ack offer recv_ack recv_frame send_ack offer recv_ack".split()
 A, B = 1, 2
-SOLVED_TREES = [[[A, word] for word in ROUND] + [[B, word] for word in ROUND[:3]],
-                [[A, "recv_frame"], [B, "recv_frame"]] + [[B, word] for word in ROUND[:3]],
-                [[A, word] for word in WORST_ON + ROUND * 3]
-                + [[B, word] for word in WORST_ON + ROUND[:3]], [[B, "recv_ack"], [B, "recv_frame"],
-                    *([B, word] for word in ROUND * 2), [A, "recv_ack"], [A, "recv_frame"],
-                    *([B, word] for word in ROUND[:3])],]
+on = lambda node, words: [[node, word] for word in words]
+SOLVED_TREES = [on(A, ROUND) + on(B, ROUND[:3]), on(A, ROUND[2:3]) + on(B, ROUND[2:3] + ROUND[:3]),
+                on(A, WORST_ON + ROUND * 3) + on(B, WORST_ON + ROUND[:3]),
+                on(B, ["recv_ack", "recv_frame", *ROUND * 2]) + on(A, ["recv_ack", "recv_frame"])
+                + on(B, ROUND[:3])]
 
 # Of each step of the proof, worked out by hand: how many events have happened, the labels that are
 # nowhere then, how many items are missing, and what is marked.
@@ -515,7 +514,9 @@ class Checks(Cases):
         """The circle, the exercise beside it, questions, the address, and where the focus is."""
         self.same("the start", [
             Like("*Nobody knows from when*"), [" next", "", "", "free"],
-            ["msg old ", "msg old lie"], "badge msg old "], """show(RUNS['The worst start'], 'The worst start'); return [...texts('happened'), [...$('labels').children].map(c => c.className),
+            ["msg old ", "msg old lie"], "badge msg old "], """
+            show(RUNS['The worst start'], 'The worst start');
+            return [...texts('happened'), [...$('labels').children].map(c => c.className),
                 ['frames', 'acks'].map(id => $(id).querySelector('button').className),
                 $('of-recv').className];""")
         for at, part, style, told in (
