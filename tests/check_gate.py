@@ -146,8 +146,8 @@ for missing, last in ("release.sh", "349 passed, 1 failed"), (
 run()
 holds("another word is refused", run_gate("--other").status == 2)
 holds("--help prints what the words of the gate do, and nothing runs", run_gate("--help").out ==
-      re.search('^"""(.*?)"""', (TOP / "gate").read_text(), re.S | re.M)[1] and ended("as well, and "
-      "Linux.") and not house.ended.err)
+      re.search('^"""(.*?)"""', (TOP / "gate").read_text(), re.S | re.M)[1] and ended("as well, "
+      "and Linux.") and not house.ended.err)
 holds("without the kit it says what is missing", (house.run(
     sys.executable, "-B", house.top / "gate", PATH=str(house.temporary)).status == 2
     and house.ended.out == "gate: it needs the command rt of the Rattle kit, and finds none\n"))

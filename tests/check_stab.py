@@ -67,10 +67,6 @@ def refused(name, said, *words, **more):
     holds(name, ended.status == 3 and not ended.out and said in ended.err)
 
 
-def says_nothing(name):
-    holds(name, not house.ended.err)
-
-
 def kept():
     return sorted(out.glob("stab-*"))
 
@@ -98,14 +94,8 @@ def nobody_else_may_write(name):
           == {"d 755", "f 755"})
 
 
-def place_is_gone(name):
-    holds(name, not os.path.exists(house.read("place").strip()))
-
-
-def copy_of_commands(name, *without_these):
-    """Makes a folder with the commands of those without a kit, but for these."""
-    shutil.copytree(work / "without", work / name, symlinks=True)
-    remove(*(work / name / it for it in without_these))
+def place_is_gone():
+    return not os.path.exists(house.read("place").strip())
 
 
 # A house of six crates, of which the program needs five: two at the bottom, one over the first, one
@@ -138,17 +128,17 @@ holds("what it builds is what the program needs", sorted(house.read("files").spl
     and sorted(house.read("lines").splitlines()) == [
         "low: itoa", "mid: low itoa", "other:", "stab_cli may_wait=4: low top clap",
         "top: other mid"])
-place_is_gone("the folder of the build is gone")
+holds("the folder of the build is gone", place_is_gone())
 gave("with --prove all is built again", "stab_cli", "--prove", count=1,
      says=["stab_cli is proved: 5 of 5 crates", "there is no release"])
-place_is_gone("and its folder is gone as well")
+holds("and its folder is gone as well", place_is_gone())
 gave("the second use builds nothing", "stab_cli")
-says_nothing("and says nothing")
+holds("and says nothing", not house.ended.err)
 for word in "--help", "-h":
     gave(f"of stab, which refuses help, it says where that is ({word})", "stab_cli", word,
          says=[f"help is in its manual: man '{top}/man/stab.1'\n"])
 gave("and only where nothing else is asked", "stab_cli", "link", "--help")
-says_nothing("where it says nothing")
+holds("where it says nothing", not house.ended.err)
 for file in top.rglob("*.rt"):
     os.utime(file)
 gave("new times of the same sources build nothing", "stab_cli")
@@ -201,7 +191,7 @@ for number, status in ("TERM", 143), ("INT", 130), ("HUP", 129):
     ended = house.interrupted(number, top / "stab")
     holds(f"a build ends at the signal {number}, with all that it started",
           ended.status == status and not ended.out and "interrupted" in ended.err
-          and house.read("ended") and not os.path.exists(house.read("place").strip()))
+          and house.read("ended") and place_is_gone())
 text("mid", "mid")
 refused("what cannot be linked does not run", "the program was not built", "--prove",
         NOT_LINKED="1")
@@ -297,7 +287,7 @@ def make_release(words):
 make_release("released")
 remove(out)
 gave("a release runs at once, without the kit", "released", "one", "two words", **NO_KIT)
-says_nothing("and says nothing")
+holds("and says nothing", not house.ended.err)
 gave("and again", "released", **NO_KIT)
 for file in out.glob("stab-release-*"):
     change(file, r"\Z", "echo spoiled\n")
@@ -316,7 +306,8 @@ gave("and where out is no folder", "released")
 refused("where it can be unpacked nowhere, that is said", "set TMPDIR to a folder",
         TMPDIR="/no/such/folder")
 remove(out)
-copy_of_commands("no_run", "chmod")
+shutil.copytree(work / "without", work / "no_run", symlinks=True)
+remove(work / "no_run/chmod")
 command(work / "no_run/chmod",
         f'case $3 in *house*) ;; *) exec {shutil.which("chmod")} "$@" ;; esac')
 gave("where no file of out/ can be run, it runs from elsewhere", "released", **without("no_run"))
@@ -327,9 +318,10 @@ remove(out)
 of_umask_0(**NO_KIT)
 nobody_else_may_write("with a umask of 000 nobody else may write to what is unpacked")
 # At the last command before a program of out/ starts, another one gets its place.
-copy_of_commands("swaps", "touch", "sha256sum")
+shutil.copytree(work / "without", work / "swaps", symlinks=True)
 command(work / "swap", "echo swapped")
 for tool in "touch", "sha256sum":
+    remove(work / "swaps" / tool)
     command(work / "swaps" / tool, f"""{shutil.which(tool)} "$@"
 status=$?
 [ ! -w '{file}' ] || {{
@@ -391,7 +383,7 @@ text("stab_cli", "other")
 gave("of other sources the program is built, and that is said", "other", count=1,
      says=["the sources are not those of the release"])
 gave("once", "other")
-says_nothing("and then nothing is said")
+holds("and then nothing is said", not house.ended.err)
 text("stab_cli", "released")
 gave("and with the old ones the release runs", "released")
 holds("whose file is then the newest program of out",

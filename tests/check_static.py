@@ -64,11 +64,6 @@ def planted(room, old, new):
     return [Path(room, name) for name in texts] if fits else []
 
 
-def flags():
-    found = re.search("^flags\\s*: (.*)$", Path("/proc/cpuinfo").read_text(), re.M)
-    return {*(found[1] if found else "").split()}
-
-
 def faults(program, before):
     """What the calls find wrong, which is nothing where all is well."""
     done = subprocess.run([*before, program, *WORDS], capture_output=True, text=True)
@@ -77,7 +72,8 @@ def faults(program, before):
         said = f"it ended with status {done.returncode}"
     if not before:
         leaves = subprocess.run([program, "leaves"], capture_output=True, text=True)
-        wanted = flags() & {*FLAGS}
+        its = re.search("^flags\\s*: (.*)$", Path("/proc/cpuinfo").read_text(), re.M)
+        wanted = {*its[1].split()} & {*FLAGS}
         if leaves.returncode or {*leaves.stdout.split()} != wanted:
             said += f"it found {leaves.stdout.split()}, and not {sorted(wanted)}"
     return said

@@ -7,9 +7,9 @@
 The page has, crate by crate: the comment of the crate; its public types and functions, with the
 comments at them, what they require, and each clause with its text; the first comments of the files
 of definitions and of lemmas, and the records of which a page cites a field, with the texts of all;
-and the names of the planted bugs. A comment of `//` lines between the
-clauses of a function speaks of those after it, up to the next comment or empty line. Where a
-function has no clause, or none but `⊤`, which says nothing, the page says that it is tested alone.
+and the names of the planted bugs. A comment of `//` lines between the clauses of a function speaks
+of those after it, up to the next comment or empty line. Where a function has no clause, or none but
+`⊤`, which says nothing, the page says that it is tested alone.
 
 The check sees that in every page of the repository each link leads to a file and a heading that
 exist. In the pages that speak of these sources each clause that is cited must exist, and so must
@@ -19,7 +19,7 @@ which no clause says what it says of all others, in sentences that begin a parag
 of GAPS: these functions and no others, by name or with a star at the end. A symbolic link at the
 top, as the one to the examples, must lead somewhere. The last line is 'N passed, M failed'.
 """
-
+import itertools
 import re
 import sys
 from pathlib import Path
@@ -213,11 +213,8 @@ def exported(crate):
 
 def first_comment(path, mark="--"):
     """The comment at the beginning of a file, without what it says of its source."""
-    lines = []
-    for line in path.read_text().splitlines():
-        if not line.startswith(mark):
-            break
-        lines.append(line[len(mark):].strip())
+    lines = [line[len(mark):].strip() for line in itertools.takewhile(
+        lambda it: it.startswith(mark), path.read_text().splitlines())]
     text = re.sub(r" \(this project's profile\)", "", in_one_line(lines))
     return re.sub(r" Source: [^.;]*[.;]( \w)?", lambda found: (found[1] or "").upper(), text)
 

@@ -68,8 +68,7 @@ def run_with(do, *names):
         missing = [name for name in names if files[name] is None]
         if missing:
             print(f"{missing[0]}: none was built of these sources: run ./release.sh, or ./gate")
-            print("0 passed, 1 failed")
-            return 1
+            return sum_up([False])
         return do(*files.values())
 
 
@@ -138,8 +137,7 @@ class Cases:
 
     def sum_up(self):
         """Says how many there were, and answers the status of the check."""
-        print(f"{self.passed} passed, {self.failed} failed")
-        return 1 if self.failed else 0
+        return sum_up([True] * self.passed + [False] * self.failed)
 
 
 def counted(faults, quiet=False):
