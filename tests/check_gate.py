@@ -1,9 +1,7 @@
 #!/usr/bin/env -S python3 -B
 """Tests the script ./gate in a copy of its own, with small commands in the place of its parts, and
-tests/try_edits.py with one in the place of the prover.
-
-Nothing is proved, and nothing of this repository is touched. The test takes some seconds. Its last
-line is 'N passed, M failed'.
+tests/try_edits.py with one in the place of the prover: nothing is proved, and nothing of this
+repository is touched. The last line is 'N passed, M failed'.
 """
 import os
 import re

@@ -204,26 +204,26 @@ REFUSES = "wash(by: u16) -> Result<u16, WashFault>"
 SILENT = "write the clause, or name it there"
 
 
-def prove(function, clause, line):
-    """Adds a function of the crate low that may be refused, with a page of the proof."""
+def prove(name, function, clause, *faults, line="All is said."):
+    """Whether this line of the proof has these faults, where a function of the crate low has this
+    clause, and may be refused."""
     make_house({
         "crates/low/src/wash.rt":
             f"/// Washes.\npub fn {function}\n    ensures {{ {clause} }}\n{{}}\n",
         "crates/low/src/lib.rt": f"{LIB}mod wash;\npub use wash::wash;\n",
         "docs/PROOF.md": f"# Proof\n{line}\n"})
+    pages(name, 3 - bool(faults), *faults)
 
 
 for clause in "OnErr result (cup.new ≡ cup.old)", "cup.new ≡ washed cup.old result":
-    prove(CHANGES, clause, "All is said.")
-    pages(f"a clause says what a refusal leaves ({clause})", 3)
+    prove(f"a clause says what a refusal leaves ({clause})", CHANGES, clause)
 for clause in "OnOk result (cup.new ≡ cup.old)", "cup.new.level ≡ cup.old.level", "1 ≡ 1":
-    prove(CHANGES, clause, "All is said.")
-    pages(f"and where none does, the proof has to say so ({clause})", 2,
-          "docs/PROOF.md:0: low::wash: no clause says what a refusal leaves of what it is lent, and "
-          f"the sentence {STAYS} does not name it: {SILENT}")
+    prove(f"and where none does, the proof has to say so ({clause})", CHANGES, clause,
+          "docs/PROOF.md:0: low::wash: no clause says what a refusal leaves of what it is lent, "
+          f"and the sentence {STAYS} does not name it: {SILENT}")
     for name in "wash", "low::wash", "wa*":
-        prove(CHANGES, clause, f"{STAYS} of `{name}`. And `Cup::fill`.")
-        pages(f"by its name ({name}; {clause})", 3)
+        prove(f"by its name ({name}; {clause})", CHANGES, clause,
+              line=f"{STAYS} of `{name}`. And `Cup::fill`.")
 for clause in (
         "MatchResult result (λ _. ⊤) (λ fault. 1 ≡ 1)", "IfErr result (IsReason by)",
         "let much = by in IfErr result (IsReason much)",
@@ -233,25 +233,22 @@ for clause in (
         "IfErr result (λ fault. IsFault by fault)", "OnErr result (by ≢ 1)",
         "IfErr result (λ fault. fault ≢ WashFault.Memory → (at : ℕ) → wash by ≢ at)",
         "IfErr result (λ fault. (at : ℕ) → fault ≡ WashFault.Other at → IsDirty at)"):
-    prove(REFUSES, clause, "All is said.")
-    pages(f"a clause says why ({clause})", 3)
+    prove(f"a clause says why ({clause})", REFUSES, clause)
 for clause in (
         "IfOk result (λ done. done ≡ by)", "IfErr result (λ fault. fault ≢ WashFault.Other)",
         "result ≡ Err WashFault.Memory → 0 < by", "OnErr result (by.new ≡ by.old)",
         "IfErr result (λ fault. (at more : ℕ) → fault ≢ WashFault.Other at more)",
         "IfErr result (λ fault. fault ≢ WashFault.Write → Keeps by)",
         "IfErr result (λ fault. (fault ≡ WashFault.Other) ⊎ (fault ≡ WashFault.Memory))"):
-    prove(REFUSES, clause, f"{WHY} `Cup::fill` fails.")
-    pages(f"and where none does, the proof has to say so ({clause})", 2,
+    prove(f"and where none does, the proof has to say so ({clause})", REFUSES, clause,
           f"docs/PROOF.md:2: Cup::fill: take it out of the sentence {WHY}, since there is no such "
           "public function, or nothing for a clause to say",
           "docs/PROOF.md:2: low::wash: no clause says of every refusal which one it is, and the "
-          f"sentence {WHY} does not name it: {SILENT}")
-    prove(REFUSES, clause, f"{WHY} `wash` fails.")
-    pages(f"by its name ({clause})", 3)
-prove(REFUSES, "IfErr result (IsReason by)", f"{WHY} `wash` fails.")
-pages("and it may not say so where a clause does", 2, "docs/PROOF.md:2: low::wash has a clause on "
-      f"it now: take wash out of the sentence {WHY}")
+          f"sentence {WHY} does not name it: {SILENT}", line=f"{WHY} `Cup::fill` fails.")
+    prove(f"by its name ({clause})", REFUSES, clause, line=f"{WHY} `wash` fails.")
+prove("and it may not say so where a clause does", REFUSES, "IfErr result (IsReason by)",
+      "docs/PROOF.md:2: low::wash has a clause on it now: take wash out of the sentence "
+      f"{WHY}", line=f"{WHY} `wash` fails.")
 holds("another word is refused", house.run(top / "tools/pages.py", "--other").status == 1)
 
 # Edits of the house: one of the gate, of two pairs, and two by hand, one with a control.

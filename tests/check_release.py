@@ -1,8 +1,7 @@
 #!/usr/bin/env -S python3 -B
-"""Tests the script ./release.sh in a copy of its own, with small commands in the place of rt.
-
-Nothing is proved, and nothing of this repository is touched. The test takes some seconds. Its last
-line is 'N passed, M failed'. What ./stab makes of a release is tested by check_stab.py.
+"""Tests the script ./release.sh in a copy of its own, with small commands in the place of rt:
+nothing is proved, and nothing of this repository is touched. What ./stab makes of a release is
+tested by check_stab.py. The last line is 'N passed, M failed'.
 """
 import contextlib
 import filecmp

@@ -1,9 +1,7 @@
 #!/usr/bin/env -S python3 -B
 """Tests the scripts ./stab and ./rignolda in a copy of their own, with small commands in the place
-of rt and of the compiler that it finds.
-
-Nothing is proved, and nothing of this repository is touched. The test takes some seconds. Its last
-line is 'N passed, M failed'.
+of rt and of the compiler that it finds: nothing is proved, and nothing of this repository touched.
+The last line is 'N passed, M failed'.
 """
 import gzip
 import os

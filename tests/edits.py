@@ -1,13 +1,12 @@
 #!/usr/bin/env -S python3 -B
 """Finds planted bugs that a change of the code has broken, and controls: tests/edits.py [CRATE..]
 
-This takes a second, and proves nothing: tests/try_edits.py has the prover refuse the planted bugs,
-and prove the controls. A planted bug shows something of a contract only where an edit of the same
-place that keeps the meaning is proved. Of a function with a file of its own in proofs/ that is not
-sure: its answers name values of the code, and are refused as well where an edit only takes such a
-name away. So each planted bug of such a function has a control of its name in tests/controls/CRATE:
-an edit of the same function, which keeps the meaning and as much of the bug's form as it can. Of
-each edit it is found that
+This proves nothing: tests/try_edits.py has the prover refuse the planted bugs, and prove the
+controls. A planted bug shows something of a contract only where an edit of the same place that
+keeps the meaning is proved. The answers of a function with a file in proofs/ name values of the
+code, and are refused as well where an edit only takes such a name away. So a planted bug of such a
+function has a control in tests/controls/CRATE: an edit of the same function, which keeps the
+meaning and as much of the bug's form as it can. Of each edit it is found that
 
 - `rt must-fail` can read it: a line 'file: ', and then pairs of lines 'old: ' and 'new: ';
 - its file is one of src/, or of specs/ where that is what a law is shown by, and has each old text

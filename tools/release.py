@@ -599,9 +599,8 @@ class Release(Commands):
             "".join(f"{digest_of((folder / it).read_bytes())}  {it}\n" for it in files))
         names = [f"{folder.name}.tar.xz"]
         output("tar", "-C", self.room, "--format=ustar", "--sort=name", f"--mtime={day} 00:00:00Z",
-               "--owner=0", "--group=0", "--numeric-owner", "--mode=u=rwX,go=rX", "-cf",
-               self.room / "tar", folder.name, env={**os.environ, "LC_ALL": "C"})
-        (KEPT / names[0]).write_bytes(output("xz", "-T1", "-c", self.room / "tar"))
+               "--owner=0", "--group=0", "--numeric-owner", "--mode=u=rwX,go=rX", "-I", "xz -T1",
+               "-cf", KEPT / names[0], folder.name, env={**os.environ, "LC_ALL": "C"})
         self.say(f"{KEPT}/{names[0]}")
         names += self.package(folder, processor, version, day)
         self.remove_room()
