@@ -402,7 +402,7 @@ class Sources:
 
     def __init__(self):
         self.clauses, self.words, self.files = {}, set(), set()
-        private = []
+        found = []
         for path in all_files():
             place = str(path.relative_to(TOP))
             self.files.add("/" + place)
@@ -410,21 +410,18 @@ class Sources:
             if path.suffix not in (".md", ".gz"):
                 self.words.update(re.findall(r"\w+", path.read_text(errors="replace")))
             if path.suffix == ".rt" and not place.startswith("crates/tests_"):
-                of_all = functions(path)
-                self.add([function for function in of_all if function.public])
-                private += [function for function in of_all if not function.public]
+                found += functions(path)
             if path.suffix == ".antt" and path.parent.name == "specs":
                 # (what a record says is as the clauses of its name)
                 for name, _, fields in records_of(path):
                     self.clauses.setdefault(name, set()).update(fields)
         # (where a public function has the name, it is the one that is meant)
-        self.add([function for function in private if function.name not in self.clauses])
-
-    def add(self, some):
-        """Adds the clauses of some functions, by their names with and without what they are of."""
-        for function in some:
-            for name in {function.name, function.path}:
-                self.clauses.setdefault(name, set()).update(its for its, _ in function.clauses())
+        known = {*self.clauses, *(it.name for it in found if it.public)}
+        for function in found:
+            if function.public or function.name not in known:
+                for name in {function.name, function.path}:
+                    self.clauses.setdefault(name, set()).update(
+                        its for its, _ in function.clauses())
 
     def has_file(self, name):
         """Whether there is such a file or folder, with or without the folders above it."""
