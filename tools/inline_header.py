@@ -295,7 +295,7 @@ class Function:
         for step in self.blocks[block]:
             if step.act == "store":
                 self.say(depth, f"{self.place(step.operands[1], step.kind)} = "
-                         f"{bare(self.value(step.operands[0], step.kind))};")
+                         f"{self.value(step.operands[0], step.kind, inside=False)};")
             elif step.act == "clear":
                 self.clear(step, depth)
             elif step.act == "ret":
@@ -304,7 +304,7 @@ class Function:
                 return self.branch(block, step, follow, depth)
             elif step.act != "phi" and step.kind != "ptr" and \
                     step.name not in {*self.inlined, *self.nulls}:
-                text = bare(self.expression(step))
+                text = self.expression(step, inside=False)
                 self.say(depth, f"const {C_TYPES[step.kind]} {self.name_of(step)} = {text};")
         raise Unknown(f"a block without an end in {self.name}")
 
@@ -313,7 +313,7 @@ class Function:
         if len(step.more) == 1:
             return self.go(block, step.more[0], follow, depth)
         (yes, no), condition = step.more, step.operands[0]
-        texts = bare(self.value(condition, "i1")), self.negated(condition)
+        texts = self.value(condition, "i1", inside=False), self.negated(condition)
         if self.is_return(no) and not self.is_return(yes) or self.is_empty(yes, follow):
             yes, no, texts = no, yes, texts[::-1]
         self.say(depth, f"if ({texts[0]}) {{")
@@ -336,7 +336,7 @@ class Function:
         if self.is_return(to):
             return self.end(to, block, depth)
         for step in self.phis(to):
-            value = bare(self.value(step.more[block], step.kind))
+            value = self.value(step.more[block], step.kind, inside=False)
             self.say(depth, f"{self.name_of(step)} = {value};")
         if to not in self.merges:
             return self.write(to, follow, depth)
@@ -351,7 +351,7 @@ class Function:
             value = step.operands[0]
             if block is not None and self.steps.get(value) in self.phis(at):
                 value = self.steps[value].more[block]
-            self.say(depth, f"return {bare(self.value(value, step.kind))};")
+            self.say(depth, f"return {self.value(value, step.kind, inside=False)};")
         elif depth > 1:
             self.say(depth, "return;")
         return True
@@ -389,7 +389,7 @@ class Function:
         if index is not None:
             if self.header.sizes[of] != width or at:
                 raise Unknown(f"an entry of {it} in {self.name}")
-            return f"{it}[{bare(self.value(index, 'i64'))}]"
+            return f"{it}[{self.value(index, 'i64', inside=False)}]"
         if of in SIZES:
             if at or SIZES[of] != width:
                 raise Unknown(f"{width} bytes at {at} of {it} in {self.name}")
@@ -436,8 +436,8 @@ class Function:
 
     # Values.
 
-    def value(self, operand, kind):
-        """A value as C writes it, in parentheses where it is more than a name."""
+    def value(self, operand, kind, inside=True):
+        """A value as C writes it, which inside of more is in parentheses if it is no name."""
         if operand in ("true", "false"):
             return operand
         if re.fullmatch(r"-?\d+", operand):
@@ -451,9 +451,9 @@ class Function:
             raise Unknown(f"the value {operand} in {self.name}")
         if operand not in self.inlined:
             return self.names[operand]
-        return self.expression(self.steps[operand], inside=True)
+        return self.expression(self.steps[operand], inside)
 
-    def expression(self, step, inside=False):
+    def expression(self, step, inside):
         if step.act == "load":
             return self.place(step.operands[0], step.kind)
         if step.act == "phi":
@@ -535,20 +535,8 @@ class Function:
         step = self.steps.get(condition)
         if condition in self.inlined and step.act == "icmp":
             return self.relation(step, True)
-        text = self.value(condition, "i1")
-        return f"!({bare(text)})" if re.search(r"\W", text) else f"!{text}"
-
-
-def bare(text):
-    """A text without parentheses around all of it."""
-    while text.startswith("(") and text.endswith(")"):
-        depth = 0
-        for place, sign in enumerate(text):
-            depth += (sign == "(") - (sign == ")")
-            if depth == 0 and place < len(text) - 1:
-                return text
-        text = text[1:-1]
-    return text
+        text = self.value(condition, "i1", inside=False)
+        return f"!({text})" if re.search(r"\W", text) else f"!{text}"
 
 
 def plainly_named(text):
