@@ -39,18 +39,14 @@ house.kit("kit-1 logic 1")
 def having(files):
     """Gives files of the house other texts, or bytes, for a while."""
     before = {path: (top / path).read_bytes() if (top / path).exists() else None for path in files}
-
-    def put(path, data):
-        remove(top / path)
-        if data is not None:
-            write(path)
-            (top / path).write_bytes(data if isinstance(data, bytes) else data.encode())
-
-    for path, data in files.items():
-        put(path, data)
-    yield
-    for path, data in before.items():
-        put(path, data)
+    for texts in files, before:
+        for path, data in texts.items():
+            remove(top / path)
+            if data is not None:
+                write(path)
+                (top / path).write_bytes(data if isinstance(data, bytes) else data.encode())
+        if texts is files:
+            yield
 
 
 def run(*words, files=(), **env):
@@ -412,7 +408,7 @@ tools="$WORK/a house/out/debian-amd64/usr"
 mkdir -p "$tools/bin" "$tools/lib/rustlib"
 printf '#!/bin/sh\\necho rustc 3.0\\n' >"$tools/bin/rustc"
 chmod 755 "$tools/bin/rustc" """)
-house.releases_arm64(True)
+house.bring("tools/launch")
 house.musl("musl", "x86_64", "aarch64")
 BUILT = [f"arm64/{it}" for it in ("stab", "librignolda.a", "librignolda_settings.a")]
 BY_CARGO = [f"arm64/{it}" for it in DAEMON]

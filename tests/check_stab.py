@@ -43,6 +43,7 @@ def without(folder):
 
 
 NO_KIT = without("without")
+PLANTED = "#!/bin/sh\necho planted\n"
 RIGNOLDA = {"start": [top / "rignolda"]}
 
 
@@ -70,19 +71,8 @@ def kept():
 
 
 def plant(name):
-    """Plants a program that only says so, in out/: the beginning of its name, to which its digest
-    is added unless the name ends with a digest already."""
-    data = "#!/bin/sh\necho planted\n"
-    if not re.search("[0-9a-f]{64}$", name):
-        name += f"-{digest(data.encode())}"
-    remove(out / name)
-    return write(out / name, data, 0o755)
-
-
-def name_of_built():
-    """The beginning of the name of what is built here of the present sources by kit-2."""
-    words = '. "$0/tools/launch"; read_table stab; find_sources; printf "%s" "${sources[stab]}"'
-    return f"stab-{house.run('bash', '-c', words, top).out}-kit-2"
+    """Plants a program that only says so, in out/."""
+    return write(out / name, PLANTED, 0o755)
 
 
 def nobody_else_may_write(name):
@@ -228,7 +218,9 @@ of_umask_0()
 nobody_else_may_write("with a umask of 000 nobody else may write to out/ and what is built in it")
 gave("so it is kept", "new")
 text("stab_cli", "planted_for")
-planted = name_of_built()
+# (what is built here of the present sources by kit-2 has such a name)
+words = '. "$0/tools/launch"; read_table stab; find_sources; printf "%s" "${sources[stab]}"'
+planted = f"stab-{house.run('bash', '-c', words, top).out}-kit-2-{digest(PLANTED.encode())}"
 for mode in 0o777, 0o775:
     plant(planted)
     out.chmod(mode)
@@ -481,7 +473,7 @@ for words in [], ["--prove"]:
 # On arm64 the program of the release for it runs, and none is built.
 command(work / "arm64/uname", "echo Linux aarch64")
 ARM64 = {"PATH": f"{work}/arm64:{house.env['PATH']}"}
-house.releases_arm64(True)
+house.bring("tools/launch")
 BUILDS = "the Rattle kit proves and builds the program, and runs on x86-64 alone"
 refused("on arm64 it is said that a release has nothing for it",
         f"the release has no arm64/stab: {BUILDS}", **ARM64)

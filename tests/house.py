@@ -149,8 +149,10 @@ class House(Cases):
     def bring_kit(self):
         """Brings what builds the programs, over a kit of small commands."""
         self.bring("release.sh", *(f"tools/{it}" for it in (
-            "shims/kit.c", "shims/processor.c", "release.py", "crates.py", "programs.py",
+            "shims/kit.c", "shims/processor.c", "launch", "release.py", "crates.py", "programs.py",
             "running.py", "index_page.py", "static.py", "debian.py")))
+        # (at first without the rows for arm64)
+        self.change("tools/launch", "^    'arm64/.*\n", "")
         self.command(self.bin / "rt", RT)
         for name, does in (
                 ("bin/rattle", COMPILER), ("bin/rattle-link", LINKER),
@@ -159,13 +161,6 @@ class House(Cases):
             self.command(self.work / "a kit" / name, does)
         self.env["RIGNOLDA_MUSL"] = str(self.work / "musl")
         self.musl("musl")
-        self.releases_arm64(False)
-
-    def releases_arm64(self, is_so):
-        """Says whether the release has rows for arm64."""
-        self.bring("tools/launch")
-        if not is_so:
-            self.change("tools/launch", "^    'arm64/.*\n", "")
 
     def musl(self, text, *machines):
         """Says which C library these machines have: one whose files have this text, or none."""
@@ -208,6 +203,6 @@ class House(Cases):
         """Whether nothing is left in the folder for temporary files."""
         return not any(self.temporary.iterdir())
 
-    def holds(self, name, is_well, **more):
+    def holds(self, name, is_well):
         """Counts a case, with how the last command ended if it does not hold."""
-        super().holds(name, is_well, self.ended, **more)
+        super().holds(name, is_well, self.ended)

@@ -3,10 +3,10 @@ tree of boxes as SVG, light or dark as its reader has it. For tests/check_drawn.
 
 # The colours of what was received, of strays, of missing items and of lines, as of the pictures of
 # `rignolda draw --svg`: light and dark.
-COLOURS = [("good", "#0d7a4f", "#5fd3a2"), ("odd", "#c04a00", "#ff9d5c"),
-           ("bad", "#b3003c", "#ff7a9c"), ("soft", "#5b6675", "#9aa6b4"),
-           ("text", "#1c2430", "#e8edf3")]
-PAPER, LINE = ("#ffffff", "#12161c"), ("#5b6675", "#8793a1")
+COLOURS = [("fill", ".good", "#0d7a4f", "#5fd3a2"), ("fill", ".odd", "#c04a00", "#ff9d5c"),
+           ("fill", ".bad", "#b3003c", "#ff7a9c"), ("fill", ".soft", "#5b6675", "#9aa6b4"),
+           ("fill", "text", "#1c2430", "#e8edf3"), ("fill", ".paper, .box", "#ffffff", "#12161c"),
+           ("stroke", ".line", "#5b6675", "#8793a1")]
 WIDTH, MARGIN, GAP, BOX, HIGH, ROW, TOP = 864, 12, 16, 198, 50, 92, 78
 FONT = 'system-ui, "Segoe UI", Roboto, "DejaVu Sans", sans-serif'
 MONO = 'ui-monospace, Menlo, Consolas, "DejaVu Sans Mono", monospace'
@@ -15,9 +15,7 @@ MONO = 'ui-monospace, Menlo, Consolas, "DejaVu Sans Mono", monospace'
 def style():
     """The style of the picture, with that of dark readers after it."""
     def fills(which):
-        names = [(f".{name}" if name != "text" else name, shades) for name, *shades in COLOURS]
-        return [f"{name} {{ fill: {shades[which]} }}" for name, shades in names] + [
-            f".paper, .box {{ fill: {PAPER[which]} }}", f".line {{ stroke: {LINE[which]} }}"]
+        return [f"{of} {{ {what}: {shades[which]} }}" for what, of, *shades in COLOURS]
     return "\n".join([
         f"text {{ font-family: {FONT}; font-size: 13px }}", ".head { font-size: 18px; "
         "font-weight: 600 }", f".mono {{ font-family: {MONO}; font-size: 13px }}",
