@@ -255,9 +255,8 @@ class Function:
 
     def text(self):
         """The function in C."""
-        self.names, self.taken, self.lines = {}, Counter(), []
-        for _, _, name in self.given.values():
-            self.taken[name] += 1
+        self.names, self.lines = {}, []
+        self.taken = Counter(name for _, _, name in self.given.values())
         self.write(next(iter(self.blocks)), None, 1)
         # (a line goes on under its parenthesis, and only after a comma)
         words = ", ".join(f"{of}~{star}{name}" for of, star, name in self.given.values()) + ")"
