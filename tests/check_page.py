@@ -186,10 +186,10 @@ def fits_page(job):
 
 def standing(job, text):
     """Of each node its strays of links, its strays of openings, its missing items and the bound of
-    each, counted in the text of the program. No published item may be in a link at its start or in
-    an opening, none of an opening in a link, and each is published once."""
+    each, counted in the text of the program; and whether they can be told apart: each item is
+    published once, none is in a link at its start or in an opening, and none in both of these."""
     job, rows = json.loads(job), []
-    above, _, openings, _, capacity = parts_of(job)
+    above, _, openings, starts, capacity = parts_of(job)
     lists = [[int(word) for word in line.split()[1:]] for line in text.splitlines()[1::2]]
     hold = job["h"] if job.get("version") == 2 else 0
     opened = {item for own in openings.values() for item in own}
@@ -203,19 +203,10 @@ def standing(job, text):
         held = len([item for item in items if item in opened])
         missing = len(set(range(max(places, default=0))) - set(places))
         rows.append([len(items) - len(places) - held, sum(path), held, most_held, missing,
-            sum(2 * c + 1 for c in path)])
-    return rows
-
-
-def tells_apart(job):
-    """Whether each published item is published once and is in no link at its start and no opening,
-    and no item of an opening is in a link."""
-    job = json.loads(job)
-    strays = {item for start in job.get("starts", []) for _, item in start.get("frames", [])}
-    opened = {item for own in job.get("openings", []) for item in own}
-    published = set(job["items"])
-    return (len(published) == len(job["items"]) and not (strays | opened) & published
-            and not strays & opened)
+                     sum(2 * c + 1 for c in path)])
+    strays = {item for start in starts.values() for _, item in start.get("frames", [])}
+    return rows, (len({*job["items"]}) == len(job["items"]) and not strays & opened
+                  and not (strays | opened) & {*job["items"]})
 
 
 def events(text):
@@ -444,12 +435,12 @@ class Checks(Cases):
             elif answer[0] != want:
                 self.see(job, False, f"{answer[0]}\nand not\n{want}")
             else:
-                counts = standing(data, want)
+                counts, are_apart = standing(data, want)
                 self.see(f"bounds of {job}", [row[1::2] for row in answer[1]]
                          == [row[1::2] for row in counts], answer)
                 self.see(f"within bounds of {job}", all(
                     a <= b and c <= d and e <= f for a, b, c, d, e, f in answer[1]), answer)
-                if tells_apart(data):
+                if are_apart:
                     self.see(f"counts of {job}", answer[1] == counts,
                              f"{answer[1]} and not {counts}")
 
@@ -949,7 +940,7 @@ class Checks(Cases):
             said = self.run("return [treeText(tree), counts(tree, tree.events.length), "
                             "...texts('t-since')];")
             self.see(f"the tree after {button} at {node}", said[0] == want
-                     and said[1] == standing(text, want), f"{said} and not {want}")
+                     and said[1] == standing(text, want)[0], f"{said} and not {want}")
             self.see(f"what {button} at {node} costs", [row[::2] for row in said[1]] == cost,
                      said[1])
             self.see("it is said", "All numbers count from there" in said[2])
@@ -1010,7 +1001,7 @@ class Checks(Cases):
             [...$('t-nodes').rows[2].cells[1].querySelectorAll('li')].map(e =>
                 [e.className, e.textContent])];""")
         self.see("the program says the same", said[0] == program(said[1].encode(), "tree")
-                 and standing(said[1], said[0]) == wanted and "items: 50 51 15\n" in said[0])
+                 and standing(said[1], said[0])[0] == wanted and "items: 50 51 15\n" in said[0])
         self.see("the marks of the list", said[2][1:] == [
             ["held", "50: a stray of the backlog of a"],
             ["held", "51: a stray of the backlog of a"], ["sent", "15: published item number 1"]])
