@@ -16,8 +16,8 @@
  * What came is put into a file of its own in FOLDER: written beside, and moved. With - it is not.
  *
  * KIND is mqtt, nats, jetstream, redis or stream; numbers are also published by the KIND folder,
- * where PORT is a folder whose files are the settings, and root, where it is the control socket of a
- * root. The value of a setting is a number in PEER_DIGITS digits, and its key is k and the number
+ * where PORT is a folder whose files are the settings, and root, where it is the control socket of
+ * a root. The value of a setting is a number in PEER_DIGITS digits, and its key is k and the number
  * modulo PEER_KEYS: 16 and 100 where they are not set, and at most 48 and 1000. PEER_TLS names a
  * folder with an authority, a client's certificate, and its key.
  */

@@ -4,6 +4,7 @@ nothing is proved, and nothing of this repository is touched. What ./stab makes 
 tested by check_stab.py. The last line is 'N passed, M failed'.
 """
 import contextlib
+import fcntl
 import filecmp
 import gzip
 import re
@@ -186,6 +187,11 @@ for name, text in (("a manifest of one line fails", lines[0] + "\n"),
     holds(name, f"\nOTHER  {MANIFEST}\n" in run("--check", files={manifest: text}).out)
 write(program, "proved 3\n")
 write(made, "proved 3\n")
+write(".git/rt-ci.lock")
+with open(top / ".git/rt-ci.lock", encoding="utf-8") as lock:
+    fcntl.flock(lock, fcntl.LOCK_EX)
+    holds("none is made of it while rt ci still runs", run("--after-ci").status == 3
+          and "rt ci runs here" in house.ended.err)
 released("one is made of what the gate has just built", 0, "--after-ci")
 holds("which is counted", house.ended.last == "1 passed, 0 failed")
 checked("and it is that", 6)

@@ -436,9 +436,21 @@ class Release(Commands):
             self.say("the daemon has this library inside: where that differs, run "
                      "tools/build_daemon --keep")
 
+    def is_proving(self):
+        """Whether rt ci runs here: it has this lock until it ends."""
+        with contextlib.suppress(FileNotFoundError, NotADirectoryError), \
+                open(TOP / ".git/rt-ci.lock", encoding="utf-8") as lock:
+            try:
+                fcntl.flock(lock, fcntl.LOCK_EX | fcntl.LOCK_NB)
+            except BlockingIOError:
+                return True
+        return False
+
     def make_over_ci(self):
         """Makes the files of release/ of what rt ci has just proved and built here."""
         self.begin()
+        if self.is_proving():
+            self.fail("rt ci runs here, and has not built all yet: wait until it ends")
         cases = Cases()
         for name in self.artefacts:
             made = self.make_after_ci(TOP, name)
