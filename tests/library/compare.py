@@ -33,7 +33,7 @@ def words_of(job):
 
 def differs(program, job, run):
     """Whether a program that replays a job prints other columns than a drawn run has."""
-    said = answered(program, "steps", given=words_of(job))[1]
+    said = answered(program, given=words_of(job))[1]
     return [line.split() for line in said.splitlines()] != [
         line.split()[1:] for line in run.splitlines()[1:]]
 

@@ -1,11 +1,7 @@
 //! A link of a [`Sender`], a [`Receiver`] and two bounded queues, which reads jobs from standard
 //! input as `tests/library/link.c` says, and prints the same.
-//!
-//! With the word `steps` it prints the link after each event, else the text of each link at its
-//! end, as `stab link` prints it.
 use rignolda::{Frame, Params, Receiver, Sender};
 use std::collections::VecDeque;
-use std::fmt::{Display, Write as _};
 use std::io::{self, Read, Write as _};
 use std::str::SplitAsciiWhitespace;
 
@@ -15,7 +11,6 @@ struct Link {
     receiver: Receiver,
     frames: VecDeque<Frame>,
     acks: VecDeque<u16>,
-    offered: Vec<u32>,
     delivered: Vec<u32>,
     acked: usize,
     closed: bool,
@@ -58,7 +53,6 @@ impl Link {
             receiver,
             frames,
             acks,
-            offered: Vec::new(),
             delivered: Vec::new(),
             acked: 0,
             closed: false,
@@ -114,10 +108,7 @@ impl Link {
             return "Nothing";
         }
         match letter {
-            "o" if self.sender.offer(argument) => {
-                self.offered.push(argument);
-                "Held"
-            }
+            "o" if self.sender.offer(argument) => "Held",
             "f" => match self.sender.frame() {
                 Some(frame) => put(&mut self.frames, self.capacity, frame),
                 None => "Nothing",
@@ -140,17 +131,15 @@ impl Link {
         }
     }
 
-    fn frame_words(&self) -> impl Iterator<Item = String> + '_ {
-        self.frames
-            .iter()
-            .map(|frame| format!("{}={}", frame.label, frame.item))
-    }
-
     fn step(&self, effect: &str, delivered_before: usize) -> String {
         let or_dash = |words: Vec<String>| match words.len() {
             0 => "-".to_string(),
             _ => words.join(","),
         };
+        let frames = self
+            .frames
+            .iter()
+            .map(|frame| format!("{}={}", frame.label, frame.item));
         let held = self
             .sender
             .held()
@@ -160,42 +149,15 @@ impl Link {
             "{effect} {} {held} {} {} {} {} {}\n",
             self.sender.label(),
             self.acked,
-            or_dash(self.frame_words().collect()),
+            or_dash(frames.collect()),
             or_dash(self.acks.iter().map(u16::to_string).collect()),
             self.receiver.label(),
             delivered.map_or("-".to_string(), u32::to_string),
         )
     }
-
-    fn text(&self) -> String {
-        let mut text = String::new();
-        line(&mut text, "delivered", &self.delivered);
-        line(&mut text, "offered", &self.offered);
-        line(&mut text, "acked", [self.acked]);
-        line(&mut text, "send label", [self.sender.label()]);
-        line(&mut text, "recv label", [self.receiver.label()]);
-        line(&mut text, "frames", self.frame_words());
-        line(&mut text, "acks", &self.acks);
-        line(
-            &mut text,
-            "closed",
-            [if self.closed { "yes" } else { "no" }],
-        );
-        text
-    }
-}
-
-/// Writes a line of the text of a link.
-fn line<T: Display>(text: &mut String, name: &str, entries: impl IntoIterator<Item = T>) {
-    let _ = write!(text, "{name}:");
-    for entry in entries {
-        let _ = write!(text, " {entry}");
-    }
-    text.push('\n');
 }
 
 fn main() -> io::Result<()> {
-    let steps = std::env::args().nth(1).as_deref() == Some("steps");
     let mut input = String::new();
     io::stdin().read_to_string(&mut input)?;
     let mut words = input.split_ascii_whitespace();
@@ -204,19 +166,12 @@ fn main() -> io::Result<()> {
         let capacity = capacity.parse().expect("a capacity");
         let params = Params::new(capacity, number(&mut words)).expect("lawful parameters");
         let mut link = Link::read(params, &mut words);
-        if steps {
-            output.write_all(link.step("-", 0).as_bytes())?;
-        }
+        output.write_all(link.step("-", 0).as_bytes())?;
         for _ in 0..number::<usize>(&mut words) {
             let letter = words.next().expect("a letter");
             let before = link.delivered.len();
             let effect = link.event(letter, &mut words);
-            if steps {
-                output.write_all(link.step(effect, before).as_bytes())?;
-            }
-        }
-        if !steps {
-            output.write_all(link.text().as_bytes())?;
+            output.write_all(link.step(effect, before).as_bytes())?;
         }
     }
     Ok(())
