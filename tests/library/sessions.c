@@ -1,45 +1,49 @@
-/* Tries the sessions of the library over connections that break, as those of TCP do.
+/* Tries the sessions of the library over real connections of TCP on this machine.
  *
  *     sessions STEPS SEED [maker-begins | handles-left | keeps-one]
  *
- * Both ends of one link are in this program. Drawn steps make connections from either end, accept
- * them late and in any order, break them by a close, after which the other end still reads what was
- * sent, or by a reset, write and read messages, and let either end or both restart, which begins a
- * new count. What is delivered and acknowledged is held against the bounds of the laws. In the end
- * nothing breaks any more, and then every item has to come through. With one of the words an end
- * does what it may not do (with the last one a sender that restarts keeps its connection), and a
- * bound has to break: then the program says which, and returns 1.
+ * Both ends of one link are in this program, each with a listener of its own. Drawn steps make
+ * connections from either end, accept them late and in any order, break them by a close or a reset,
+ * write and read messages in pieces, and let either end or both restart, which begins a new count.
+ * What is delivered and acknowledged is held against the bounds of the laws. In the end nothing
+ * breaks any more, and then every item has to come through. With one of the words an end does what
+ * it may not do (with the last one a sender that restarts keeps its connection), and a bound has to
+ * break: then the program says which, and returns 1.
  */
 #include "draw.h"
 #include "rignolda.h"
 
+#include <arpa/inet.h>
+#include <errno.h>
+#include <fcntl.h>
+#include <netinet/in.h>
+#include <netinet/tcp.h>
 #include <stdio.h>
 #include <stdlib.h>
 #include <string.h>
+#include <sys/socket.h>
+#include <unistd.h>
 
 enum { SENDER, RECEIVER };
-enum { CONNECTIONS = 100, MOST_PARKED = 32, MOST_LEFT = 8, MOST_QUEUED = 4, MOST_ITEMS = 1 << 20 };
+enum { FRAME_BYTES = 6, LABEL_BYTES = 2, MOST_PARKED = 32, MOST_LEFT = 8, MOST_ITEMS = 1 << 20 };
 
-/* What each end has of a connection: whether it has not closed it, its number, and what is under
- * way to it, of an acknowledgement the label alone. */
 struct connection {
-    struct half {
-        bool is_open;
-        uint64_t number;
-        unsigned queued;
-        rignolda_frame messages[MOST_QUEUED];
-    } halves[2];
+    int fd; /* -1: there is none */
+    uint64_t number;
+    uint8_t in[FRAME_BYTES], out[FRAME_BYTES];
+    size_t came, written, to_write;
 };
 
 struct end {
+    int listener;
+    struct sockaddr_in address;
     rignolda_session session;
-    struct connection *now;
-    struct connection *parked[MOST_PARKED]; /* made by the other end and not accepted yet */
-    struct connection *left[MOST_LEFT];     /* handles-left alone: still open and heard */
-    uint32_t parked_count, left_count;
+    struct connection now;
+    int parked[MOST_PARKED], parked_count; /* accepted by the kernel and not by the end */
+    struct connection left[MOST_LEFT];     /* handles-left alone: still open and heard */
+    int left_count;
 };
 
-static struct connection pool[CONNECTIONS];
 static struct end ends[2];
 static const rignolda_params params = {1, 4};
 static rignolda_sender sender;
@@ -54,6 +58,7 @@ static int64_t last = -1;
 static uint8_t came[MOST_ITEMS];
 static uint32_t most_strays, most_acks, strays;
 static unsigned long deliveries, acknowledgements, connections, counts;
+static uint32_t worst_strays, worst_missing;
 
 static uint32_t drawn(uint32_t below) { return (uint32_t)((draw() >> 32) % below); }
 
@@ -68,6 +73,11 @@ static void broken(const char *what) {
 
 /* At most `frames` frames and `acks` acknowledgements are under way when this count begins. */
 static void count_anew(uint32_t frames, uint32_t acks) {
+    uint32_t missing = 0;
+    for (uint32_t i = 0; i < acked; i++)
+        missing += !came[i];
+    worst_missing = missing > worst_missing ? missing : worst_missing;
+    worst_strays = strays > worst_strays ? strays : worst_strays;
     memset(came, 0, next_item - first_item);
     first_item = sender.holding ? sender.item : next_item;
     most_strays = frames, most_acks = acks;
@@ -98,100 +108,168 @@ static void is_acknowledged(void) {
 
 /* ---- Connections ---- */
 
-static struct half *own_half(const struct end *end, struct connection *its) {
-    return &its->halves[end == &ends[RECEIVER]];
+static void must(bool holds, const char *what) {
+    if (!holds) {
+        printf("%s: error %d\n", what, errno);
+        exit(2);
+    }
 }
 
-static struct half *other_half(const struct end *end, struct connection *its) {
-    return &its->halves[end == &ends[SENDER]];
+static int made_socket(void) {
+    int fd = socket(AF_INET, SOCK_STREAM, 0);
+    must(fd >= 0, "socket");
+    return fd;
 }
 
-/* Closes a connection, by a reset one time in three: then what is under way is lost. */
-static void close_own(const struct end *end, struct connection *its) {
-    own_half(end, its)->is_open = false;
-    if (drawn(3) == 0)
-        other_half(end, its)->queued = 0;
+static void listen_at(struct end *end) {
+    socklen_t size = sizeof end->address;
+    memset(&end->address, 0, sizeof end->address);
+    end->address.sin_family = AF_INET;
+    end->address.sin_addr.s_addr = htonl(0x7f000001);
+    end->listener = made_socket();
+    must(!bind(end->listener, (struct sockaddr *)&end->address, sizeof end->address), "bind");
+    must(!listen(end->listener, MOST_PARKED), "listen");
+    must(!getsockname(end->listener, (struct sockaddr *)&end->address, &size), "getsockname");
+    must(!fcntl(end->listener, F_SETFL, O_NONBLOCK), "fcntl");
+    end->now.fd = -1;
+    rignolda_session_init(&end->session);
 }
 
+/* Closes what the end had, by a reset one time in three. */
 static void let_go(struct end *end) {
-    if (end->now && handles_left && end->left_count < MOST_LEFT && drawn(2))
+    if (end->now.fd < 0)
+        return;
+    if (handles_left && end->left_count < MOST_LEFT && drawn(2)) {
         end->left[end->left_count++] = end->now;
-    else if (end->now)
-        close_own(end, end->now);
-    end->now = 0;
+    } else {
+        struct linger at_once = {1, 0};
+        if (drawn(3) == 0)
+            setsockopt(end->now.fd, SOL_SOCKET, SO_LINGER, &at_once, sizeof at_once);
+        close(end->now.fd);
+    }
+    end->now.fd = -1;
+}
+
+static void take(struct end *end, int fd, uint64_t number) {
+    int yes = 1;
+    must(number != 0 && number == end->session.number, "the number of a connection");
+    must(!fcntl(fd, F_SETFL, O_NONBLOCK), "fcntl");
+    setsockopt(fd, IPPROTO_TCP, TCP_NODELAY, &yes, sizeof yes);
+    memset(&end->now, 0, sizeof end->now);
+    end->now.fd = fd, end->now.number = number, connections++;
 }
 
 static void leave(struct end *end) {
-    if (end->now && !rignolda_session_ended(&end->session, own_half(end, end->now)->number))
-        broken("the end did not have its connection");
+    if (end->now.fd >= 0)
+        must(rignolda_session_ended(&end->session, end->now.number), "it had the connection");
     let_go(end);
 }
 
-static void take(struct end *end, struct connection *its, uint64_t number) {
-    if (number == 0 || number != end->session.number)
-        broken("the number of a connection");
-    own_half(end, its)->number = number;
-    end->now = its, connections++;
-}
-
 static void make(struct end *end, struct end *other) {
+    int fd = made_socket();
     let_go(end);
     uint64_t number = rignolda_session_made(&end->session);
     if (maker_begins)
         end->session.turn = 1;
-    if (other->parked_count == MOST_PARKED) {
+    if (connect(fd, (struct sockaddr *)&other->address, sizeof other->address)) {
+        close(fd);
         rignolda_session_ended(&end->session, number);
-        return;
+    } else {
+        take(end, fd, number);
     }
-    struct connection *its = pool;
-    while (its->halves[0].is_open || its->halves[1].is_open)
-        its++;
-    memset(its, 0, sizeof *its);
-    its->halves[0].is_open = its->halves[1].is_open = true;
-    other->parked[other->parked_count++] = its;
-    take(end, its, number);
+}
+
+static void park(struct end *end) {
+    int fd = accept(end->listener, 0, 0);
+    if (fd >= 0 && end->parked_count == MOST_PARKED)
+        close(fd);
+    else if (fd >= 0)
+        end->parked[end->parked_count++] = fd;
 }
 
 static void accept_one(struct end *end) {
     if (!end->parked_count)
         return;
-    uint32_t place = drawn(end->parked_count);
-    struct connection *its = end->parked[place];
+    uint32_t place = drawn((uint32_t)end->parked_count);
+    int fd = end->parked[place];
     end->parked[place] = end->parked[--end->parked_count];
     let_go(end);
-    take(end, its, rignolda_session_accepted(&end->session));
+    take(end, fd, rignolda_session_accepted(&end->session));
     if (maker_begins)
         end->session.turn = 0;
 }
 
-/* ---- Messages ---- */
+/* ---- Messages: a label, the high byte first, and in a frame the item after it ---- */
 
-/* Asks the end what to send on the connection that it has. */
-static void send_now(struct end *end) {
-    rignolda_frame frame = {0, 0, 0};
-    if (!end->now)
-        return;
-    struct half *to = other_half(end, end->now);
-    if (to->queued < MOST_QUEUED &&
-        (end == &ends[RECEIVER] ? rignolda_session_ack(&receiver, &end->session, &frame.label)
-                                : rignolda_session_send(&sender, &end->session, &frame)))
-        to->messages[to->queued++] = frame;
+static void put_label(uint8_t *bytes, uint16_t label) {
+    bytes[0] = (uint8_t)(label >> 8), bytes[1] = (uint8_t)label;
 }
 
-/* Takes what came first. Returns false where nothing is left and the other end has gone. */
-static bool pull(struct end *end, struct connection *its) {
-    struct half *own = own_half(end, its);
-    if (!own->queued)
-        return other_half(end, its)->is_open;
-    rignolda_frame first = own->messages[0];
-    memmove(own->messages, own->messages + 1, --own->queued * sizeof first);
-    uint64_t number = handles_left ? end->session.number : own->number;
-    uint32_t item = 0;
+static uint16_t label_in(const uint8_t *bytes) { return (uint16_t)(bytes[0] << 8 | bytes[1]); }
+
+/* Asks the end what to write on the connection that it has. */
+static void send_now(struct end *end) {
+    struct connection *its = &end->now;
+    rignolda_frame frame = {0, 0, 0};
+    uint16_t label = 0;
+    if (its->fd < 0 || its->to_write)
+        return;
+    if (end == &ends[RECEIVER]) {
+        if (!rignolda_session_ack(&receiver, &end->session, &label))
+            return;
+        put_label(its->out, label);
+        its->to_write = LABEL_BYTES;
+    } else {
+        if (!rignolda_session_send(&sender, &end->session, &frame))
+            return;
+        put_label(its->out, frame.label);
+        for (int i = 0; i < 4; i++)
+            its->out[2 + i] = (uint8_t)(frame.item >> (24 - 8 * i));
+        its->to_write = FRAME_BYTES;
+    }
+    its->written = 0;
+}
+
+/* Writes what is left of a message, or one byte of it. */
+static void push(struct end *end) {
+    struct connection *its = &end->now;
+    if (its->fd < 0 || !its->to_write)
+        return;
+    size_t count = drawn(4) ? its->to_write : 1;
+    long written = send(its->fd, its->out + its->written, count, MSG_NOSIGNAL);
+    if (written > 0)
+        its->written += (size_t)written, its->to_write -= (size_t)written;
+    else if (errno != EAGAIN)
+        leave(end);
+}
+
+static void handle(struct end *end, const struct connection *its) {
+    uint64_t number = handles_left ? end->session.number : its->number;
     if (end == &ends[SENDER]) {
-        if (rignolda_session_on_ack(&sender, &end->session, &params, number, first.label))
+        if (rignolda_session_on_ack(&sender, &end->session, &params, number, label_in(its->in)))
             is_acknowledged();
-    } else if (rignolda_session_on_frame(&receiver, &end->session, number, &first, &item)) {
-        is_delivered(item);
+    } else {
+        rignolda_frame frame = {0, label_in(its->in), 0};
+        uint32_t item = 0;
+        for (int i = 0; i < 4; i++)
+            frame.item = frame.item << 8 | its->in[2 + i];
+        if (rignolda_session_on_frame(&receiver, &end->session, number, &frame, &item))
+            is_delivered(item);
+    }
+}
+
+/* Reads what there is of one message. Returns false where the connection is gone. */
+static bool pull(struct end *end, struct connection *its) {
+    size_t whole = end == &ends[SENDER] ? LABEL_BYTES : FRAME_BYTES;
+    if (its->fd < 0)
+        return true;
+    long count = recv(its->fd, its->in + its->came, whole - its->came, 0);
+    if (count <= 0)
+        return count < 0 && errno == EAGAIN;
+    its->came += (size_t)count;
+    if (its->came == whole) {
+        its->came = 0;
+        handle(end, its);
     }
     return true;
 }
@@ -199,9 +277,9 @@ static bool pull(struct end *end, struct connection *its) {
 static void pull_one_left(struct end *end) {
     if (!end->left_count)
         return;
-    uint32_t place = drawn(end->left_count);
-    if (!pull(end, end->left[place])) {
-        close_own(end, end->left[place]);
+    uint32_t place = drawn((uint32_t)end->left_count);
+    if (!pull(end, &end->left[place])) {
+        close(end->left[place].fd);
         end->left[place] = end->left[--end->left_count];
     }
 }
@@ -235,21 +313,27 @@ static void step(void) {
             rignolda_sender_offer(&sender, next_item))
             next_item++;
         break;
-    case 1: case 2: case 3:
+    case 1:
         send_now(end);
         break;
-    case 4: case 5:
-        if (end->now && !pull(end, end->now))
+    case 2:
+    case 3:
+        push(end);
+        break;
+    case 4:
+    case 5:
+        if (!pull(end, &end->now))
             leave(end);
         break;
     case 6:
-        if (drawn(2) && (!end->now || sometimes(60)))
+        park(end);
+        if (drawn(2) && (end->now.fd < 0 || sometimes(60)))
             accept_one(end);
         break;
     default:
         /* (one end alone makes them when all is quiet) */
-        if (is_quiet ? which == RECEIVER && !end->now && drawn(8) == 0
-                     : end->now ? sometimes(60) : drawn(8) == 0)
+        if (is_quiet ? which == RECEIVER && end->now.fd < 0 && drawn(8) == 0
+                     : end->now.fd < 0 ? drawn(8) == 0 : sometimes(60))
             make(end, other);
         if (sometimes(60))
             leave(end);
@@ -266,6 +350,8 @@ int main(int argc, char **argv) {
     maker_begins = argc > 3 && !strcmp(argv[3], "maker-begins");
     handles_left = argc > 3 && !strcmp(argv[3], "handles-left");
     keeps_one = argc > 3 && !strcmp(argv[3], "keeps-one");
+    listen_at(&ends[SENDER]);
+    listen_at(&ends[RECEIVER]);
     restart(true, true);
     for (unsigned long i = 0; i < steps; i++)
         step();
@@ -279,7 +365,9 @@ int main(int argc, char **argv) {
         step();
     if (sender.holding || acked != next_item - first_item || last + 1 != (int64_t)acked)
         broken("not every item came through, though nothing breaks any more");
-    printf("holds: %lu deliveries, %lu acknowledgements, %lu ends of connections, %lu counts\n",
-           deliveries, acknowledgements, connections, counts);
+    count_anew(0, 0);
+    printf("holds: %lu deliveries, %lu acknowledgements, %lu ends of connections, %lu counts, "
+           "at most %u strays and %u missing\n",
+           deliveries, acknowledgements, connections, counts, worst_strays, worst_missing);
     return 0;
 }

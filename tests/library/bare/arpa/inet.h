@@ -1,0 +1,2 @@
+#pragma once
+#define htonl(number) __builtin_bswap32(number)
