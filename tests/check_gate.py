@@ -38,7 +38,7 @@ def run_gate(*words, **env):
 
 def run(first=PARTS[0], second=PARTS[1], *words, **env):
     """Runs the gate with these two parts. Further words are those of the gate."""
-    house.command(house.bin / "rt", '[ "$1" = ci ] || { echo kit-1; exit; }\n'
+    house.command(house.bin / "rt", '[ "$1" = ci ] || { echo "kit-1${KEEPS---anew}"; exit; }\n'
                   f'echo "$PWD: rt $*, ${{RT_JOBS-none}}"; {FIRST}; {first}')
     house.command("tests/refused/check.py", f'echo "$PWD: check $*"; {second}')
     return run_gate(*words, **env)
@@ -125,6 +125,8 @@ holds("which the environment decides, if it does",
 said = run(*PARTS, "--anew").out
 holds("with --anew all of it is proved again",
       re.search(f"^{house.top}: rt ci --anew, [0-9]+$", said, re.M))
+run(*PARTS, "--anew", KEEPS="")
+holds("and by a kit that always does so, and knows no such word", gave("352 passed, 0 failed"))
 said = house.run("taskset", "-c", "0", house.top / "gate", TMPDIR=str(house.temporary)).out
 holds("never more than the processors", "gate: 1 tasks at once: 1 processors, " in said)
 for name, parts in (

@@ -381,6 +381,9 @@ holds("whose file is then the newest program of out",
 gave("with --prove, the program is built, and compared", "released", "--prove", "one", count=1,
      says=["the release is the same program, byte for byte"])
 holds("from nothing, whatever rt has proved before", house.read("calls") == "ci --anew\n")
+gave("also by a kit that always does so, and knows no such word", "released", "--prove", count=1,
+     KEEPS="")
+holds("to which none is said", house.read("calls") == "ci\n")
 gave("each time", "released", "--prove", count=1)
 gave("as the first word alone", "released", "one", "--prove")
 kit("kit-3")

@@ -43,6 +43,7 @@ make() {
 RT = KIT + r"""
 case $1 in
     version) cat "$WORK/kit"; exit ;;
+    help) echo "rt ci ${KEEPS-[--anew]}" >&2; exit ;;
     doc) echo "$WORK/a kit/START-HERE.md"; exit ;;
     ci) ;;
     *) exit 9 ;;

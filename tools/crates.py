@@ -104,6 +104,15 @@ def kit():
     return os.path.dirname(said.strip())
 
 
+def anew():
+    """The words that have rt ci prove all from nothing. Some kits take what was passed before on
+    this machine, unless they are told so; others always begin from nothing, and know no such
+    word."""
+    said = subprocess.run(["rt", "help"], stdin=subprocess.DEVNULL, stdout=subprocess.PIPE,
+                          stderr=subprocess.STDOUT, text=True).stdout
+    return ["--anew"] if "--anew" in said else []
+
+
 def compiler(verb, crate, source, top=TOP):
     """The words of the compiler for a crate whose first file is `source`, over the libraries that
     rt ci has left in a tree: of them these are statements alone, which rt itself does not take."""

@@ -25,7 +25,7 @@ is no such C library here, or another one, --check compares that object. The pro
 are made by tools/build_daemon --keep; --check sees that they and their sources are those of their
 lines. What was built is kept in out/, under names with its digest, that of its sources and the kit,
 and a build takes what rt ci has passed before on this machine, where it need not begin from
-nothing. It needs Python 3.8.
+nothing and the kit keeps that. It needs Python 3.8.
 """
 import contextlib
 import fcntl
@@ -44,7 +44,7 @@ from pathlib import Path
 
 import index_page
 import static
-from crates import below, compiler, kit, listed, read
+from crates import anew, below, compiler, kit, listed, read
 from programs import Cases
 from running import Commands, Interrupted
 from static import digest_of
@@ -266,7 +266,7 @@ class Release(Commands):
             shutil.copytree(TOP / "crates" / crate, self.room / "crates" / crate, symlinks=True,
                             ignore=shutil.ignore_patterns("out", "must-fail"))
         with open(LOG, "a", encoding="utf-8") as log:
-            process = self.start(["rt", "ci", *["--anew"] * is_anew], self.room,
+            process = self.start(["rt", "ci", *(anew() if is_anew else [])], self.room,
                                  stdout=subprocess.PIPE)
             for line in process.stdout:
                 log.write(line)
