@@ -98,23 +98,6 @@ SCRIPTS = [{"frames_out": "D", "acks_in": "K"},
 RUNS = [("run", ["run"]), ("run --words", ["run", "--words"]), ("run --mixed", ["run", "--mixed"])]
 
 
-def chain(nodes, items, turns, words, held=0):
-    """The job of a chain of `nodes` nodes, with clean starts, for a run by these words. Where both
-    kinds of link are asked for, every other link is wider. Inner nodes begin with `held`
-    strays."""
-    tree = [{"name": "r"}]
-    for i in range(1, nodes):
-        tree.append({"name": f"n{i}", "parent": tree[-1]["name"]})
-    items = list(range(1, items + 1))
-    job = {"capacity": 1, "labels": 4, "tree": tree, "items": items, "turns": turns}
-    if "--mixed" in words:
-        job["links"] = [{"capacity": 3, "labels": 8} if i % 2 else None for i in range(nodes - 1)]
-    if held:
-        inner = [list(range(1000 * i, 1000 * i + held)) for i in range(1, nodes - 1)]
-        job.update(version=2, h=held, openings=[[], *inner, []])
-    return job
-
-
 class Ended(namedtuple("Ended", "status out err allocations threads refused")):
     """How a program ended. What the object reported is None where it reported nothing."""
 
