@@ -1,6 +1,6 @@
 #!/usr/bin/env -S python3 -B
-"""Packages of Debian that are not installed but unpacked, in out/debian-ARCHITECTURE, for an
-architecture that need not be that of this machine.
+"""Packages of Debian: what tests need is installed, where that may be; what is linked, or is for
+another machine, is unpacked in out/debian-ARCHITECTURE, where nothing of the system is changed.
 
     tools/debian.py ARCHITECTURE PACKAGE..
         unpacks these packages of amd64 or arm64, with none of those that they depend on, and prints
@@ -9,7 +9,7 @@ architecture that need not be that of this machine.
         the same, with those that they depend on and that are not installed here
 
 apt-get fetches them by what this machine's lists of sources name, with a state of its own in out/
-where the architecture is another one. Nothing of the system is changed, and no rights are needed.
+where the architecture is another one. To unpack them needs no rights.
 """
 import fcntl
 import os
@@ -27,6 +27,17 @@ OUT = Path(__file__).resolve().parent.parent / "out"
 EMULATORS, EMULATOR = "qemu-user-static", "usr/bin/qemu-aarch64-static"
 # What programs for arm64 load where they run.
 LOADED = "libc6", "libgcc-s1", "libssl3"
+
+
+def install(*packages):
+    """Installs packages on this system, where that may be. Services of theirs are not started."""
+    words = ["apt-get", "-q", "-y", "-o", "DPkg::Lock::Timeout=300", "--no-install-recommends",
+             "install", *packages]
+    env = {**os.environ, "DEBIAN_FRONTEND": "noninteractive", "RUNLEVEL": "1"}
+    if packages and os.getuid() == 0 and shutil.which("apt-get") and ran(*words, env=env)[0]:
+        # (a fresh machine has no list of packages yet)
+        ran("apt-get", "-q", "update", env=env)
+        ran(*words, env=env)
 
 
 def own_state(architecture, room):

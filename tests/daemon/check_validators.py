@@ -6,7 +6,6 @@ A program that is not installed is installed where that may be done; else a line
 nothing is counted for it. The last line is 'N passed, M failed'.
 """
 import json
-import os
 import re
 import shutil
 import sys
@@ -15,6 +14,7 @@ from pathlib import Path
 
 from daemons import HOME, PACKAGING, Tree, binaries, counted
 from runner import HERE
+import debian
 from programs import Cases, answered, ran
 
 ALARMS = PACKAGING / "alarms.yml"
@@ -161,19 +161,13 @@ def threats(cases):
 def main():
     cases = Cases()
     threats(cases)
-    packages = [of for name, (of, _) in PROGRAMS.items() if not shutil.which(name)]
-    if packages and os.getuid() == 0 and shutil.which("apt-get"):
-        words = ["apt-get", "install", "-y", "-q", "--no-install-recommends", *packages]
-        quiet = {"env": {**os.environ, "DEBIAN_FRONTEND": "noninteractive"}}
-        if ran(*words, **quiet)[0]:
-            ran("apt-get", "update", "-q", **quiet)
-            ran(*words, **quiet)
+    debian.install(*(of for name, (of, _) in PROGRAMS.items() if not shutil.which(name)))
     with tempfile.TemporaryDirectory() as room:
         for name, (of, judged) in PROGRAMS.items():
             if shutil.which(name):
                 judged(cases, Path(room))
             else:
-                print(f"{name} is not there, so nothing is counted: apt-get install {of}")
+                print(f"what {name} says is NOT TRIED: apt-get install {of}")
     return cases.sum_up()
 
 

@@ -12,6 +12,7 @@ sys.dont_write_bytecode = True
 
 HERE = pathlib.Path(__file__).resolve().parent
 sys.path.append(str(HERE.parents[1] / "tools"))
+import debian  # noqa: E402
 from programs import options, sum_up  # noqa: E402
 
 TESTS = []
@@ -52,7 +53,12 @@ def run_seeds(chosen, act):
 
 
 def lacking(needs):
-    return needs() if callable(needs) else None if shutil.which(needs) else f"there is no {needs}"
+    """What a test lacks, or None. A program that is missing is installed, where that may be."""
+    if callable(needs):
+        return needs()
+    if not shutil.which(needs):
+        debian.install("gcc" if needs == "cc" else needs)
+    return None if shutil.which(needs) else f"there is no {needs}"
 
 
 def main():
@@ -65,7 +71,7 @@ def main():
     lacks = {needs: lacking(needs) for needs in {it.needs for it in chosen if it.needs}}
     for needs, lack in lacks.items():
         if lack:
-            print("not tried:", *(it.__name__ for it in chosen if it.needs == needs), "as", lack)
+            print(*(it.__name__ for it in chosen if it.needs == needs), f"are NOT TRIED: {lack}")
     chosen = sorted((it for it in chosen if not lacks.get(it.needs)), key=lambda it: not it.begins)
     # (most of them wait most of the time)
     with concurrent.futures.ThreadPoolExecutor(4) as pool:
