@@ -153,9 +153,10 @@ holds("without the kit it says what is missing", (house.run(
     and house.ended.out == "gate: it needs the command rt of the Rattle kit, and finds none\n"))
 
 # While the first part goes on, others begin: at first none, then those that need nothing of it,
-# and the planted bugs of a crate over crates that are proved; after it what runs the programs, and
-# what looks at those that it has built. Where the programs of the present sources are there before
-# it, what runs them begins beside it as well.
+# and over crates that are proved the planted bugs of a crate, and what compiles it for the release;
+# after it what runs the programs, what looks at those that it has built, and in the end what
+# compares the release. Where the programs of the present sources are there before it, what runs
+# them begins beside it as well.
 BESIDE = f"""how=late; [ "$(nice)" -le {os.nice(0)} ] || how=beside
     echo "$1 $how" >>"$WORK/begun"; echo 0 passed, 0 failed"""
 APART = next(it for it in SCRIPTS if it == "tests/check_stab.py")
@@ -164,14 +165,21 @@ OVER = next(it for it in SCRIPTS if it == "tests/check_tables.py")
 for it, name in (APART, "apart"), (RUN, "run"), (OVER, "over"):
     house.command(it, BESIDE.replace("$1", name))
 house.command("tests/try_edits.py", BESIDE)
+house.command("release.sh", '[ -n "$RELEASE_COMPILED" ] || exit 1\n'
+              + BESIDE.replace("$1", "$*"))
 house.write("tools/launch", """part=
+table=(
+    'it.a library mid'
+    'arm64/it.a library mid'
+    'it.wasm module no_such_crate'
+)
 read_table() { :; }
 find_sources() { :; }
 find_built() { built=$WORK/released; [ -e "$built" ]; }""")
 STEPS = """
 has() { for _ in $(seq 200); do grep -q "$1" "$WORK/begun" && return; sleep 0.05; done; }
 sleep 0.3; cp "$WORK/begun" "$WORK/at_first"
-echo rt: low proved; has apart; has low; has mid; cp "$WORK/begun" "$WORK/beside"
+echo rt: low proved; has apart; has low; has compile; has '^mid'; cp "$WORK/begun" "$WORK/beside"
 echo 1 passed, 0 failed"""
 
 
@@ -181,13 +189,16 @@ def begun(first, *words):
         house.write(house.work / it)
     house.command(house.bin / "rt", f'[ "$1" = ci ] || {{ echo kit-1; exit; }}\n{first}')
     run_gate(*words)
-    return [sorted(house.read(it).split("\n")[:-1]) for it in ("at_first", "beside", "begun")]
+    at_first, beside, after = (house.read(it).split("\n")[:-1]
+                               for it in ("at_first", "beside", "begun"))
+    holds("the release is compared in the end", after[-1] == "--check late")
+    return sorted(at_first), sorted(beside), sorted(after[:-1])
 
 
 at_first, beside, after = begun(STEPS)
 holds("at first nothing runs beside the first part", at_first == [])
-NEED_NOTHING = ["apart beside", "low beside", "mid beside"]
-holds("then what needs nothing of it, and planted bugs, in the time that is left over",
+NEED_NOTHING = ["--compile mid beside", "apart beside", "low beside", "mid beside"]
+holds("then what needs nothing of it, and what is over a crate, in the time that is left over",
       beside == NEED_NOTHING)
 holds("and after it what runs the programs, and planted bugs over what it has not proved",
       after == sorted([*beside, "high late", "over late", "run late"]))
@@ -196,24 +207,26 @@ _, beside, after = begun(STEPS.replace("has apart", "has apart; has run"))
 holds("but beside it where they are there before, and not what looks at those that it has built", (
     beside, after) == ([*NEED_NOTHING, "run beside"], sorted([*beside, "high late", "over late"])))
 _, beside, after = begun(STEPS, "--release")
-holds("and never where the release is made anew",
-      beside == NEED_NOTHING and "run late" in after and "run beside" not in after)
+holds("and never where the release is made anew, which is then taken from what was compiled",
+      beside == NEED_NOTHING and {"run late", "--after-ci late"} < {*after}
+      and "run beside" not in after)
 remove(house.work / "released")
 _, beside, after = begun(STEPS.replace("rt: low proved", "rt: low NOT PROVED")
-                         .replace("has apart; has mid", "sleep 0.3"))
+                         .replace("has apart; has low; has compile; has '^mid'", "sleep 0.3"))
 holds("over what is not proved nothing begins before it has ended", beside == [] and after == [
-    "apart late", "high late", "low late", "mid late", "over late", "run late"])
+    "--compile mid late", "apart late", "high late", "low late", "mid late", "over late",
+    "run late"])
 for it in APART, RUN, OVER:
     script(SCRIPTS.index(it))
 house.command("tests/try_edits.py", 'echo "$PWD: edits $*"; echo 0 passed, 0 failed')
 
 # A release is made of what the first part has built, where that has passed.
+COMPARED = ["release --compile mid", "release --check"]
 house.command("release.sh", 'echo "release $*" >>"$WORK/begun"; echo 1 passed, 0 failed')
 for first, wanted, name in (
-        ("echo 300 passed, 0 failed", ["release --after-ci", "release --check"],
+        ("echo 300 passed, 0 failed", ["release --after-ci", *COMPARED],
          "with --release it is made, and then compared"),
-        ("echo 299 passed, 1 failed; exit 1", ["release --check"],
-         "but not where the first part fails")):
+        ("echo 299 passed, 1 failed; exit 1", COMPARED, "but not where the first part fails")):
     house.write(house.work / "begun")
     run(first, PARTS[1], "--release")
     holds(name, house.read("begun").split("\n")[:-1] == wanted)

@@ -267,6 +267,20 @@ checked("where rt ci has run, the library and the module are made and compared",
 holds("with no call of rt", well(0))
 refused("but not where checks have left other libraries", "run that first", "--check",
         files={"crates/low/out/rlib/stamp": ""})
+LIST = {"RELEASE_COMPILED": str(work / "list")}
+for crate, counts in ("stab_c", "1 passed, 0 failed"), ("stab_cli", "0 passed, 0 failed"), (
+        "stab_page", "1 passed, 0 failed"):
+    holds(f"what rt ci makes no file of can be compiled before ({crate})",
+          run("--compile", crate, **LIST).last == counts and house.ended.status == 0)
+holds("but not what is not proved", run("--compile", "rignolda_settings_c", NOT_PROVED="1",
+                                        **LIST).last == "0 passed, 1 failed")
+write(work / "compiled")
+checked("which the check then takes", 16, **LIST)
+holds("with what it has to compile itself",
+      re.findall("--crate-name (\\w+)", house.read("compiled")) == ["rignolda_settings_c"])
+write("crates/stab_c/out/librignolda.a", "another\n")
+checked("and compares", 15, LIBRARY, **LIST)
+checked("where it was not in this run, it is compiled once more", 16)
 checked("others than those of the release fail", 13, LIBRARY, SETTINGS, MODULE, OTHER="1")
 checked("and so do those that are not proved", 13, LIBRARY, SETTINGS, MODULE, NOT_PROVED="1")
 SPOILED = more("release/librignolda.a")

@@ -7,39 +7,27 @@
                                       'N passed, M failed'.
 
 There is no second source. The compiler of the kit hands the proved crate to clang as one module in
-LLVM's language, of which clang makes the archive. A command in the place of clang keeps this module
-on its way, and the same clang writes it as text, with its calls inlined. Here each instruction of
-that text becomes an expression or a statement of C, and each access the member that the header has
-at that place. An instruction or a place that is not known ends the script: it never guesses. No
-proof covers this translation, as none covers clang; tests/library/both.c compares every call with
-the archive. The build is over the libraries that checks have left. It needs the kit, and Python
-3.8.
+LLVM's language, of which clang makes the archive. tools/release.py keeps this module on its way,
+and the same clang writes it as text, with its calls inlined. Here each instruction of that text
+becomes an expression or a statement of C, and each access the member that the header has at that
+place. An instruction or a place that is not known ends the script: it never guesses. No proof
+covers this translation, as none covers clang; tests/library/both.c compares every call with the
+archive. The build is over the libraries that rt ci has left. It needs the kit, and Python 3.8.
 """
-import os
 import re
-import shutil
-import subprocess
 import sys
-import tempfile
 import textwrap
 from collections import Counter, namedtuple
 from pathlib import Path
 
-from crates import below, compiler, kit, listed, read
+from crates import kit, read
 from programs import Cases
+from release import Release, do, output
 
 TOP = Path(__file__).resolve().parent.parent
-CRATE = "stab_c"
 HEADER, MADE = TOP / "include/rignolda.h", TOP / "include/rignolda_inline.h"
 ARCHIVE = TOP / "release/librignolda.a"
 
-# In the place of clang: keeps the module that it is given, and then becomes clang.
-KEEPER = """#!/bin/sh
-for word; do
-    case $word in *.bc) cp -- "$word" '{kept}' ;; esac
-done
-exec '{clang}' "$@"
-"""
 # The words with which clang writes the module as text: nothing becomes a vector or is moved over
 # branches, so that each access stays one of one member.
 AS_TEXT = ["-O2", "-S", "-emit-llvm", "-fno-vectorize", "-fno-slp-vectorize", "-fno-unroll-loops",
@@ -560,48 +548,31 @@ def translated(text, header):
     return HEAD + "\n" + "\n".join(found[it] for it in header.calls)
 
 
-def build(work):
-    """Builds the archive in a folder; answers its file and the module's text."""
-    home, tools = kit(), work / "toolchain"
-    shutil.copytree(f"{home}/toolchain", tools, copy_function=os.symlink)
-    clang, module, archive = f"{home}/toolchain/bin/clang", work / "module.bc", work / "library.a"
-    (tools / "bin/clang").unlink()
-    (tools / "bin/clang").write_text(KEEPER.format(kept=module, clang=clang))
-    (tools / "bin/clang").chmod(0o755)
-    home_of_crate = TOP / "crates" / CRATE
-    libraries = [TOP / f"crates/{it}/out/rlib" for it in below(CRATE, listed())[:-1]]
-    if any((it / "stamp").is_file() or not it.is_dir() for it in libraries):
-        # (rt ci leaves of libraries what rt check would make again)
-        subprocess.run(["rt", "check"], cwd=home_of_crate, check=True, stdout=sys.stderr)
-    words = compiler("build", CRATE, "src/lib.rt", TOP)
-    words[words.index("--toolchain") + 1] = str(tools)
-    words += ["-o", str(archive), "--crate-type", "staticlib", "--backend", "llvm", "--jobs", "2"]
-    if (home_of_crate / "out/incremental").is_dir():
-        words += ["--incremental", "out/incremental"]
-    subprocess.run(words, cwd=home_of_crate, check=True, stdout=sys.stderr)
-    text = subprocess.run([clang, *AS_TEXT, "-o", "-", str(module)], check=True,
-                          stdout=subprocess.PIPE, text=True).stdout
-    return archive, text
+def compared(release, is_check):
+    """Writes the header, or compares it and the archive with what the present sources give."""
+    archive = release.compile_own(TOP, ARCHIVE.name)
+    if not archive:
+        release.fail("the archive was not compiled: see out/build.log")
+    text = output(f"{kit()}/toolchain/bin/clang", *AS_TEXT, "-o", "-", f"{archive}.bc", text=True)
+    try:
+        made = translated(text, Header(read(HEADER)))
+    except Unknown as fault:
+        release.fail(f"there is no translation of {fault}")
+    if not is_check:
+        MADE.write_text(made)
+        return 0
+    cases = Cases()
+    cases.holds("the archive of the release is of the same build",
+                archive.read_bytes() == ARCHIVE.read_bytes(), "run ./release.sh")
+    cases.holds("the inline calls are those of the module", made == read(MADE),
+                "run tools/inline_header.py")
+    return cases.sum_up()
 
 
 def main(words):
     if words not in ([], ["--check"]):
         sys.exit(__doc__)
-    with tempfile.TemporaryDirectory() as work:
-        try:
-            archive, text = build(Path(work))
-            made = translated(text, Header(read(HEADER)))
-        except Unknown as fault:
-            sys.exit(f"inline_header.py: there is no translation of {fault}")
-        if not words:
-            MADE.write_text(made)
-            return 0
-        cases = Cases()
-        cases.holds("the archive of the release is of the same build",
-                    archive.read_bytes() == ARCHIVE.read_bytes(), "run ./release.sh")
-        cases.holds("the inline calls are those of the module", made == read(MADE),
-                    "run tools/inline_header.py")
-        return cases.sum_up()
+    return do(Release("inline_header", ARCHIVE.name), lambda it: compared(it, bool(words)))
 
 
 if __name__ == "__main__":

@@ -9,6 +9,9 @@
                                 ./gate --release does. The last line is 'N passed, M failed'.
     tools/release.py --check    compares release/ with what rt ci has just built, as the gate does.
                                 The last line is 'N passed, M failed'.
+    tools/release.py --compile CRATE
+                                compiles what rt ci makes no file of, once rt ci has proved the
+                                crates below this one. The last line is the same.
     tools/release.py --archive  packs the release with the pages and the examples for users, as a
                                 file in out/, and its programs as a package for Debian, where
                                 dpkg-deb is here. Both are the same, byte for byte, whoever packs
@@ -25,7 +28,8 @@ is no such C library here, or another one, --check compares that object. The pro
 are made by tools/build_daemon --keep; --check sees that they and their sources are those of their
 lines. What was built is kept in out/, under names with its digest, that of its sources and the kit,
 and a build takes what rt ci has passed before on this machine, where it need not begin from
-nothing and the kit keeps that. It needs Python 3.8.
+nothing and the kit keeps that. Where RELEASE_COMPILED names a file, this is the list of what was compiled in this run of
+the gate, which is not compiled once more. It needs Python 3.8.
 """
 import contextlib
 import fcntl
@@ -52,12 +56,20 @@ from static import digest_of
 TOP = Path(__file__).resolve().parent.parent
 RELEASE, KEPT = TOP / "release", TOP / "out"
 LOG = KEPT / "build.log"
+COMPILED = os.environ.get("RELEASE_COMPILED", "")
 DAEMON = TOP / "tools/build_daemon"
 # A build during which the sources change is made again, at most so often.
 MAX_BUILDS = 3
 WASM = "wasm64-unknown-unknown"
 # The artefacts for arm64 have names that begin so; the others are for x86-64, or for a page.
 ARM64 = "arm64/"
+# In the place of clang: keeps the module that it is given, and then becomes clang.
+KEEPER = """#!/bin/sh
+for word; do
+    case $word in *.bc) cp -- "$word" '{module}' ;; esac
+done
+exec '{clang}' "$@"
+"""
 # The bytes of a module's stack: the lists of all links of a tree are on it, and copies of them.
 STACK = "16777216"
 # What a program names that the C library of the system loads.
@@ -175,11 +187,52 @@ class Release(Commands):
             fcntl.flock(self.lock, fcntl.LOCK_EX)
             self.look()
 
-    def compile(self, tree, crate, source, to, *words):
+    def compile(self, tree, crate, source, to, *words, tools=None):
         """Has the compiler prove and compile a crate over what rt ci has left of the libraries
         below it: the first file, the file to make, and what else the compiler is to be told."""
-        return self.does([*compiler("build", crate, source, tree), "-o", str(to), *words],
-                         f"{tree}/crates/{crate}")
+        whole = [*compiler("build", crate, source, tree), "--jobs", "2", "-o", str(to), *words]
+        if tools:
+            whole[whole.index("--toolchain") + 1] = tools
+        return self.does(whole, f"{tree}/crates/{crate}")
+
+    def compile_own(self, tree, name):
+        """Compiles an artefact that rt ci makes no file of, where that was not done yet: an archive
+        for C, that of a module, or the object of a program for arm64. Answers its file, or None.
+        The proofs of a crate are kept beside it, for its next artefact; and so is, of an archive,
+        the module in LLVM's language that clang was given."""
+        kind, crate = self.artefacts[name][:2]
+        out = tree / f"crates/{crate}/out"
+        to = out / (name.replace("/", "-") + {"program": ".o", "library": "", "module": ".a"}[kind])
+        target = WASM if kind == "module" else target_of(name)
+        words = ["--target", target, "--incremental", "out/compiled", "--backend", "llvm"]
+        if kind != "program":
+            words += ["--crate-type", "staticlib"]
+        source = "src/main.rt" if kind == "program" else "src/lib.rt"
+        if any((tree / f"crates/{it}/out/rlib/stamp").is_file() for it in below(crate, listed())):
+            self.fail("checks have left other libraries here than rt ci does: run that first")
+        out.mkdir(exist_ok=True)
+        with open(out / "compiled.lock", "a", encoding="utf-8") as lock, \
+                tempfile.TemporaryDirectory() as room:
+            fcntl.flock(lock, fcntl.LOCK_EX)
+            if str(to) in read(COMPILED).splitlines():
+                return to
+            to.unlink(missing_ok=True)
+            tools = self.keeps(f"{to}.bc", Path(room)) if kind == "library" else None
+            if not self.compile(tree, crate, source, to, *words, tools=tools) or not to.is_file():
+                return None
+            if COMPILED:
+                with open(COMPILED, "a", encoding="utf-8") as them:
+                    them.write(f"{to}\n")
+        return to
+
+    def keeps(self, module, room):
+        """A folder with the tools of the kit, in which clang keeps what it is given."""
+        tools, clang = room / "toolchain", f"{kit()}/toolchain/bin/clang"
+        shutil.copytree(f"{kit()}/toolchain", tools, copy_function=os.symlink)
+        (tools / "bin/clang").unlink()
+        (tools / "bin/clang").write_text(KEEPER.format(module=module, clang=clang))
+        (tools / "bin/clang").chmod(0o755)
+        return str(tools)
 
     def link(self, target, made, *files, options=()):
         """Has the linker of the kit make a file for this target, and answers whether it does."""
@@ -215,43 +268,34 @@ class Release(Commands):
         have taken that from an earlier run, with no object then."""
         crate = self.artefacts[name].crate
         made = tree / f"crates/{crate}/out/{crate}.by-rattle"
-        if name.startswith(ARM64):
-            made = made.with_name(f"{crate}.arm64")
-            is_well = self.compile(tree, crate, "src/main.rt", f"{made}.o", "--target",
-                                   target_of(name), "--jobs", "2", *self.incremental(made.parent))
-            return self.make_static(name, made) if is_well else None
         is_well = made.is_file() and (self.is_object_of(made) or (
-            self.compile(tree, crate, "src/main.rt", f"{made}.o", "--backend", "rattle", "--jobs",
-                         "2") and self.is_object_of(made)))
+            self.compile(tree, crate, "src/main.rt", f"{made}.o", "--backend", "rattle")
+            and self.is_object_of(made)))
         return self.make_static(name, made) if is_well else None
-
-    def incremental(self, out):
-        """Words that have the compiler take what checks of a crate have kept, if there is any."""
-        return ["--incremental", "out/incremental"] if (out / "incremental").is_dir() else []
-
-    def make_library(self, tree, name, made):
-        """Has the compiler make a library for C, or a module, over the libraries that are there."""
-        crate, own = self.artefacts[name].crate, ["--crate-type", "staticlib", "--target"]
-        if self.artefacts[name].kind == "library":
-            return self.compile(tree, crate, "src/lib.rt", made, *own, target_of(name), "--backend",
-                                "llvm", "--jobs", "2", *self.incremental(made.parent))
-        archive, own = f"{made}.a", [*own, WASM, "--incremental", "out/incremental", "--jobs", "1"]
-        return (self.compile(tree, crate, "src/lib.rt", archive, *own)
-                and self.link(WASM, made, archive, options=["--stack", STACK]))
 
     def make_after_ci(self, tree, name):
         """Makes an artefact in a tree where rt ci has proved its crates, and answers its file, or
         None. rt ci has made the programs, each by two compilers; those of a release are made by
-        Rattle's own. It makes no file of a library for C."""
-        kind, crate = self.artefacts[name][:2]
-        if kind == "program":
+        Rattle's own. It makes no file of a library for C, and nothing for arm64."""
+        kind = self.artefacts[name].kind
+        if kind == "program" and not name.startswith(ARM64):
             return self.make_program(tree, name)
-        made = tree / "crates" / crate / "out" / name.replace("/", "-")
-        made.parent.mkdir(exist_ok=True)
-        made.unlink(missing_ok=True)
-        if any((tree / f"crates/{it}/out/rlib/stamp").is_file() for it in below(crate, listed())):
-            self.fail("checks have left other libraries here than rt ci does: run that first")
-        return made if self.make_library(tree, name, made) and made.is_file() else None
+        compiled = self.compile_own(tree, name)
+        if not compiled or kind == "library":
+            return compiled
+        made = compiled.with_suffix("")
+        if kind == "program":
+            return self.make_static(name, made)
+        is_well = self.link(WASM, made, compiled, options=["--stack", STACK])
+        return made if is_well and made.is_file() else None
+
+    def compile_of(self, crate):
+        """Compiles the artefacts of a crate that rt ci makes no file of."""
+        cases = Cases()
+        for name, it in self.artefacts.items():
+            if it.crate == crate and (it.kind != "program" or name.startswith(ARM64)):
+                cases.holds(f"{name} is compiled", self.compile_own(TOP, name), f"see {LOG}")
+        return cases.sum_up()
 
     def build_in_copy(self, is_anew):
         """Proves and builds the artefacts, as the gate does, in a copy of the sources: each crate
@@ -620,17 +664,25 @@ class Release(Commands):
 
 
 def main(words):
-    runs = words[:1] == ["--run"] and len(words) > 3
     does = {(): lambda it: it.make(False), ("--prove",): lambda it: it.make(True),
             ("--after-ci",): Release.make_over_ci, ("--check",): Release.check,
-            ("--archive",): Release.archive}
-    if not runs and tuple(words) not in does:
-        sys.stderr.write("release: it takes one of --prove, --after-ci, --check and --archive, or "
-                         "nothing\n")
+            ("--archive",): Release.archive}.get(tuple(words))
+    runs = words[:1] == ["--run"] and len(words) > 3
+    if runs:
+        does = lambda it: it.become(*words[1:])
+    elif words[:1] == ["--compile"] and len(words) == 2:
+        does = lambda it: it.compile_of(words[1])
+    if not does:
+        sys.stderr.write("release: it takes one of --prove, --after-ci, --check, --compile CRATE "
+                         "and --archive, or nothing\n")
         return 2
-    release = Release(words[1], words[1]) if runs else Release("release")
+    return do(Release(words[1], words[1]) if runs else Release("release"), does)
+
+
+def do(release, does):
+    """Does something with the release, and says what stopped it."""
     try:
-        return release.become(*words[1:]) if runs else does[tuple(words)](release)
+        return does(release)
     except Interrupted:
         release.end_all()
         release.say("interrupted: nothing was built")
