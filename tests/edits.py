@@ -8,7 +8,9 @@ code, and are refused as well where an edit only takes such a name away. So a pl
 function has a control in tests/controls/CRATE: an edit of the same function, which keeps the
 meaning and as much of the bug's form as it can. Of each edit it is found that
 
-- `rt must-fail` can read it: a line 'file: ', and then pairs of lines 'old: ' and 'new: ';
+- `rt must-fail` can read it: a line 'file: ', and then pairs of lines 'old: ' and 'new: '; a line
+  'in: ' may be between, which it passes over: where the text is in no function, this is the one
+  that has to be refused;
 - its file is one of src/, or of specs/ where that is what a law is shown by, and has each old text
   once, also after the pairs before it;
 - what it changes is code, and no comment alone;
@@ -19,6 +21,7 @@ meaning and as much of the bug's form as it can. Of each edit it is found that
 Each edit is one case, and so is each folder of edits, whose crate has to be listed. The last line
 is 'N passed, M failed'.
 """
+import collections
 import glob
 import itertools
 import os
@@ -40,21 +43,25 @@ IMPL = re.compile(r"impl(<.*?>)? (?:(\w.*?) for )?(\w+)(<.*>)?")
 # The words in such a part, but for lifetimes.
 WORD = re.compile(r"(?<!['\w])\w+")
 
+# An edit: the path of a file, the pairs of its texts, and the function that it names, or ''.
+Edit = collections.namedtuple("Edit", "file pairs function")
+
 
 def edits_in(folder):
-    """The edits in a folder, by their names, each the path of a file and its pairs of texts."""
+    """The edits in a folder, by their names."""
     found = {}
     for path in sorted(glob.glob(f"{TOP}/{folder}/*.edit")):
-        file, pairs = "", []
+        named, pairs = {}, []
         for line in read(path).splitlines():
             key, _, text = line.partition(": ")
-            if key == "file":
-                file = text
+            if key in ("file", "in"):
+                named[key] = text
             elif key == "old":
                 pairs.append((text, ""))
             elif key in ("new", "new:") and pairs:
                 pairs[-1] = (pairs[-1][0], text)
-        found[os.path.basename(path).removesuffix(".edit")] = file, pairs
+        found[os.path.basename(path).removesuffix(".edit")] = Edit(
+            named.get("file", ""), pairs, named.get("in", ""))
     return found
 
 
@@ -87,8 +94,26 @@ def code(text):
     return re.sub(r"\s", "", re.sub(r"//.*|(?m:^ *--.*)", "", text))
 
 
-def fault_of_texts(crate, file, pairs):
+def paths_of(crate, edit):
+    """The ends of the names of the functions with the texts of an edit, or of the one that it
+    names."""
+    return {edit.function or path_of(crate, edit.file, old) for old, _ in edit.pairs}
+
+
+def fault_of_function(crate, edit):
+    """What is wrong with the function that an edit names, if it names one, or None."""
+    place, _, name = edit.function.rpartition("::")
+    source = read(f"{TOP}/crates/{crate}/src/{place.replace('::', '/')}.rt")
+    if edit.function and not re.search(rf"^(pub )?fn {name}\b", source, re.M):
+        return f"there is no function {edit.function}"
+    if edit.function and any(path_of(crate, edit.file, old) for old, _ in edit.pairs):
+        return "it names a function, and is in one"
+    return None
+
+
+def fault_of_texts(crate, edit):
     """Why an edit cannot be applied, or changes no code, or None."""
+    file, pairs, _ = edit
     path = f"{TOP}/crates/{crate}/{file}"
     if not re.fullmatch(r"src/[\w/]+\.rt|specs/\w+\.antt", file) or not os.path.isfile(path):
         return f"{file} is no file of src/ or specs/ in this crate"
@@ -103,14 +128,14 @@ def fault_of_texts(crate, file, pairs):
 
 def fault_of_control(crate, bug, control):
     """What is wrong with the control of a planted bug, or with there being none, or None."""
-    its = [path_of(crate, file, pairs[0][0]) for file, pairs in (bug, control or bug) if pairs]
+    its = [path_of(crate, file, pairs[0][0]) for file, pairs, _ in (bug, control or bug) if pairs]
     function = its[0].rpartition("::")[2]
     if control is None:
         at = f"{TOP}/crates/{crate}/proofs/{bug[0].removeprefix('src/').removesuffix('.rt')}"
         if any(os.path.basename(folder).split("+")[-1] == function and files
                for folder, _, files in os.walk(at)):
             return f"{function} has a file in proofs/, so a control is needed in tests/controls"
-    elif not fault_of_texts(crate, *control) and (bug[0], its[0]) != (control[0], its[1]):
+    elif not fault_of_texts(crate, control) and (bug[0], its[0]) != (control[0], its[1]):
         return f"its control is not of the same function, {function} in {bug[0]}"
     return None
 
@@ -121,12 +146,13 @@ def look_at(crate):
     *found, controls = map(edits_in, folders)
     bugs = {}
     for folder, edits in zip(folders, (*found, controls)):
-        for name, (file, pairs) in edits.items():
+        for name, edit in edits.items():
             place = f"{folder}/{name}.edit"
             fault = None
-            if not re.fullmatch(r"file: .+\n(old: .+\nnew:( .*)?(\n|$))+", read(f"{TOP}/{place}")):
+            if not re.fullmatch(r"file: .+\n(in: .+\n)?(old: .+\nnew:( .*)?(\n|$))+",
+                                read(f"{TOP}/{place}")):
                 fault = "it is not a line 'file: ' and then pairs of lines 'old: ' and 'new: '"
-            fault = fault or fault_of_texts(crate, file, pairs)
+            fault = fault or fault_of_texts(crate, edit) or fault_of_function(crate, edit)
             if fault:
                 pass
             elif edits is controls:
@@ -134,7 +160,7 @@ def look_at(crate):
             elif name in bugs:
                 fault = "a planted bug of the gate has this name"
             else:
-                fault = fault_of_control(crate, (file, pairs), controls.get(name))
+                fault = fault_of_control(crate, edit, controls.get(name))
             yield place, fault
         bugs.update(edits)
 
@@ -155,7 +181,7 @@ def look_at_folders(crates):
 def texts_with(folder, controls):
     """The texts of the files that these edits change, or None where one cannot be applied."""
     texts = {}
-    for file, pairs in controls:
+    for file, pairs, _ in controls:
         for old, new in pairs:
             text = texts.get(file) or read(f"{folder}/{file}")
             if text.count(old) != 1:

@@ -25,7 +25,7 @@ import sys
 import tempfile
 
 sys.dont_write_bytecode = True
-from edits import TOP, edits_in, path_of, texts_with  # noqa: E402
+from edits import TOP, edits_in, paths_of, texts_with  # noqa: E402
 from crates import compiler, lines_of, listed, tasks  # noqa: E402
 from programs import ran, sum_up  # noqa: E402
 
@@ -43,8 +43,8 @@ def rounds(crate, edits):
     """The names of a crate's edits, each with the paths of its functions, in as few lists as serve:
     in a list no two are in one function. One that is in no function is alone."""
     found = []
-    for name, (file, pairs) in edits.items():
-        paths = {path_of(crate, file, old) for old, _ in pairs}
+    for name, edit in edits.items():
+        paths = paths_of(crate, edit)
         for one in found:
             if "" not in paths and not any("" in its or paths & its for its in one.values()):
                 one[name] = paths
