@@ -265,7 +265,7 @@ holds("and is the same", same(work / "release", release))
 write(made, "proved 1\n")
 checked("where rt ci has run, the library and the module are made and compared", 16)
 holds("with no call of rt", well(0))
-refused("but not where checks have left other libraries", "run that first", "--check",
+refused("but not where checks have left other libraries", "run ./gate", "--check",
         files={"crates/low/out/rlib/stamp": ""})
 LIST = {"RELEASE_COMPILED": str(work / "list")}
 for crate, counts in ("stab_c", "1 passed, 0 failed"), ("stab_cli", "0 passed, 0 failed"), (
@@ -274,6 +274,7 @@ for crate, counts in ("stab_c", "1 passed, 0 failed"), ("stab_cli", "0 passed, 0
           run("--compile", crate, **LIST).last == counts and house.ended.status == 0)
 holds("but not what is not proved", run("--compile", "rignolda_settings_c", NOT_PROVED="1",
                                         **LIST).last == "0 passed, 1 failed")
+refused("or nothing is made of", "nothing of a crate low", "--compile", "low")
 write(work / "compiled")
 checked("which the check then takes", 16, **LIST)
 holds("with what it has to compile itself",
@@ -281,6 +282,11 @@ holds("with what it has to compile itself",
 write("crates/stab_c/out/librignolda.a", "another\n")
 checked("and compares", 15, LIBRARY, **LIST)
 checked("where it was not in this run, it is compiled once more", 16)
+write("crates/stab_c/out/librignolda.a", "a library\n")
+write(work / "compiled")
+checked("and where it was of other sources", 14, LIBRARY_SOURCES, LIBRARY, **LIST,
+        files=more("crates/stab_c/src/lib.rt"))
+holds("(it alone)", house.read("compiled").count("--crate-name stab_c ") == 1)
 checked("others than those of the release fail", 13, LIBRARY, SETTINGS, MODULE, OTHER="1")
 checked("and so do those that are not proved", 13, LIBRARY, SETTINGS, MODULE, NOT_PROVED="1")
 SPOILED = more("release/librignolda.a")

@@ -102,12 +102,16 @@ def paths_of(crate, edit):
 
 def fault_of_function(crate, edit):
     """What is wrong with the function that an edit names, if it names one, or None."""
-    place, _, name = edit.function.rpartition("::")
+    if not edit.function:
+        return None
+    path, (place, _, name) = edit.function.replace("::", "/"), edit.function.rpartition("::")
     source = read(f"{TOP}/crates/{crate}/src/{place.replace('::', '/')}.rt")
-    if edit.function and not re.search(rf"^(pub )?fn {name}\b", source, re.M):
+    if not re.search(rf"^(pub(\(\w+\))? )?(const )?fn {re.escape(name)}\b", source, re.M):
         return f"there is no function {edit.function}"
-    if edit.function and any(path_of(crate, edit.file, old) for old, _ in edit.pairs):
+    if any(path_of(crate, edit.file, old) for old, _ in edit.pairs):
         return "it names a function, and is in one"
+    if os.path.isdir(f"{TOP}/crates/{crate}/proofs/{path}"):
+        return "the function that it names has a file in proofs/, and it can have no control"
     return None
 
 

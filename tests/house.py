@@ -82,7 +82,7 @@ cp "$5" "$2"
 [ -z "${IDENTIFIED-}" ] || printf "$(printf %s "${identifier%% *}" | sed 's/../\\\\x&/g')" >>"$2" """
 
 # What could change what a script does.
-UNSET = ("CDPATH", "TMPDIR", "RT_JOBS", "RT_BACKEND")
+UNSET = ("CDPATH", "TMPDIR", "RT_JOBS", "RT_BACKEND", "RELEASE_COMPILED")
 
 
 def digest(data):

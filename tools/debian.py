@@ -30,7 +30,8 @@ LOADED = "libc6", "libgcc-s1", "libssl3"
 
 
 def install(*packages):
-    """Installs packages on this system, where that may be. Services of theirs are not started."""
+    """Installs packages on this system, where that may be. Where there is no systemd, services of
+    theirs are not started."""
     words = ["apt-get", "-q", "-y", "-o", "DPkg::Lock::Timeout=300", "--no-install-recommends",
              "install", *packages]
     env = {**os.environ, "DEBIAN_FRONTEND": "noninteractive", "RUNLEVEL": "1"}

@@ -28,8 +28,8 @@ is no such C library here, or another one, --check compares that object. The pro
 are made by tools/build_daemon --keep; --check sees that they and their sources are those of their
 lines. What was built is kept in out/, under names with its digest, that of its sources and the kit,
 and a build takes what rt ci has passed before on this machine, where it need not begin from
-nothing and the kit keeps that. Where RELEASE_COMPILED names a file, this is the list of what was compiled in this run of
-the gate, which is not compiled once more. It needs Python 3.8.
+nothing and the kit keeps that. Where RELEASE_COMPILED names a file, this is the list of what was
+compiled in this run of the gate, which is not compiled once more. It needs Python 3.8.
 """
 import contextlib
 import fcntl
@@ -66,7 +66,7 @@ ARM64 = "arm64/"
 # In the place of clang: keeps the module that it is given, and then becomes clang.
 KEEPER = """#!/bin/sh
 for word; do
-    case $word in *.bc) cp -- "$word" '{module}' ;; esac
+    case $word in *.bc) cp -- "$word" '{module}' || exit 1 ;; esac
 done
 exec '{clang}' "$@"
 """
@@ -208,21 +208,26 @@ class Release(Commands):
         if kind != "program":
             words += ["--crate-type", "staticlib"]
         source = "src/main.rt" if kind == "program" else "src/lib.rt"
-        if any((tree / f"crates/{it}/out/rlib/stamp").is_file() for it in below(crate, listed())):
-            self.fail("checks have left other libraries here than rt ci does: run that first")
-        out.mkdir(exist_ok=True)
+        # (of these sources, in this file)
+        line, module = f"{self.artefacts[name].sources} {to}", Path(f"{to}.bc")
+        for it in KEPT, out:
+            it.mkdir(mode=0o755, exist_ok=True)
         with open(out / "compiled.lock", "a", encoding="utf-8") as lock, \
                 tempfile.TemporaryDirectory() as room:
             fcntl.flock(lock, fcntl.LOCK_EX)
-            if str(to) in read(COMPILED).splitlines():
+            if line in read(COMPILED).splitlines():
                 return to
-            to.unlink(missing_ok=True)
-            tools = self.keeps(f"{to}.bc", Path(room)) if kind == "library" else None
+            if any((tree / f"crates/{it}/out/rlib/stamp").is_file()
+                   for it in below(crate, listed())[:-1]):
+                self.fail("checks have left other libraries here than rt ci does: run ./gate")
+            for it in to, module:
+                it.unlink(missing_ok=True)
+            tools = self.keeps(module, Path(room)) if kind == "library" else None
             if not self.compile(tree, crate, source, to, *words, tools=tools) or not to.is_file():
                 return None
             if COMPILED:
                 with open(COMPILED, "a", encoding="utf-8") as them:
-                    them.write(f"{to}\n")
+                    them.write(f"{line}\n")
         return to
 
     def keeps(self, module, room):
@@ -292,10 +297,19 @@ class Release(Commands):
     def compile_of(self, crate):
         """Compiles the artefacts of a crate that rt ci makes no file of."""
         cases = Cases()
+        if crate not in (it.crate for it in self.artefacts.values()):
+            self.fail(f"the release has nothing of a crate {crate}")
         for name, it in self.artefacts.items():
             if it.crate == crate and (it.kind != "program" or name.startswith(ARM64)):
-                cases.holds(f"{name} is compiled", self.compile_own(TOP, name), f"see {LOG}")
+                cases.holds(f"{name} is compiled", self.is_kept(name)
+                            or self.compile_own(TOP, name), f"see {LOG}")
         return cases.sum_up()
+
+    def is_kept(self, name):
+        """Whether the file of the release was built here before of these sources, which counts for
+        arm64, where that takes minutes."""
+        kept = name.startswith(ARM64) and self.artefacts[name].built
+        return bool(kept) and Path(kept).read_bytes() == self.contents(name)[0]
 
     def build_in_copy(self, is_anew):
         """Proves and builds the artefacts, as the gate does, in a copy of the sources: each crate
@@ -362,7 +376,7 @@ class Release(Commands):
         """Makes the folder of what is kept, if there is none, with an empty log. Answers whether
         what lies there can only be of this user or of root."""
         is_own = subprocess.call(["bash", "-c", '. "$0/tools/launch"; make_kept', TOP]) == 0
-        if is_own:
+        if is_own and not COMPILED:
             LOG.write_text("")
         return is_own
 
@@ -533,10 +547,8 @@ class Release(Commands):
                    "it is another one, or spoiled")
             if name in self.daemon:
                 continue
-            # (a file for arm64 takes minutes: what was built before of these sources counts)
-            kept = name.startswith(ARM64) and self.artefacts[name].built
             data = self.contents(name)[0]
-            made = (Path(kept) if kept and Path(kept).read_bytes() == data else
+            made = (Path(self.artefacts[name].built) if self.is_kept(name) else
                     self.make_after_ci(TOP, name))
             what, is_same = "the file is", bool(made) and data == made.read_bytes()
             if name in self.objects and self.is_of_another_library(name):

@@ -57,7 +57,7 @@ def lacking(needs):
     if callable(needs):
         return needs()
     if not shutil.which(needs):
-        debian.install("gcc" if needs == "cc" else needs)
+        debian.install(*(["gcc", "libc6-dev"] if needs == "cc" else [needs]))
     return None if shutil.which(needs) else f"there is no {needs}"
 
 
