@@ -7,6 +7,8 @@ another machine, is unpacked in out/debian-ARCHITECTURE, where nothing of the sy
         the folder; what is there already stays
     tools/debian.py --needed ARCHITECTURE PACKAGE..
         the same, with those that they depend on and that are not installed here
+    tools/debian.py --install PACKAGE..
+        installs these; the status is 1 where that may not be
 
 apt-get fetches them by what this machine's lists of sources name, with a state of its own in out/
 where the architecture is another one. To unpack them needs no rights.
@@ -30,15 +32,16 @@ LOADED = "libc6", "libgcc-s1", "libssl3"
 
 
 def install(*packages):
-    """Installs packages on this system, where that may be. Where there is no systemd, services of
-    theirs are not started."""
+    """Installs packages on this system, where that may be, and answers whether it has. Where there
+    is no systemd, services of theirs are not started."""
     words = ["apt-get", "-q", "-y", "-o", "DPkg::Lock::Timeout=300", "--no-install-recommends",
              "install", *packages]
     env = {**os.environ, "DEBIAN_FRONTEND": "noninteractive", "RUNLEVEL": "1"}
-    if packages and os.getuid() == 0 and shutil.which("apt-get") and ran(*words, env=env)[0]:
-        # (a fresh machine has no list of packages yet)
-        ran("apt-get", "-q", "update", env=env)
-        ran(*words, env=env)
+    if os.getuid() or not shutil.which("apt-get"):
+        return False
+    # (a fresh machine has no list of packages yet)
+    return not packages or ran(*words, env=env)[0] == 0 or (
+        ran("apt-get", "-q", "update", env=env)[0] == 0 and ran(*words, env=env)[0] == 0)
 
 
 def own_state(architecture, room):
@@ -116,6 +119,8 @@ def runs_arm64(has_loaded=False):
 
 
 def main(words):
+    if words[:1] == ["--install"]:
+        sys.exit(not install(*words[1:]))
     with_needed = words[:1] == ["--needed"]
     words = words[with_needed:]
     if len(words) < 2 or words[0] not in ("amd64", "arm64"):

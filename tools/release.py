@@ -190,7 +190,9 @@ class Release(Commands):
     def compile(self, tree, crate, source, to, *words, tools=None):
         """Has the compiler prove and compile a crate over what rt ci has left of the libraries
         below it: the first file, the file to make, and what else the compiler is to be told."""
-        whole = [*compiler("build", crate, source, tree), "--jobs", "2", "-o", str(to), *words]
+        # (beside rt ci no processor is free for a second job)
+        jobs = "1" if COMPILED else "2"
+        whole = [*compiler("build", crate, source, tree), "--jobs", jobs, "-o", str(to), *words]
         if tools:
             whole[whole.index("--toolchain") + 1] = tools
         return self.does(whole, f"{tree}/crates/{crate}")
