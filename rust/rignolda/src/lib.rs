@@ -56,8 +56,8 @@
 //! # When nothing comes
 //!
 //! Whatever bits a [`Session`] of a [`Child`] and of a [`Node`] hold, and whatever is under way,
-//! items arrive again where connections are made again and each end does what stands here. A sound
-//! end is never led to what begins a new count (*).
+//! items arrive again where connections are made again and each end does what stands here. No
+//! sound end is led to what begins a new count (*), but a sender whose child is left behind.
 //!
 //! | An end sees | It calls |
 //! |---|---|

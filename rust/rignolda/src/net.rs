@@ -11,25 +11,30 @@
 //!   who is waited for, and what is sent when. Its caller has the sockets, certificates and clocks.
 //! - [`parents`] is by what rule an agent chooses its parent.
 //! - A [`Store`] is where a link may lie in place of a connection.
+//! - [`Turns`] say whose work is done next, where anybody may bring it.
 //! - A server of [`serve`] answers those who watch an agent or tell it what to do.
 //!
 //! Each step of a link is a call that is proved. That a body lies beside its item, and all that is
 //! done about connections and stores, is tested alone.
 mod address;
 mod error;
+mod origin;
 pub mod parents;
 mod peers;
 mod relay;
 #[cfg(unix)]
 pub mod serve;
 mod store;
+mod turns;
 pub mod wire;
 
 pub use address::{Address, AddressError};
+pub use origin::{Origin, Shown};
 pub use parents::{ParentError, Parents, Way};
 pub use peers::{Call, ChildError, Children, Fault, Handler, Line, Parent, Peers, Setup, Whom};
 pub use relay::{Came, Link, Relay};
 pub use store::{Store, Turn, Worker, LOST};
+pub use turns::Turns;
 
 /// The longest body, in bytes.
 pub const BODY_BYTES: usize = 16 << 20;

@@ -166,7 +166,8 @@ impl Node {
     pub fn forget<'a>(&mut self, children: impl IntoIterator<Item = &'a Child>) {
         let mut place = self.raw.length;
         for child in children {
-            if self.has(child) {
+            // (the call is not told what the list has room for)
+            if !self.left_behind(child) {
                 // SAFETY: the call only reads.
                 place = unsafe { calls::rignolda_child_needs(&self.raw, &child.raw, place) };
             }

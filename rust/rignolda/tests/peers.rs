@@ -1,6 +1,6 @@
 //! Agents over lines in memory: who connects to whom, what is said first, and who is taken.
 use rignolda::net::wire::{self, Expect, Hello, Message, FIRST, OLD, VERSION};
-use rignolda::net::{Body, ChildError, Children, Line, Parent, Peers, Setup, Way};
+use rignolda::net::{Body, ChildError, Children, Line, Origin, Parent, Peers, Setup, Way};
 use std::cell::RefCell;
 use std::collections::{BTreeMap, VecDeque};
 use std::io::{self, Error, ErrorKind, Read, Write};
@@ -25,6 +25,7 @@ struct Pipe {
 /// An end of a line in memory. It knows the name in the other end's certificate.
 struct End {
     other: String,
+    origin: Origin,
     from: Rc<RefCell<Pipe>>,
     to: Rc<RefCell<Pipe>>,
 }
@@ -34,6 +35,7 @@ fn line(one: &str, two: &str) -> (End, End) {
     let (down, up) = (Rc::default(), Rc::default());
     let first = End {
         other: two.into(),
+        origin: Origin::Here,
         from: Rc::clone(&up),
         to: Rc::clone(&down),
     };
@@ -41,6 +43,7 @@ fn line(one: &str, two: &str) -> (End, End) {
         first,
         End {
             other: one.into(),
+            origin: Origin::Here,
             from: down,
             to: up,
         },
@@ -85,6 +88,10 @@ impl Drop for End {
 impl Line for End {
     fn may_be(&self, name: &str) -> bool {
         self.other == name
+    }
+
+    fn origin(&self) -> Origin {
+        self.origin
     }
 }
 
@@ -224,8 +231,14 @@ impl Net {
     /// A stranger with a certificate of this name connects to an agent, and says these bytes: the
     /// end that the stranger has.
     fn stranger(&mut self, to: &str, certificate: &str, says: &[u8]) -> End {
+        self.stranger_at(Origin::Here, to, certificate, says)
+    }
+
+    /// The same, from there.
+    fn stranger_at(&mut self, at: Origin, to: &str, certificate: &str, says: &[u8]) -> End {
         let (now, agent) = (self.now, self.agent(to));
-        let (here, there) = line(certificate, to);
+        let (here, mut there) = line(certificate, to);
+        there.origin = at;
         agent.peers.accept(there, now, &mut agent.said);
         here.to.borrow_mut().bytes.extend(says);
         here
@@ -493,6 +506,61 @@ fn slow_hellos_and_too_many_are_dropped() {
     assert_eq!(closed(&ends), 71);
     ends.clear();
     assert_eq!(net.agent("root").peers.refused(), 71);
+}
+
+/// The first parent says that it is a root, and nothing else.
+#[test]
+fn a_parent_that_brings_no_table_is_left_for_one_that_does() {
+    let a = || children(&[("a", false)]);
+    let to = |name| parent(name, Some(name));
+    for parents in [vec![to("mute"), to("root")], vec![to("mute")]] {
+        let is_alone = parents.len() == 1;
+        let mut net = Net::new(vec![
+            setup("mute", vec![], a()),
+            setup("root", vec![], a()),
+            setup("a", parents, children(&[])),
+        ]);
+        let is_below = |net: &mut Net, name: &str| {
+            let parent = net.agent("a").peers.parent();
+            parent.map_or(false, |it| it.0.name.as_deref() == Some(name))
+        };
+        let (mut below, seconds) = ([0, 0], if is_alone { 150 } else { 1_000 });
+        for second in 0..seconds {
+            net.publish("root", &format!("T{second}"));
+            net.steps(CHECKS as usize);
+            below[0] += u64::from(is_below(&mut net, "mute"));
+            below[1] += u64::from(is_below(&mut net, "root"));
+            // (while it had no other one it stays with what it has)
+            assert!(below[0] + below[1] + 5 > second, "{below:?} of {second}");
+        }
+        assert!(net.said("a", "parent mute brought no whole table for"));
+        if is_alone {
+            assert_eq!(below[1], 0);
+        } else {
+            assert!(below[0] < 300, "{below:?}");
+            assert!(net.agent("a").said.items.len() > 700, "{below:?}");
+        }
+    }
+}
+
+#[test]
+fn those_of_one_origin_drive_out_each_other_and_nobody_else() {
+    let mut net = path([false, false]);
+    net.agents.remove("a");
+    let (many, few) = (Origin::V4([127, 0, 0, 9]), Origin::V4([127, 0, 0, 1]));
+    let mut child = net.stranger_at(few, "root", "a", b"");
+    // (each of these says half a hello, or nothing, in less time than a hello may take)
+    let says = |at: usize| if at % 2 == 0 { &b"RGN"[..] } else { b"" };
+    let mut others: Vec<End> = Vec::new();
+    for at in 0..500 {
+        others.push(net.stranger_at(many, "root", "a", says(at)));
+        net.steps(usize::from(at % 20 == 0));
+    }
+    child.write_all(&hello("a", "root")).unwrap();
+    net.steps(10);
+    assert!(net.said("root", "connected a"));
+    let closed = |it: &&End| it.from.borrow().closed;
+    assert!(others.iter().filter(closed).count() >= 400);
 }
 
 #[test]

@@ -38,6 +38,8 @@ impl Line for Socket {
 struct Came {
     items: Vec<Arc<Body>>,
     facts: Vec<String>,
+    /// How many bytes it was to make.
+    made: usize,
 }
 
 /// Here any function will do that tells bodies apart.
@@ -60,7 +62,9 @@ impl Handler for Came {
     }
 
     fn make(&mut self, head: &[u8; wire::HEAD_BYTES], since: &[&Body]) -> Option<Arc<Body>> {
-        table_of(head, since)
+        let table = table_of(head, since);
+        self.made += table.as_ref().map_or(0, |it| it.bytes.len());
+        table
     }
 
     fn on_report(&mut self, _: &str, _: &[u8], _: Instant) -> bool {
@@ -342,6 +346,34 @@ fn a_child_makes_what_it_has_and_asks_for_what_it_has_not() {
     assert_eq!(agent.came.items.last(), Some(&table(5, b"4")));
     sent(&mut agent, &mut end, &by_reference(table(6, b"4")), true);
     assert_eq!(agent.came.items.len(), 6);
+}
+
+#[test]
+fn a_parent_that_refers_without_end_has_little_made() {
+    let (mut agent, mut end, _) = child(Hello::range(FIRST..=9));
+    let long = vec![b'y'; 1 << 20];
+    let table = |number| {
+        let all = (0..9).map(|at| (["a", "b", "c", "d", "e", "f", "g", "h", "i"][at], &long[..]));
+        let all = all.map(|(key, value)| (key, Some(value)));
+        Body::new(number, &Meaning::Table(all.collect()))
+    };
+    let bytes = whole(1, &table(1));
+    for part in bytes.chunks(1 << 16) {
+        end.says(&mut agent, part);
+    }
+    assert_eq!(end.next(Expect::Acks), Some(Message::Ack(1)));
+    // (a wrong one costs as much to make as a right one)
+    let mut wrong = referred(&table(2));
+    wrong.digest[0] ^= 1;
+    for label in 2..200 {
+        end.says(&mut agent, &wire::reference(label, &wrong));
+        assert!(matches!(end.next(Expect::Acks), Some(Message::Lacks(it)) if it == label));
+    }
+    assert!(agent.came.made < 64 << 20, "{}", agent.came.made);
+    // (later what it refers to is made again)
+    agent.now += Duration::from_secs(3);
+    end.says(&mut agent, &wire::reference(200, &referred(&table(2))));
+    assert_eq!(end.next(Expect::Acks), Some(Message::Ack(200)));
 }
 
 #[test]

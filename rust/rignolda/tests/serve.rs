@@ -22,7 +22,7 @@ fn server(name: &str) -> (Server<u8, UnixListener>, UnixStream) {
         .set_read_timeout(Some(Duration::from_secs(9)))
         .unwrap();
     (
-        Server::new(listener, 8, IDLE, |bytes| Some((*bytes.first()?, 1))),
+        Server::new(listener, 8, IDLE, |bytes, _| Some((*bytes.first()?, 1))),
         client,
     )
 }
@@ -55,6 +55,38 @@ fn requests_that_come_together_are_answered_one_after_the_other() {
     let mut answers = String::new();
     client.read_to_string(&mut answers).unwrap();
     assert_eq!(answers, "abc");
+}
+
+#[test]
+fn what_was_looked_at_is_not_looked_at_again() {
+    let path = std::env::temp_dir().join(format!("rignolda-once-{}", std::process::id()));
+    let _ = std::fs::remove_file(&path);
+    let listener = UnixListener::bind(&path).unwrap();
+    listener.set_nonblocking(true).unwrap();
+    // (a request ends with a point, and is how many bytes were looked at for it last)
+    let mut server = Server::new(listener, 1 << 20, IDLE, |bytes, seen| {
+        let end = bytes[seen..].iter().position(|byte| *byte == b'.')?;
+        Some((bytes.len() - seen, seen + end + 1))
+    });
+    let mut client = UnixStream::connect(&path).unwrap();
+    std::fs::remove_file(&path).unwrap();
+    let ready = |server: &mut Server<usize, UnixListener>| -> Vec<(Ticket, usize)> {
+        let fired: HashSet<_> = server.descriptors().map(|(fd, ..)| fd).collect();
+        server.ready(&fired, Instant::now())
+    };
+    client.write_all(&[b'x'; 10_000]).unwrap();
+    assert!(ready(&mut server).is_empty());
+    for _ in 0..100 {
+        client.write_all(b"y").unwrap();
+        assert!(ready(&mut server).is_empty());
+    }
+    client.write_all(b"..").unwrap();
+    let asked = ready(&mut server);
+    assert_eq!(asked.iter().map(|it| it.1).collect::<Vec<_>>(), [2]);
+    // (of what follows, everything)
+    server.answer(asked[0].0, b"!");
+    let asked = ready(&mut server);
+    assert_eq!(asked.iter().map(|it| it.1).collect::<Vec<_>>(), [1]);
 }
 
 #[test]
@@ -95,7 +127,7 @@ fn clients_without_a_request_keep_no_other_out() {
     let listener = UnixListener::bind(&path).unwrap();
     listener.set_nonblocking(true).unwrap();
     let mut server: Server<u8, _> =
-        Server::new(listener, 8, IDLE, |bytes| Some((*bytes.first()?, 1)));
+        Server::new(listener, 8, IDLE, |bytes, _| Some((*bytes.first()?, 1)));
     let begun = Instant::now();
     let at = |milliseconds| begun + Duration::from_millis(milliseconds);
     let mut idle: Vec<UnixStream> = Vec::new();

@@ -384,7 +384,7 @@ fn items_travel_through_a_store() {
     );
     assert_eq!(root.relay().least_backlog(), Some(0));
     assert_eq!(net.agents["b"].peers.parent().unwrap().0.to_string(), "a");
-    // (what is for watching alone comes up beside it)
+    // (a report comes up beside it)
     assert!(net.report("b", b"well"));
     assert!(!net.report("root", b"well"));
     net.steps(50);

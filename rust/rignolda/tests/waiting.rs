@@ -272,3 +272,25 @@ fn a_file_has_the_value_that_counts() {
         (8, 9, &b"2"[..])
     );
 }
+
+/// What a hook is told of a key that is unset is the number of that change.
+#[test]
+fn a_key_that_is_unset_behind_a_table_has_its_own_number() {
+    for (own, groups) in [("a..eu", &["eu"][..]), ("a..us", &["eu"]), ("a", &[])] {
+        let mut waiting = Waiting::default();
+        waiting.take(7, &Meaning::Table(entries(&[(own, "1"), ("b", "2")])));
+        waiting.take(8, &Meaning::Changes(entries(&[("b", "3")])));
+        waiting.take(9, &Meaning::Changes(entries(&[(own, "-")])));
+        let groups: Vec<String> = groups.iter().map(|it| it.to_string()).collect();
+        let (mut files, _) = waiting.of_groups(&groups);
+        files.unset_others(["a", "gone"].map(String::from));
+        let numbers: Vec<_> = files
+            .in_order()
+            .into_iter()
+            .map(|(key, it)| (key, it.value.is_some(), it.last))
+            .collect();
+        let of = |key: &str, is_set, number| (key.to_string(), is_set, number);
+        let expected = [of("gone", false, 7), of("b", true, 8), of("a", false, 9)];
+        assert_eq!(numbers, expected, "{own}");
+    }
+}

@@ -1,6 +1,8 @@
 //! The connections of an agent: who connects to whom, what is said first, and who is waited for.
+use super::origin::one_too_many;
 use super::parents::{Parents, Way, BEAT, NONE, SILENCE};
 use super::{Body, Relay};
+use budget::Budget;
 use connection::{travels, Conn, State};
 use dials::Dial;
 use handler::{fact, Context};
@@ -10,7 +12,9 @@ use std::collections::{BTreeMap, BTreeSet};
 use std::sync::Arc;
 use std::time::{Duration, Instant};
 use std::{fmt, mem};
+use still::Still;
 
+mod budget;
 mod bytes;
 mod connection;
 mod dials;
@@ -20,6 +24,7 @@ mod hellos;
 mod messages;
 mod setup;
 mod shown;
+mod still;
 mod words;
 
 pub use connection::Line;
@@ -70,6 +75,8 @@ pub struct Peers<L, A> {
     above_life: Option<u64>,
     /// Which parent was told a life last, and how often it was another one than before.
     told: (Option<String>, u64),
+    /// Whether the parent brings tables.
+    still: Still,
     reconnects: u64,
     refused: u64,
     said_refused: Option<Instant>,
@@ -85,6 +92,8 @@ pub struct Peers<L, A> {
     says_again: bool,
     /// The digest of the last whole table, once it was asked for.
     digest: Option<(Arc<Body>, [u8; 32])>,
+    /// How much may be done now to make what a parent refers to.
+    makes: Budget,
     /// Where what is read comes first; and the address of that, with each bit turned.
     space: Box<[u8]>,
     not_at: usize,
@@ -103,7 +112,6 @@ impl<L, A: fmt::Debug> fmt::Debug for Peers<L, A> {
 }
 
 impl<L: Line, A: Clone + PartialEq + fmt::Display> Peers<L, A> {
-    /// An agent without connections. `life`: a number that the process drew when it began; `room`:
     /// An agent without connections. `life`: a number that the process drew when it began; `room`:
     /// how many items its list has room for.
     pub fn new(setup: Setup<A>, life: u64, room: u64, now: Instant) -> Peers<L, A> {
@@ -130,6 +138,7 @@ impl<L: Line, A: Clone + PartialEq + fmt::Display> Peers<L, A> {
             above: None,
             above_life: None,
             told: (None, 0),
+            still: Still::new(now),
             reconnects: 0,
             refused: 0,
             said_refused: None,
@@ -140,6 +149,7 @@ impl<L: Line, A: Clone + PartialEq + fmt::Display> Peers<L, A> {
             beat: now + BEAT,
             says_again: false,
             digest: None,
+            makes: Budget::new(now),
             space: Box::default(),
             not_at: 0,
         };
@@ -171,6 +181,7 @@ impl<L: Line, A: Clone + PartialEq + fmt::Display> Peers<L, A> {
             let here = old.parents.get(self.parents.at()).map(who);
             let at = parents.iter().position(|it| Some(who(it)) == here);
             self.parents.set(self.setup.prices(), at);
+            self.still.begins_anew(self.parents.at());
             // (a look is at a place of the list)
             let is_look =
                 |conn: &Conn<L>| matches!(conn.state, State::Looks(..) | State::Comes(..));
@@ -382,8 +393,8 @@ impl<L: Line, A: Clone + PartialEq + fmt::Display> Peers<L, A> {
         (self.waiting, self.not_waiting) = (most, !most);
     }
 
-    /// Takes a line that was accepted. Of those whose hello has not come, one too many drives the
-    /// oldest one out.
+    /// Takes a line that was accepted. Of those whose hello has not come, one too many drives out
+    /// the oldest of those of one [origin](Line::origin) of which there are the most.
     pub fn accept(&mut self, line: L, now: Instant, to: &mut dyn Handler) {
         let until = self.greets_until(now);
         self.open(line, State::Accepted, now, until);
@@ -392,7 +403,13 @@ impl<L: Line, A: Clone + PartialEq + fmt::Display> Peers<L, A> {
         let away = || children().filter(|link| !link.is_connected()).count();
         let most = self.waiting.min(GREETING);
         if greeting.len() > most && greeting.len() > self.waiting.min(GREETING + away()) {
-            self.close(greeting[0], "too many say no hello", now, to);
+            let all = greeting
+                .iter()
+                .filter_map(|id| Some((*id, self.conns.get(id)?)));
+            let all = all.map(|(id, it)| (id, it.line.origin(), (it.line.shown(), it.has_said)));
+            if let Some(id) = one_too_many(all) {
+                self.close(id, "too many say no hello", now, to);
+            }
         }
     }
 
@@ -401,8 +418,9 @@ impl<L: Line, A: Clone + PartialEq + fmt::Display> Peers<L, A> {
         now + self.setup.ack_timeout * (1 << self.late)
     }
 
-    fn open(&mut self, line: L, state: State, now: Instant, until: Instant) -> u64 {
+    fn open(&mut self, mut line: L, state: State, now: Instant, until: Instant) -> u64 {
         self.made += 1;
+        line.is_numbered(self.made);
         let conn = Conn::new(line, state, now, until);
         self.conns.insert(self.made, conn);
         self.touched.push(self.made);

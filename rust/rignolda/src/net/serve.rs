@@ -11,7 +11,7 @@
 //! let path = std::env::temp_dir().join(format!("rignolda-serve-{}", std::process::id()));
 //! let listener = UnixListener::bind(&path)?;
 //! listener.set_nonblocking(true)?;
-//! let parse = |bytes: &[u8]| Some((*bytes.first()?, 1));
+//! let parse = |bytes: &[u8], _| Some((*bytes.first()?, 1));
 //! let mut server = Server::new(listener, 8, Duration::from_secs(9), parse);
 //! let mut client = UnixStream::connect(&path)?;
 //! client.write_all(b"?")?;
@@ -72,13 +72,17 @@ static MADE: AtomicU64 = AtomicU64::new(1);
 #[derive(Clone, Copy, Debug, PartialEq, Eq)]
 pub struct Ticket(u64);
 
-/// Reads the first request of some bytes, and how many it took; nothing where more has to come.
-pub type Parse<T> = fn(&[u8]) -> Option<(T, usize)>;
+/// Reads the first request of some bytes, and how many it took; nothing where more has to come. Of
+/// the first ones, as many as it is told, it has said before that more has to come: so it need not
+/// look at these again.
+pub type Parse<T> = fn(&[u8], usize) -> Option<(T, usize)>;
 
 struct Client<S> {
     number: u64,
     socket: S,
     input: Vec<u8>,
+    /// How many bytes of it are known to be no whole request.
+    seen: usize,
     output: Vec<u8>,
     /// Whether a request of it waits for its answer. Then nothing more is read.
     asked: bool,
@@ -171,17 +175,29 @@ impl<T, L: Listener> Server<T, L> {
             }
             client.again = false;
             let goes_on = client.read(self.most);
-            let (request, taken) = match (self.parse)(&client.input) {
+            let (request, taken) = match (self.parse)(&client.input, client.seen) {
                 Some(request) => request,
-                None => return goes_on && client.input.len() < self.most,
+                None => {
+                    client.seen = client.input.len();
+                    return goes_on && client.input.len() < self.most;
+                }
             };
             client.input.drain(..taken);
+            client.seen = 0;
             client.asked = true;
             client.until = now + self.idle;
             requests.push((Ticket(client.number), request));
             true
         });
         requests
+    }
+
+    /// The connection of whoever asked for this, while it is there.
+    pub fn client(&self, ticket: Ticket) -> Option<&L::Socket> {
+        self.clients
+            .iter()
+            .find(|it| it.number == ticket.0)
+            .map(|it| &it.socket)
     }
 
     /// Answers a request.
@@ -225,6 +241,7 @@ impl<T, L: Listener> Server<T, L> {
                         number: MADE.fetch_add(1, Ordering::Relaxed),
                         socket,
                         input: Vec::new(),
+                        seen: 0,
                         output: Vec::new(),
                         asked: false,
                         // (it may have sent a request already)

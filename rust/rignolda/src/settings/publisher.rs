@@ -211,6 +211,11 @@ impl Publisher {
         self.next_body(limit).kind == b'T'
     }
 
+    /// The number of the next body, where one [waits](Publisher::waits).
+    pub fn next_number(&self, limit: u64) -> u64 {
+        self.next_body(limit).number
+    }
+
     fn next_body(&self, limit: u64) -> proved::NextBody {
         self.numbers
             .next(self.changed.len(), self.settings.len(), limit)

@@ -169,8 +169,11 @@ impl Waiting {
     pub fn of_groups(mut self, groups: &[String]) -> (Waiting, Waiting) {
         let (mut all, whole) = (Waiting::default(), self.whole);
         all.whole = whole;
-        // (what a whole table does not name is unset)
-        let is_said = |change: &Change| change.value.is_some() || whole.is_none();
+        // (what a whole table does not name is unset by it, and by its number; what came since has
+        // its own)
+        let is_since =
+            |change: &Change| whole.map_or(true, |(_, last)| is_newer(change.last, last));
+        let is_said = |change: &Change| change.value.is_some() || is_since(change);
         for (file, values) in self.take_grouped() {
             let counts = values.counting(&file, groups);
             if is_said(&counts) {
@@ -243,6 +246,16 @@ impl Waiting {
     /// Whether a change of this key waits.
     pub fn has(&self, key: &str) -> bool {
         self.changes.contains_key(key)
+    }
+
+    /// The value that a key is to have, where a change of it waits that sets it.
+    pub fn value(&self, key: &str) -> Option<&[u8]> {
+        self.changes.get(key)?.value.as_deref()
+    }
+
+    /// Whether something that waits sets a key.
+    pub fn sets(&self) -> bool {
+        self.changes.values().any(|change| change.value.is_some())
     }
 
     /// Takes out the change that has waited longest.

@@ -14,8 +14,8 @@ const UNREAD: usize = 16;
 const TURN_BYTES: usize = 1 << 20;
 /// The same in reads, each of which may bring little and take long.
 const TURN_READS: usize = 128;
-/// How many connections whose hello has not come are read in one turn: each may take as long as a
-/// handshake of TLS, and those that are established come first.
+/// How many connections whose hello has not come are read in one turn: those that are established
+/// come first.
 const TURN_GREETINGS: usize = 8;
 
 impl<L: Line, A: Clone + PartialEq + fmt::Display> Peers<L, A> {

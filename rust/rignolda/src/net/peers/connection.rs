@@ -2,7 +2,7 @@
 use super::{Result, Whom, READ_BYTES};
 use crate::net::parents::SILENCE;
 use crate::net::wire::{self, Expect, Hello, Message, WireError, FIRST, FRAME_HEAD, OLD};
-use crate::net::Body;
+use crate::net::{Body, Origin, Shown};
 use crate::Connection;
 use std::collections::VecDeque;
 use std::io::{ErrorKind, IoSlice, Read, Write};
@@ -30,6 +30,19 @@ pub trait Line: Read + Write {
     fn is_socket(&self) -> bool {
         false
     }
+
+    /// Where the other end is: of those whose hello has not come, each origin drives out its own.
+    fn origin(&self) -> Origin {
+        Origin::Here
+    }
+
+    /// How much the other end has shown of who it is, where the line knows that.
+    fn shown(&self) -> Shown {
+        Shown::Nothing
+    }
+
+    /// It has this number from now on, by which it is [read](super::Peers::read).
+    fn is_numbered(&mut self, _number: u64) {}
 }
 
 /// What a connection is for.

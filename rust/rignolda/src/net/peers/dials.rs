@@ -33,10 +33,17 @@ impl<L: Line, A: Clone + PartialEq + fmt::Display> Peers<L, A> {
             Whom::Candidate(at) => {
                 let above = self.above.and_then(|id| self.conns.get(&id));
                 let is_old = above.map_or(false, |it| it.is_old() && it.greeted().is_some());
-                !self.parents.looks_at(*at, is_old)
+                let is_left = self.parents.has_root() && self.still.is_barred(*at);
+                is_left || !(self.parents.looks_at(*at, is_old) || self.seeks(*at))
             }
         };
         !dial.under_way && !is_connected
+    }
+
+    /// Whether this candidate is looked at since the parent stands still.
+    fn seeks(&self, at: usize) -> bool {
+        let is_other = self.parents.has_root() && at != self.parents.at();
+        is_other && self.still.is()
     }
 
     pub(super) fn address(&self, whom: &Whom) -> Option<&A> {
@@ -220,6 +227,7 @@ impl<L: Line, A: Clone + PartialEq + fmt::Display> Peers<L, A> {
     /// Leaves the parent for the one at this place, and says so.
     pub(super) fn leave(&mut self, at: usize, cx: &mut Context<'_>) {
         let is_same = at == self.parents.at();
+        self.still.takes(at, cx.now);
         self.dial_with(&Whom::Parent, |dial| dial.under_way = false);
         if let Some(id) = self.above.take() {
             let conn = self.conns.get(&id).filter(|it| it.greeted().is_some());

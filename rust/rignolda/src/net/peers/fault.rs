@@ -58,7 +58,9 @@ impl<L: Line, A: Clone + PartialEq + fmt::Display> Peers<L, A> {
         to: &mut dyn Handler,
     ) -> Result<(), Fault> {
         self.mend(looks_up, now);
-        self.leave_who_takes_nothing(&mut Context { now, to });
+        let cx = &mut Context { now, to };
+        self.leave_who_takes_nothing(cx);
+        self.looks_at_tables(cx);
         self.fault().map_or(Ok(()), Err)
     }
 
@@ -128,6 +130,17 @@ impl<L: Line, A: Clone + PartialEq + fmt::Display> Peers<L, A> {
             fact!(cx, "left-behind", "{name}: {why}");
             self.leave_links(&name, why, cx);
             self.relay.begin_anew(&name, cx.now);
+        }
+    }
+
+    /// Where the parent begins to stand still, others are looked at, and it is said.
+    fn looks_at_tables(&mut self, cx: &mut Context<'_>) {
+        let (has_root, is_root) = (self.parents.has_root(), self.setup.is_root());
+        if self.still.passes(has_root && !is_root, cx.now) {
+            let idle = self.still.idle().as_secs();
+            if let Some((parent, _)) = self.parent() {
+                fact!(cx, "parent", "{parent} brought no whole table for {idle} s");
+            }
         }
     }
 

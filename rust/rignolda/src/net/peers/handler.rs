@@ -20,7 +20,8 @@ pub trait Handler {
     fn make(&mut self, _head: &[u8; HEAD_BYTES], _since: &[&Body]) -> Option<Arc<Body>> {
         None
     }
-    /// A child says this for watching alone. Whether it makes sense; else its connection is closed.
+    /// A child reports this: what there is to watch, and the numbers above which a root goes on.
+    /// Whether it makes sense; else its connection is closed.
     fn on_report(&mut self, child: &str, report: &[u8], now: Instant) -> bool;
     /// A child is one no longer: what it said may be forgotten.
     fn on_gone(&mut self, child: &str);

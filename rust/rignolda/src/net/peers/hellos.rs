@@ -239,7 +239,14 @@ impl<L: Line, A: Clone + PartialEq + fmt::Display> Peers<L, A> {
 
     /// Whether a candidate that says this is to be taken now; else why not.
     pub(super) fn looked(&mut self, at: usize, way: &Way) -> Result {
-        let looked = self.parents.looked(at, way);
+        let is_other = self.parents.has_root() && at != self.parents.at();
+        if is_other && self.still.is_barred(at) {
+            return Err("it brought no table for long".into());
+        }
+        let looked = match is_other && self.still.is() {
+            true => self.parents.replaces(at, way),
+            false => self.parents.looked(at, way),
+        };
         looked.map_err(|why| why.to_string())
     }
 
@@ -284,6 +291,7 @@ impl<L: Line, A: Clone + PartialEq + fmt::Display> Peers<L, A> {
         Hello { life, from, .. }: &Hello,
         cx: &mut Context<'_>,
     ) {
+        self.still.takes(self.parents.at(), cx.now);
         let anew = self.above_life.replace(*life) != Some(*life);
         self.reconnects += 1;
         fact!(cx, "connected", "the parent {from}{}", count(anew));

@@ -11,6 +11,8 @@ use std::{fmt, mem};
 
 /// How many times faster than it travels a body is made anew by whoever has all that is in it.
 const MAKES: u32 = 16;
+/// What it costs to look at a body, beside its bytes, as so many of them.
+const EACH_BODY: u64 = 256;
 /// A table that has not more bytes goes whole.
 const SHORT_TABLE: usize = 64;
 /// Up to this length a body is copied behind its head: where a line takes both at once, since that
@@ -110,9 +112,15 @@ impl<L: Line, A: Clone + PartialEq + fmt::Display> Peers<L, A> {
         self.acknowledge(id);
     }
 
-    /// The body that a parent refers to, if it can be made here.
+    /// The body that a parent refers to, if it can be made here, and not too much was made of late:
+    /// a few bytes of a parent can cost as much as the longest body.
     pub(super) fn made(&mut self, it: &Reference, cx: &mut Context<'_>) -> Option<Arc<Body>> {
         let since: Vec<&Body> = self.relay.since_last_table().map(Arc::as_ref).collect();
+        let looked_at = since.iter().map(|it| it.bytes.len() as u64 + EACH_BODY);
+        let cost = looked_at.sum::<u64>() + u64::from(it.length);
+        if !self.makes.takes(cost, cx.now) {
+            return None;
+        }
         let body = cx.to.make(&it.head, &since)?;
         let digest = cx.to.digest(&body)?;
         let is_it = digest == it.digest && body.item == it.item;
@@ -146,6 +154,7 @@ impl<L: Line, A: Clone + PartialEq + fmt::Display> Peers<L, A> {
         }
         if came.is_fresh && cx.to.on_item(body, cx.now) {
             self.relay.last_is_a_table();
+            self.still.brings();
             self.says_again = true;
         }
         // (what is sent changes none of them)
@@ -156,7 +165,7 @@ impl<L: Line, A: Clone + PartialEq + fmt::Display> Peers<L, A> {
         self.children = children;
     }
 
-    /// Says this to the parent, for watching alone: whether there is one that takes it now.
+    /// Says this report to the parent: whether there is one that takes it now.
     pub fn report(&mut self, report: &[u8]) -> bool {
         let words = self.words.get_mut(&Whom::Parent);
         if let Some(words) = words.filter(|words| words.since.is_some()) {

@@ -2,8 +2,8 @@
 //!
 //! Of each link the parent alone sets `PARENT:CHILD:down`, a hello and behind it the frame of its
 //! sender; the child alone sets `PARENT:CHILD:up`, a hello with the label that its receiver
-//! remembers, the acknowledgement, and how often it has set `PARENT:CHILD:report`, which is for
-//! watching alone. What is no such word, of these two names, counts as nothing there. Beside them
+//! remembers, the acknowledgement, and how often it has set `PARENT:CHILD:report`, its
+//! report. What is no such word, of these two names, counts as nothing there. Beside them
 //! the parent sets `PARENT:CHILD:way`, at which a child looks before it sets anything.
 //!
 //! # Which law holds, and from when

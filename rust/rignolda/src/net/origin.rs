@@ -1,0 +1,98 @@
+//! Where connections come from, and which of those that wait goes where there are too many.
+use std::collections::BTreeMap;
+use std::net::{IpAddr, Ipv6Addr, SocketAddr};
+
+/// Where a connection comes from: what somebody has few of, unlike ports, or addresses of IPv6.
+#[derive(Clone, Copy, Debug, Default, PartialEq, Eq, PartialOrd, Ord, Hash)]
+#[non_exhaustive]
+pub enum Origin {
+    /// This machine, or nobody knows.
+    #[default]
+    Here,
+    /// An address of IPv4.
+    V4([u8; 4]),
+    /// The first half of an address of IPv6: whoever has one such address has all of that half.
+    V6([u8; 8]),
+    /// An address that was called: whoever calls knows few, so each port is one by itself.
+    Called(SocketAddr),
+}
+
+/// ```
+/// use rignolda::net::Origin;
+///
+/// let origin = |text: &str| Origin::from(text.parse::<std::net::IpAddr>().unwrap());
+/// assert_eq!(origin("2001:db8:1:2::3"), origin("2001:db8:1:2:ffff::"));
+/// assert_ne!(origin("2001:db8:1:2::3"), origin("2001:db8:1:3::3"));
+/// // (so an address of IPv4 looks where both are listened for)
+/// assert_eq!(origin("::ffff:127.0.0.1"), origin("127.0.0.1"));
+/// ```
+impl From<IpAddr> for Origin {
+    fn from(address: IpAddr) -> Origin {
+        let six = |it: Ipv6Addr| match it.octets() {
+            [0, 0, 0, 0, 0, 0, 0, 0, 0, 0, 0xff, 0xff, a, b, c, d] => Origin::V4([a, b, c, d]),
+            [a, b, c, d, e, f, g, h, ..] => Origin::V6([a, b, c, d, e, f, g, h]),
+        };
+        match address {
+            IpAddr::V4(it) => Origin::V4(it.octets()),
+            IpAddr::V6(it) => six(it),
+        }
+    }
+}
+
+/// How much the other end of a line has shown of who it is.
+#[derive(Clone, Copy, Debug, Default, PartialEq, Eq, PartialOrd, Ord)]
+pub enum Shown {
+    /// Nothing came.
+    #[default]
+    Nothing,
+    /// Something came, and says nothing yet.
+    Something,
+    /// Its certificate, which was verified.
+    Certificate,
+}
+
+/// Which of those that wait goes, where one is too many. Each has its number, of which an older one
+/// has a smaller one, its origin, and how much it has shown. Those that are alike in both drive out
+/// their own: it is the oldest of the most that are alike, and where as many of others are too, of
+/// those that have shown least.
+pub(super) fn one_too_many<S: Ord + Copy>(
+    waiting: impl Iterator<Item = (u64, Origin, S)> + Clone,
+) -> Option<u64> {
+    let mut counts = BTreeMap::new();
+    for (_, origin, shown) in waiting.clone() {
+        *counts.entry((origin, shown)).or_insert(0_usize) += 1;
+    }
+    let most = counts.values().copied().max()?;
+    let may_go = waiting.filter(|(_, origin, shown)| counts[&(*origin, *shown)] == most);
+    may_go.min_by_key(|it| (it.2, it.0)).map(|it| it.0)
+}
+
+#[cfg(test)]
+mod tests {
+    use super::*;
+
+    /// Those that wait, and which one goes.
+    type Row = (&'static [(u64, Origin, u8)], Option<u64>);
+
+    #[test]
+    fn who_has_the_most_drives_out_its_own() {
+        const ONE: Origin = Origin::V4([127, 0, 0, 1]);
+        const TWO: Origin = Origin::V4([127, 0, 0, 2]);
+        let rows: [Row; 6] = [
+            (&[], None),
+            (&[(1, ONE, 0), (2, TWO, 0), (3, TWO, 0)], Some(2)),
+            // (an only one stays, whatever it has shown)
+            (&[(1, ONE, 0), (2, TWO, 9), (3, TWO, 9)], Some(2)),
+            (&[(1, ONE, 1), (2, ONE, 0), (3, ONE, 0)], Some(2)),
+            (&[(1, ONE, 1), (2, ONE, 0), (3, TWO, 0)], Some(2)),
+            (
+                &[(1, ONE, 0), (2, Origin::Here, 0), (3, Origin::Here, 0)],
+                Some(2),
+            ),
+        ];
+        for (waiting, expected) in rows {
+            let goes = one_too_many(waiting.iter().copied());
+            assert_eq!(goes, expected, "{:?}", waiting);
+        }
+    }
+}
