@@ -15,10 +15,24 @@ const NO_ANSWER: &str = "its answer is none of Redis";
 #[derive(Debug, PartialEq, Eq)]
 pub enum Reply {
     Nothing,
+    /// That it is done, or will be, in a word or a few.
+    Word(Vec<u8>),
     Text(Vec<u8>),
     Number(i64),
     List(Vec<Reply>),
     Error(String),
+}
+
+/// The answer that is due to a command: nothing else is read, so no answer has more bytes and parts
+/// than this allows, together.
+#[derive(Clone, Copy, Debug, PartialEq, Eq)]
+pub enum Due {
+    /// A word.
+    Word,
+    /// A text of so many bytes at most.
+    Text(usize),
+    /// A list of so many words at most.
+    Words(usize),
 }
 
 /// A connection. What is asked in one turn has to be answered in a time, with more for the bytes
@@ -67,25 +81,31 @@ impl Connection {
         }
     }
 
-    /// Reads the next reply: a text of so many bytes at most, or a list of so many replies.
-    pub fn reply(&mut self, most: usize) -> Result<Reply, String> {
+    /// Reads the next reply, where it is one that is due, or an error.
+    pub fn reply(&mut self, due: Due) -> Result<Reply, String> {
         self.send()?;
         let line = self.line()?;
+        let (text, words) = match due {
+            Due::Word => (0, 0),
+            Due::Text(most) => (most, 0),
+            Due::Words(most) => (0, most),
+        };
         match (line.first(), number(&line)) {
-            (Some(b'*'), Some(count)) if (0..=most as i64).contains(&count) => {
-                let all = (0..count).map(|_| self.line().and_then(|line| self.one(line, most)));
+            (Some(b'*'), Some(count)) if (0..=words as i64).contains(&count) => {
+                let all = (0..count).map(|_| self.line().and_then(|line| self.one(line, 0)));
                 all.collect::<Result<_, _>>().map(Reply::List)
             }
             (Some(b'*'), Some(0..)) => Err("its answer is too long".into()),
-            _ => self.one(line, most),
+            _ => self.one(line, text),
         }
     }
 
-    /// A reply that is no list of others, and begins with this line.
+    /// A reply that is no list of others, and begins with this line: a text has at most so many
+    /// bytes.
     fn one(&mut self, line: Vec<u8>, most: usize) -> Result<Reply, String> {
         let text = || line[1..].to_vec();
         match (line.first(), number(&line)) {
-            (Some(b'+'), _) => Ok(Reply::Text(text())),
+            (Some(b'+'), _) => Ok(Reply::Word(text())),
             (Some(b'-'), _) => Ok(Reply::Error(String::from_utf8_lossy(&text()).into_owned())),
             (Some(b':'), Some(number)) => Ok(Reply::Number(number)),
             (Some(b'$' | b'*'), Some(-1)) => Ok(Reply::Nothing),

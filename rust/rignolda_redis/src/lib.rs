@@ -10,7 +10,7 @@
 #![warn(missing_debug_implementations)]
 mod connection;
 
-use connection::{Connection, Reply};
+use connection::{Connection, Due, Reply};
 use rignolda::net::{Address, Handler, Line, Peers, Store, Turn, Worker};
 use std::path::PathBuf;
 use std::sync::Arc;
@@ -165,16 +165,16 @@ impl Redis {
         }
         if !turn.sets.is_empty() {
             for _ in 0..=turn.sets.len() {
-                good(connection.reply(0)?)?;
+                good(connection.reply(Due::Word)?)?;
             }
-            let done = good(connection.reply(turn.sets.len())?)?;
-            good(connection.reply(0)?)?;
+            let done = good(connection.reply(Due::Words(turn.sets.len()))?)?;
+            good(connection.reply(Due::Word)?)?;
             match done {
                 Reply::List(all) => all.into_iter().try_for_each(|it| good(it).map(drop))?,
                 _ => return Err("another process writes there under this agent's name".into()),
             }
         }
-        let got = turn.gets.iter().map(|(_, most)| match connection.reply(*most)? {
+        let got = turn.gets.iter().map(|(_, most)| match connection.reply(Due::Text(*most))? {
             Reply::Text(bytes) => Ok(bytes),
             // (somebody made it a list, say)
             Reply::Error(why) if why.starts_with("WRONGTYPE") => Ok(Vec::new()),
@@ -216,5 +216,5 @@ fn good(reply: Reply) -> Result<Reply, String> {
 /// Sends a command, and waits until it is done.
 fn done(connection: &mut Connection, words: &[&[u8]]) -> Result<(), String> {
     connection.append(words);
-    good(connection.reply(0)?).map(drop)
+    good(connection.reply(Due::Word)?).map(drop)
 }

@@ -3,8 +3,9 @@ use crate::{read_file, Maker, Tls};
 use openssl::asn1::{Asn1Time, Asn1TimeRef};
 use openssl::error::ErrorStack;
 use openssl::pkey::{PKey, Private};
+use openssl::ssl::SslRef;
 use openssl::stack::Stack;
-use openssl::x509::store::X509StoreBuilder;
+use openssl::x509::store::{X509StoreBuilder, X509StoreRef};
 use openssl::x509::{X509Ref, X509StoreContext, X509VerifyResult, X509};
 use std::path::Path;
 use std::time::Duration;
@@ -55,6 +56,16 @@ impl Tls {
             let text = format!("it {word}: it is valid from {begin} to {end}");
             say("certificate", !is_out, text);
         }
+        let last = authority.iter().max_by_key(|it| unix_time(it.not_after()));
+        let last = last.map(|it| it.not_after()).filter(|end| **end < soon);
+        if let Some(end) = last {
+            let is_out = *end < now;
+            let word = if is_out { "has expired" } else { "expires soon" };
+            say("authority", !is_out, format!("it {word}: it is valid to {end}"));
+        }
+        if pem(2).is_some_and(|it| has_revoked(&it)) {
+            say("authority", false, REVOKED.into());
+        }
         if !names(leaf).iter().any(|it| it == name) {
             say("certificate", false, format!("no DNS name of its SAN is `{name}`"));
         }
@@ -72,6 +83,34 @@ impl Tls {
             faults.extend(why.map(|it| Fault { file, text: it.to_string(), is_warning: false }));
         }
         faults
+    }
+}
+
+/// Why a file of authorities is refused that has lists of revoked certificates: nobody would look
+/// at them.
+pub(crate) const REVOKED: &str =
+    "it has a list of revoked certificates, which do not count: take their names out of `children`";
+
+/// Whether a file of authorities has lists of revoked certificates too.
+pub(crate) fn has_revoked(pem: &[u8]) -> bool {
+    let word = b"-----BEGIN X509 CRL-----";
+    pem.windows(word.len()).any(|it| it == word)
+}
+
+/// Why a certificate does not hold by the authorities of a store.
+pub(crate) fn distrusted(ssl: &SslRef, store: &X509StoreRef) -> Result<(), String> {
+    let chain = ssl.verified_chain().map_or(Vec::new(), |all| all.iter().collect());
+    let (Some(leaf), Ok(mut others)) = (chain.first(), Stack::new()) else {
+        return Err("it has no certificate".into());
+    };
+    // (of what it was verified by before nothing counts but what lies between)
+    chain[1..].iter().for_each(|it| drop(others.push(it.to_owned().to_owned())));
+    let verified = X509StoreContext::new()
+        .and_then(|mut it| it.init(store, leaf, &others, |it| Ok((it.verify_cert()?, it.error()))));
+    match verified {
+        Ok((true, _)) => Ok(()),
+        Ok((false, why)) => Err(format!("its certificate {}", unverified(why))),
+        Err(_) => Err("its certificate cannot be verified".into()),
     }
 }
 

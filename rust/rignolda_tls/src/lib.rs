@@ -2,7 +2,8 @@
 //!
 //! A [`Maker`] makes lines by the files of a [`Tls`], a [`Caller`] connects by it to others, and a
 //! [`Listener`] is where they connect to. A [`Line`] is read and written as
-//! [`rignolda::net::Peers`] asks for it.
+//! [`rignolda::net::Peers`] asks for it. Before it has verified the other end's certificate, that
+//! is the work of the threads of [`Handshakes`].
 #![forbid(unsafe_code)]
 #![warn(missing_debug_implementations)]
 use std::fs::OpenOptions;
@@ -12,13 +13,17 @@ use std::path::{Path, PathBuf};
 
 mod caller;
 mod certificate;
+mod handshakes;
 mod line;
 mod listener;
+mod secure;
 
 pub use caller::{Called, Caller};
 pub use certificate::{unix_time, Fault};
-pub use line::{Line, Maker, Secure, TlsError};
+pub use handshakes::Handshakes;
+pub use line::{Line, Maker, TlsError};
 pub use listener::Listener;
+pub use secure::Secure;
 
 /// O_NONBLOCK of Linux.
 const NONBLOCK: i32 = 0o4000;
