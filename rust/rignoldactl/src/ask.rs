@@ -8,52 +8,157 @@ use rignolda::settings::is_newer;
 use serde::Serialize;
 use std::collections::BTreeMap;
 use std::fmt::{Display, Write as _};
+use std::io::ErrorKind::{
+    BrokenPipe, ConnectionRefused, ConnectionReset, NotFound, PermissionDenied, TimedOut,
+    WouldBlock,
+};
 use std::io::{self, BufRead, BufReader, Write};
+use std::os::unix::fs::MetadataExt;
 use std::os::unix::net::UnixStream;
-use std::path::Path;
-use std::time::Duration;
+use std::path::{Path, PathBuf};
+use std::time::{Duration, Instant};
 
 /// The longest line of a terminal.
 const LINE: usize = 79;
 /// How long the answer to most may take.
 const ANSWER: Duration = Duration::from_secs(10);
 
-/// A connection to an agent. It may ask one thing after the other.
+/// After how long an agent that had no room for one more client is asked again.
+const AGAIN: Duration = Duration::from_millis(20);
+
+/// Who asks an agent. It is connected while it asks, and not in between: an agent has room for a
+/// few clients, and drives out who is connected and asks for nothing.
 #[derive(Debug)]
 pub struct Agent {
-    reader: BufReader<UnixStream>,
+    path: PathBuf,
+    stream: Option<UnixStream>,
 }
 
 impl Agent {
     pub fn connect(path: &Path) -> io::Result<Agent> {
-        let stream = UnixStream::connect(path)?;
-        stream.set_read_timeout(Some(ANSWER))?;
-        stream.set_write_timeout(Some(Duration::from_secs(10)))?;
-        Ok(Agent { reader: BufReader::new(stream) })
+        let stream = Some(UnixStream::connect(path)?);
+        Ok(Agent { path: path.into(), stream })
     }
 
-    /// Asks for what may be answered after a while, but within this time.
+    /// Asks for what may be answered after a while, but within this time. Where the agent has no
+    /// room, it has read nothing: so it is asked again.
     pub fn ask_within(&mut self, time: Duration, request: &Request) -> io::Result<Response> {
-        self.reader.get_ref().set_read_timeout(Some(time.max(Duration::from_millis(1))))?;
-        let answer = self.ask(request);
-        self.reader.get_ref().set_read_timeout(Some(ANSWER))?;
-        answer
+        let until = Instant::now() + time;
+        let mut line = line_of(request, true)?;
+        loop {
+            let connected = self.stream.take().map_or_else(|| UnixStream::connect(&self.path), Ok);
+            let answer = connected.and_then(|it| asked(it, &line, until));
+            let is_full = |e: &io::Error| matches!(e.kind(), BrokenPipe | ConnectionReset);
+            match answer {
+                Err(error) if is_full(&error) && Instant::now() < until => {
+                    std::thread::sleep(AGAIN);
+                }
+                Err(error) if is_full(&error) => {
+                    let why = "it has too many clients, and was asked for nothing";
+                    return Err(io::Error::new(error.kind(), why));
+                }
+                answer => match serde_json::from_str(&answer?)? {
+                    // (one of an older release: what it does not know, it has not done)
+                    Response::Refused(why) if why.contains("unknown field `by`") => {
+                        line = line_of(request, false)?;
+                    }
+                    response => return Ok(response),
+                },
+            }
+        }
     }
 
     pub fn ask(&mut self, request: &Request) -> io::Result<Response> {
-        let mut line = serde_json::to_vec(request)?;
-        line.push(b'\n');
-        self.reader.get_mut().write_all(&line)?;
-        let mut answer = String::new();
-        if self.reader.read_line(&mut answer)? == 0 {
-            return Err(io::ErrorKind::UnexpectedEof.into());
-        }
-        Ok(serde_json::from_str(&answer)?)
+        self.ask_within(ANSWER, request)
     }
+}
+
+/// The line that asks for this, and says by whom, where something is to be done.
+fn line_of(request: &Request, says_who: bool) -> io::Result<Vec<u8>> {
+    let mut value = serde_json::to_value(request)?;
+    let only_asks = matches!(
+        request,
+        Request::Status | Request::Tree | Request::Look | Request::Diff | Request::Key { .. }
+    );
+    if let Some(all) = value.as_object_mut().filter(|_| says_who && !only_asks) {
+        all.insert("by".into(), who().into());
+    }
+    let mut line = serde_json::to_vec(&value)?;
+    line.push(b'\n');
+    Ok(line)
+}
+
+/// Who runs this process: its user, and who became that by sudo.
+fn who() -> String {
+    let user = std::fs::metadata("/proc/self").map_or(String::new(), |it| it.uid().to_string());
+    match std::env::var("SUDO_UID") {
+        Ok(before) => format!("uid {user}, by sudo of uid {before}"),
+        Err(_) => format!("uid {user}"),
+    }
+}
+
+/// The answer to a line that is asked over this connection.
+fn asked(stream: UnixStream, line: &[u8], until: Instant) -> io::Result<String> {
+    let left = || Some(until.saturating_duration_since(Instant::now()).max(AGAIN));
+    stream.set_write_timeout(left())?;
+    (&stream).write_all(line)?;
+    stream.set_read_timeout(left())?;
+    let mut answer = String::new();
+    let unknown = "it is not known whether it was done";
+    match BufReader::new(stream).read_line(&mut answer) {
+        Ok(0) => Err(io::Error::other(format!("it ended, and {unknown}"))),
+        Err(e) if matches!(e.kind(), WouldBlock | TimedOut) => {
+            Err(io::Error::new(e.kind(), format!("not in time, and {unknown}")))
+        }
+        Err(error) => Err(error),
+        Ok(_) => Ok(answer),
+    }
+}
+
+/// What is said where nobody answers at a control socket.
+pub fn no_agent(path: &Path, error: &io::Error) -> String {
+    let path = path.display();
+    let another = "--socket or RIGNOLDA_CONTROL names another one";
+    match error.kind() {
+        NotFound | ConnectionRefused => {
+            format!("no agent runs with its socket at {path}: {another}")
+        }
+        PermissionDenied => format!(
+            "{path}: {error}: who may ask is in the group of that file, and goes through its folder"
+        ),
+        _ => format!("{path}: {error}"),
+    }
+}
+
+/// Why an agent refuses something: an older one does not know each request.
+pub fn refusal(why: String) -> String {
+    let unknown = why.strip_prefix("unknown variant ").and_then(|rest| rest.split(", ").next());
+    let of_older = |it: &str| format!("the agent's release does not know {it}: it is an older one");
+    unknown.map(of_older).unwrap_or(why)
 }
 
 /// What is said of an agent below which some are not known.
 pub const CUT: &str = "has more agents below it than it can report";
+/// What is said of one that may be of any group.
+pub const NOT_HEARD: &str = "has not said yet of which groups it is";
+/// The largest lag that is shown: what is more is a jump of the numbers, and no count of bodies.
+const LAG: u64 = 1 << 30;
+
+/// Whether an agent is of a group, as far as is known: one that has said nothing may be.
+pub fn is_of(seen: &Seen, group: &str) -> Option<bool> {
+    let is = seen.groups.iter().any(|it| it == group);
+    (is || seen.is_heard()).then_some(is)
+}
+
+/// Why an agent of a group, or who may be, has not all up to a sequence number.
+pub fn lacks_of(agent: &Seen, group: &str, sequence: u64) -> Option<&'static str> {
+    match is_of(agent, group) {
+        None => Some(NOT_HEARD),
+        Some(true) => lacks(agent, sequence),
+        // (below one that is cut there may be some)
+        Some(false) => Some(CUT).filter(|_| agent.cut),
+    }
+}
 
 /// Why an agent has not all up to a sequence number; nothing where it has.
 pub fn lacks(agent: &Seen, sequence: u64) -> Option<&'static str> {
@@ -158,6 +263,11 @@ pub fn plain(text: &str) -> String {
     text.chars().map(code).collect()
 }
 
+/// The same where it is to stay on its line: what is in it may come from a name of a file, say.
+pub fn one_line(text: &str) -> String {
+    plain(&text.replace('\n', "\\n"))
+}
+
 /// A table with a head, each column as wide as its widest word; numbers stand to the right.
 fn table(rows: &[Vec<String>]) -> String {
     let columns = rows.iter().map(Vec::len).max().unwrap_or(0);
@@ -198,7 +308,8 @@ pub fn tree_text(list: &[Seen]) -> String {
         let state = match () {
             () if !seen.connected && seen.sequence == 0 => "never heard of".into(),
             () if !seen.connected => format!("away for {}", age(seen.age)),
-            () if seen.failing > 0 => format!("{} failing", seen.failing),
+            () if seen.failing > 0 && seen.why.is_empty() => format!("{} failing", seen.failing),
+            () if seen.failing > 0 => format!("{} failing, {}", seen.failing, one_line(&seen.why)),
             () if !seen.whole => "waits for a whole table".into(),
             () if seen.stands_by => "stands by: another root is there".into(),
             () if seen.draining => "drains".into(),
@@ -207,7 +318,10 @@ pub fn tree_text(list: &[Seen]) -> String {
         let name = format!("{}{}", "  ".repeat(depth), seen.name);
         let lag = match seen.applied {
             0 => "-".into(),
-            applied if is_newer(newest, applied) => newest.wrapping_sub(applied).to_string(),
+            applied if is_newer(newest, applied) => match newest.wrapping_sub(applied) {
+                lag if lag > LAG => "many".into(),
+                lag => lag.to_string(),
+            },
             _ => "0".into(),
         };
         let backlog = format!("{}/{}", seen.backlog, seen.limit);
@@ -268,7 +382,7 @@ pub fn diff_text(diff: &Diff) -> String {
         };
     }
     if !diff.held.is_empty() {
-        let _ = writeln!(text, "{} {:016x}", diff.held, diff.digest);
+        let _ = writeln!(text, "{} {}", diff.held, diff.digest);
     }
     text
 }
@@ -287,7 +401,7 @@ pub fn age(milliseconds: u64) -> String {
 pub fn status_text(status: &Status) -> String {
     let mut text = String::new();
     let mut fact = |name: &str, value: &dyn Display| {
-        let _ = writeln!(text, "{name:<14} {value}");
+        let _ = writeln!(text, "{name:<14} {}", one_line(&value.to_string()));
     };
     fact("name", &status.name);
     fact("version", &status.version);
@@ -328,6 +442,7 @@ pub fn status_text(status: &Status) -> String {
         fact("mended", &status.mended);
     }
     fact("failing", &status.failing);
+    status.failures.iter().for_each(|why| fact("fails", why));
     fact("hook failures", &status.hook_failures);
     fact("received", &status.received);
     fact("strays", &status.strays);

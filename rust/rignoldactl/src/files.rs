@@ -63,6 +63,16 @@ pub fn holders(list: &[Seen], keys: &Keys) -> Vec<Holder> {
     list.iter().map(|seen| holder(seen, keys)).collect()
 }
 
+/// Shows the digest of the value that the first one has, where that can be read, in place of its
+/// label. An agent says no digest of a value, since that tells one that can be guessed.
+pub fn name(holders: &mut [Holder], own: Option<File>) {
+    let label = holders.first().map_or(String::new(), |it| it.digest.clone());
+    if let Some(file) = own.filter(|_| !label.is_empty()) {
+        let same = holders.iter_mut().filter(|it| it.digest == label);
+        same.for_each(|it| it.digest = file.digest.clone());
+    }
+}
+
 /// What counted as of some number.
 enum Then {
     Now(u64),
@@ -89,8 +99,9 @@ fn then(keys: &Keys, groups: &[String], number: u64) -> Then {
 }
 
 fn holder(seen: &Seen, keys: &Keys) -> Holder {
-    let is_heard = seen.connected || seen.sequence != 0;
+    let is_heard = seen.is_heard();
     let (digest, note) = match seen.compared {
+        _ if !is_heard && seen.connected => (0, "not known: it has said nothing yet"),
         _ if !is_heard => (0, "never heard of"),
         Compared::Nothing => (0, "keeps no files"),
         Compared::NotKnown => (0, "not known"),
@@ -99,7 +110,7 @@ fn holder(seen: &Seen, keys: &Keys) -> Holder {
             Then::Now(0) => (0, "unset"),
             Then::Now(digest) => (digest, ""),
             Then::Before(digest) => (digest, "older"),
-            Then::NotKnown => (0, "not known: an older one"),
+            Then::NotKnown => (0, "not known: it has older files"),
         },
     };
     let away = if is_heard && !seen.connected { "away" } else { "" };

@@ -14,6 +14,7 @@ use std::time::{SystemTime, UNIX_EPOCH};
 pub mod ask;
 mod error;
 pub mod files;
+pub mod probe;
 pub mod source;
 
 pub use error::{at, ErrorAt};
@@ -51,16 +52,21 @@ pub enum Request {
     ChildRemove {
         name: String,
     },
-    /// At the root: a round now.
+    /// Leaves an agent that is gone for good out of what is known below this one, until it is back.
+    Forget {
+        name: String,
+    },
+    /// At the root: a round now. It is answered with the number of its table, once that is
+    /// published: who has applied that has looked at all its files since it was asked for.
     Round,
     /// At the root: looks at the settings' folder, and answers when all that it saw is published.
     Look,
     /// At the root: looks at the settings' folder, and says what of it is not published.
     Diff,
-    /// At the root: publishes what is held, with this digest where it is not 0.
+    /// At the root: publishes what is held, with this [digest](Diff) where it is not empty.
     Confirm {
-        #[serde(with = "digits", default)]
-        digest: u64,
+        #[serde(default)]
+        digest: String,
     },
     /// At the root: makes the value of a key for a group the one for all, by one change.
     PromoteValue {
@@ -76,6 +82,8 @@ pub enum Request {
 #[serde(rename_all = "kebab-case")]
 pub enum Response {
     Done,
+    /// It is done, and this is to be said of it.
+    Said(String),
     /// What was asked for is published with this sequence number.
     Published(u64),
     Status(Box<Status>),
@@ -158,8 +166,9 @@ pub struct Status {
     /// Who was refused last, and why.
     pub last_refused: String,
     pub hook_failures: u64,
-    /// Settings whose file or hook failed last.
+    /// Settings whose file or hook failed last; and the first of these with their whys.
     pub failing: u64,
+    pub failures: Vec<String>,
     /// At the root: what of its folder cannot be published, and the first of these with their whys.
     pub unpublished: u64,
     pub faults: Vec<String>,
@@ -236,6 +245,7 @@ impl Status {
             garbage: self.garbage,
             gaps: self.gaps,
             failing: self.failing,
+            why: self.failures.first().map_or(String::new(), |it| it.chars().take(WHY).collect()),
             mended: self.mended,
             version: dotted::read(&self.version),
             expires: u32::try_from(self.certificate_expires)
@@ -247,6 +257,9 @@ impl Status {
         }
     }
 }
+
+/// How much of why something failed goes into a report, in characters.
+pub const WHY: usize = 120;
 
 /// How many harmless items a round needs in a tree this deep: the sharper bound of the deepest
 /// agent, one by which it is known to be a round, and one to spare.
@@ -295,8 +308,10 @@ pub struct Seen {
     pub strays: u64,
     pub garbage: u64,
     pub gaps: u64,
-    /// Settings whose file or hook failed last, and files that were changed and put again.
+    /// Settings whose file or hook failed last, the first of them with its why, and files that were
+    /// changed and put again.
     pub failing: u64,
+    pub why: String,
     pub mended: u64,
     /// Its program's; 0 where that does not say it.
     #[serde(with = "dotted")]
@@ -310,15 +325,28 @@ pub struct Seen {
     pub age: u64,
 }
 
+impl Seen {
+    /// Whether it has said anything of itself since its parent began. (Each agent has a limit.)
+    pub fn is_heard(&self) -> bool {
+        self.limit > 0 || self.sequence > 0
+    }
+}
+
 /// What of the root's folder is not published yet.
 #[derive(Clone, Debug, Default, Deserialize, PartialEq, Serialize)]
 pub struct Diff {
     /// Why it is held until it is confirmed; empty where it is not.
     pub held: String,
-    /// The sum of the [digests](digest) of the changes.
-    #[serde(with = "digits")]
-    pub digest: u64,
+    /// The SHA-256 of the changes in [hexadecimal digits](is_sha256), by which they are confirmed;
+    /// empty where there are none.
+    pub digest: String,
     pub changes: Vec<Difference>,
+}
+
+/// Whether this may be the digest by which changes are confirmed: of fewer digits, others may have
+/// it too.
+pub fn is_sha256(text: &str) -> bool {
+    text.len() == 64 && text.bytes().all(|byte| byte.is_ascii_hexdigit())
 }
 
 /// A setting that would be set, to so many bytes; or be unset, where there is no number.
@@ -355,12 +383,22 @@ pub struct Key {
 /// a byte 1, the key and the value. Where it has no value, as its file cannot be read, 0 is that
 /// byte.
 pub fn digest(key: &str, value: Option<&[u8]>) -> u64 {
+    short(&sha256(key, value))
+}
+
+/// The first 8 bytes of a SHA-256.
+pub fn short(sha: &[u8; 32]) -> u64 {
+    let [a, b, c, d, e, f, g, h, ..] = *sha;
+    u64::from_be_bytes([a, b, c, d, e, f, g, h])
+}
+
+/// The SHA-256 of a setting of which [`digest`] is a part: so no other one has it.
+pub fn sha256(key: &str, value: Option<&[u8]>) -> [u8; 32] {
     let mut sha = Sha256::new();
     sha.update(&[key.len() as u8, value.is_some().into()]);
     sha.update(key.as_bytes());
     sha.update(value.unwrap_or(&[]));
-    let [a, b, c, d, e, f, g, h, ..] = sha.finish();
-    u64::from_be_bytes([a, b, c, d, e, f, g, h])
+    sha.finish()
 }
 
 /// A list as an agent sends it up: as JSON without what is 0, false or empty, since whoever reads

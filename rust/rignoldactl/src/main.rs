@@ -4,7 +4,8 @@ use clap::{Parser, Subcommand};
 use rignolda::settings::{is_newer, VALUE_BYTES};
 use rignoldactl::ask::{self, Agent};
 use rignoldactl::files::{self, File};
-use rignoldactl::{milliseconds, Request, Response, Seen, Status};
+use rignoldactl::probe::Probe;
+use rignoldactl::{is_sha256, milliseconds, Request, Response, Seen, Status};
 use serde::Serialize;
 use serde_json::json;
 use std::io::{ErrorKind, IsTerminal, Read, Write};
@@ -14,11 +15,13 @@ use std::time::{Duration, Instant};
 
 /// How often a command that waits asks.
 const PAUSE: Duration = Duration::from_millis(50);
+/// How long the table of a round is waited for.
+const ROUND: Duration = Duration::from_secs(30);
 
 /// Asks a running agent of rignoldad, over its control socket.
 ///
 /// It ends with 0 where it was done, 1 where it was refused or its time was up, 2 where it was
-/// called wrongly, and 3 where no agent answers.
+/// called wrongly, 3 where no agent answers, and 4 where the agent is not what `status` asks for.
 #[derive(Parser)]
 #[command(name = "rignoldactl", version)]
 struct Arguments {
@@ -49,10 +52,14 @@ enum Command {
         #[arg(value_name = "KEY@GROUP")]
         key: String,
     },
-    /// At the root: publishes a round now.
+    /// At the root: publishes a round now, and prints the sequence number of its table: whoever
+    /// has applied that has looked at all its files.
     Round,
-    /// Shows this agent.
-    Status,
+    /// Shows this agent. Where it is not what one of these options says, it ends with 4.
+    Status {
+        #[command(flatten)]
+        probe: Probe,
+    },
     /// Shows this agent and all below it.
     Tree,
     /// Shows the settings in this agent's files: their keys, lengths and digests.
@@ -68,7 +75,11 @@ enum Command {
     Wait {
         /// Without it: the last one that this agent has. The root looks at its folder first, and
         /// publishes what it finds; where it cannot, the command says why, and ends with 1.
+        #[arg(allow_negative_numbers = true, value_parser = number)]
         sequence: Option<u64>,
+        /// At the root: has each agent look at its files first, so that they are right now.
+        #[arg(long, conflicts_with = "sequence")]
+        now: bool,
         /// Waits for every agent of the tree, and not for this one alone.
         #[arg(long)]
         everywhere: bool,
@@ -99,13 +110,16 @@ enum Command {
     Confirm {
         /// The digest that `diff` shows: then nothing else is published.
         #[arg(value_parser = digest)]
-        digest: Option<u64>,
+        digest: Option<String>,
     },
     /// Adds or removes a child, until the agent ends or reads its configuration again.
     Child {
         #[command(subcommand)]
         what: Child,
     },
+    /// Leaves an agent that is gone for good, and who was below it, out of the tree that this agent
+    /// knows, until it is back.
+    Forget { name: String },
     /// Shows the bounds of each agent, seen from the root.
     Bounds,
 }
@@ -116,15 +130,19 @@ enum Child {
     Remove { name: String },
 }
 
+fn number(text: &str) -> Result<u64, String> {
+    let error = |_| "a sequence number is expected, as `publish` prints it".to_string();
+    text.parse().map_err(error)
+}
+
 fn time(text: &str) -> Result<Duration, String> {
     let error = || "a time is expected, as 500ms, 2s or 10m".to_string();
     milliseconds(text).map(Duration::from_millis).ok_or_else(error)
 }
 
-fn digest(text: &str) -> Result<u64, String> {
-    let is_one = text.len() == 16 && text.bytes().all(|byte| byte.is_ascii_hexdigit());
-    let error = || "16 hexadecimal digits are expected, as `diff` shows them".to_string();
-    u64::from_str_radix(text, 16).ok().filter(|_| is_one).ok_or_else(error)
+fn digest(text: &str) -> Result<String, String> {
+    let error = || "64 hexadecimal digits are expected, as `diff` shows them".to_string();
+    is_sha256(text).then(|| text.to_ascii_lowercase()).ok_or_else(error)
 }
 
 /// Why a command was not done, and the status to end with.
@@ -145,10 +163,12 @@ fn main() -> ExitCode {
     match done {
         Ok(()) => ExitCode::SUCCESS,
         Err(Failed(status, error)) => {
-            if arguments.json {
+            if arguments.json && !error.is_empty() {
                 let _ = writeln!(std::io::stdout(), "{}", json!({ "error": error }));
             }
-            let _ = writeln!(std::io::stderr(), "rignoldactl: {}", ask::plain(&error));
+            if !error.is_empty() {
+                let _ = writeln!(std::io::stderr(), "rignoldactl: {}", ask::plain(&error));
+            }
             ExitCode::from(status)
         }
     }
@@ -157,7 +177,7 @@ fn main() -> ExitCode {
 /// Does a command: what to print.
 fn run(arguments: &Arguments) -> Result<String, Failed> {
     let mut agent = Agent::connect(&arguments.socket)
-        .map_err(|error| Failed(3, format!("{}: {error}", arguments.socket.display())))?;
+        .map_err(|error| Failed(3, ask::no_agent(&arguments.socket, &error)))?;
     let (agent, is_json) = (&mut agent, arguments.json);
     let request = match &arguments.command {
         Command::Publish { key, value } => {
@@ -165,18 +185,30 @@ fn run(arguments: &Arguments) -> Result<String, Failed> {
         }
         Command::Unset { key } => Request::Unset { key: key.clone() },
         Command::PromoteValue { key } => Request::PromoteValue { key: key.clone() },
-        Command::Confirm { digest } => Request::Confirm { digest: digest.unwrap_or(0) },
+        Command::Confirm { digest } => {
+            Request::Confirm { digest: digest.clone().unwrap_or_default() }
+        }
         Command::Promote { as_is } => Request::Promote { as_is: *as_is },
         Command::Demote => Request::Demote,
-        Command::Round => Request::Round,
         Command::Resume => Request::Resume,
         Command::Child { what: Child::Add { name } } => Request::ChildAdd { name: name.clone() },
         Command::Child { what: Child::Remove { name } } => {
             Request::ChildRemove { name: name.clone() }
         }
-        Command::Status => {
+        Command::Forget { name } => Request::Forget { name: name.clone() },
+        Command::Round => {
+            let Some(sequence) = round(agent, ROUND)? else {
+                return Ok(shown(is_json, &json!({ "done": true }), nothing));
+            };
+            return Ok(shown(is_json, &json!({ "sequence": sequence }), |_| numbered(sequence)));
+        }
+        Command::Status { probe } => {
             let status = status(agent)?;
-            return Ok(shown(is_json, &status, ask::status_text));
+            let text = shown(is_json, &status, ask::status_text);
+            let Some(why) = probe.fails(&status) else { return Ok(text) };
+            let _ = std::io::stdout().write_all(ask::plain(&text).as_bytes());
+            let _ = writeln!(std::io::stderr(), "rignoldactl: {}", ask::plain(&why));
+            return Err(Failed(4, String::new()));
         }
         Command::Tree => {
             let is_root = status(agent)?.is_root;
@@ -203,7 +235,10 @@ fn run(arguments: &Arguments) -> Result<String, Failed> {
             let Response::Key(known) = asked(agent, &Request::Key { key: key.clone() })? else {
                 return something_else();
             };
-            let holders = files::holders(&tree(agent)?, &known);
+            let mut holders = files::holders(&tree(agent)?, &known);
+            // (who may read the value here is shown its digest; of others there are labels)
+            let own = folder(agent).ok().and_then(|it| files::get(&it, key).ok());
+            files::name(&mut holders, own.map(|(_, file)| file));
             return Ok(shown(is_json, &holders, |holders| ask::holders_text(holders)));
         }
         Command::Diff => {
@@ -220,9 +255,17 @@ fn run(arguments: &Arguments) -> Result<String, Failed> {
             let list = tree(agent)?;
             return Ok(shown(is_json, &ask::bounds(&list), |_| ask::bounds_text(&list)));
         }
-        Command::Wait { sequence, everywhere, group, timeout } => {
+        Command::Wait { sequence, now, everywhere, group, timeout } => {
             let begun = Instant::now();
-            let sequence = sequence.map_or_else(|| newest(agent, *timeout), Ok)?;
+            let mut sequence = match sequence {
+                Some(sequence) => known(agent, *sequence)?,
+                None => newest(agent, *timeout)?,
+            };
+            if *now {
+                let round = round(agent, timeout.saturating_sub(begun.elapsed()))?;
+                let old = "this agent is of an older release: its rounds have no number";
+                sequence = round.ok_or_else(|| Failed(1, old.into()))?;
+            }
             let whom = match group {
                 Some(group) => Whom::Group(group),
                 None if *everywhere => Whom::All,
@@ -233,13 +276,21 @@ fn run(arguments: &Arguments) -> Result<String, Failed> {
         }
         Command::Drain { timeout } => {
             asked(agent, &Request::Drain)?;
-            drained(agent, *timeout)?;
-            return Ok(shown(is_json, &json!({ "drained": true }), nothing));
+            let Err(Failed(status, why)) = drained(agent, *timeout) else {
+                return Ok(shown(is_json, &json!({ "drained": true }), nothing));
+            };
+            // (whoever goes on after this must not find that nothing is published)
+            asked(agent, &Request::Resume)?;
+            return Err(Failed(status, format!("{why}: it publishes again")));
         }
     };
     Ok(match asked(agent, &request)? {
         Response::Published(sequence) => {
-            shown(is_json, &json!({ "sequence": sequence }), |_| format!("{sequence}\n"))
+            shown(is_json, &json!({ "sequence": sequence }), |_| numbered(sequence))
+        }
+        Response::Said(words) => {
+            let _ = writeln!(std::io::stderr(), "rignoldactl: {}", ask::plain(&words));
+            shown(is_json, &json!({ "done": true, "said": words }), nothing)
         }
         _ => shown(is_json, &json!({ "done": true }), nothing),
     })
@@ -277,6 +328,10 @@ fn nothing<T>(_: &T) -> String {
     String::new()
 }
 
+fn numbered(sequence: u64) -> String {
+    format!("{sequence}\n")
+}
+
 /// The value to publish.
 fn value_of(word: Option<&str>) -> Result<Vec<u8>, Failed> {
     let mut value = Vec::new();
@@ -298,7 +353,7 @@ fn value_of(word: Option<&str>) -> Result<Vec<u8>, Failed> {
 
 fn asked(agent: &mut Agent, request: &Request) -> Result<Response, Failed> {
     match agent.ask(request)? {
-        Response::Refused(why) => Err(Failed(1, why)),
+        Response::Refused(why) => Err(Failed(1, ask::refusal(why))),
         response => Ok(response),
     }
 }
@@ -334,13 +389,39 @@ fn newest(agent: &mut Agent, timeout: Duration) -> Result<u64, Failed> {
     let status = status(agent)?;
     match status.is_root.then(|| agent.ask_within(timeout, &Request::Look)) {
         None => Ok(status.sequence),
-        Some(Ok(Response::Published(sequence))) => Ok(sequence),
-        Some(Ok(Response::Refused(why))) => Err(Failed(1, why)),
-        Some(Err(e)) if matches!(e.kind(), ErrorKind::WouldBlock | ErrorKind::TimedOut) => {
-            Err(Failed(1, "the time is up: not all of its folder is published".into()))
+        Some(answer) => in_time(answer, "not all of its folder is published"),
+    }
+}
+
+/// The number of what is published, where that came in time.
+fn in_time(answer: std::io::Result<Response>, late: &str) -> Result<u64, Failed> {
+    match answer {
+        Ok(Response::Published(sequence)) => Ok(sequence),
+        Ok(Response::Refused(why)) => Err(Failed(1, ask::refusal(why))),
+        Err(e) if matches!(e.kind(), ErrorKind::WouldBlock | ErrorKind::TimedOut) => {
+            Err(Failed(1, format!("the time is up: {late}")))
         }
-        Some(Err(error)) => Err(error.into()),
-        Some(_) => something_else(),
+        Err(error) => Err(error.into()),
+        Ok(_) => something_else(),
+    }
+}
+
+/// Has the root publish a round: the number of its table, which one of an older release does not
+/// say.
+fn round(agent: &mut Agent, timeout: Duration) -> Result<Option<u64>, Failed> {
+    match agent.ask_within(timeout, &Request::Round) {
+        Ok(Response::Done) => Ok(None),
+        answer => in_time(answer, "the round's table is not published").map(Some),
+    }
+}
+
+/// The same number, unless it is ahead by more than half of all numbers: then it would count as an
+/// older one.
+fn known(agent: &mut Agent, sequence: u64) -> Result<u64, Failed> {
+    let last = status(agent)?.sequence;
+    match sequence > last && is_newer(last, sequence) {
+        true => Err(Failed(1, format!("{sequence} is no number of a change: the last is {last}"))),
+        false => Ok(sequence),
     }
 }
 
@@ -368,24 +449,19 @@ enum Whom<'a> {
     Group(&'a str),
 }
 
-fn is_of(seen: &Seen, group: &str) -> bool {
-    seen.groups.iter().any(|it| it == group)
-}
-
 fn wait(agent: &mut Agent, sequence: u64, whom: Whom, timeout: Duration) -> Result<(), Failed> {
     let shows = !matches!(whom, Whom::This) && std::io::stderr().is_terminal();
     let done = until(agent, timeout, |mut list| {
         match whom {
             Whom::This => list.truncate(1),
             Whom::All => (),
-            // (below one that is cut there may be some)
-            Whom::Group(group) => list.retain(|seen| is_of(seen, group) || seen.cut),
+            Whom::Group(group) => list.retain(|it| ask::is_of(it, group) != Some(false) || it.cut),
         }
         if let (Whom::Group(group), []) = (whom, &list[..]) {
             return Some(format!("no agent is known that is of `{group}`"));
         }
         let lacks = |seen: &Seen| match whom {
-            Whom::Group(group) if !is_of(seen, group) => Some(ask::CUT),
+            Whom::Group(group) => ask::lacks_of(seen, group, sequence),
             _ => ask::lacks(seen, sequence),
         };
         let lacking = list.iter().filter_map(|seen| Some((seen, lacks(seen)?)));
@@ -407,18 +483,26 @@ fn show(line: &str) {
     let _ = write!(std::io::stderr(), "\r\x1b[K{}", ask::plain(line));
 }
 
-/// Waits until each agent has what its parent has, and no backlog, and that twice in turn: for the
-/// lists of the agents come up one after the other.
+/// Waits until each agent that is connected has what its parent has, and no backlog, and that twice
+/// in turn: for the lists of the agents come up one after the other. Who is away is named.
 fn drained(agent: &mut Agent, timeout: Duration) -> Result<(), Failed> {
-    let mut before = false;
+    let (mut before, mut away) = (false, String::new());
     until(agent, timeout, |list| {
         let newest = list.first().map_or(0, |root| root.sequence);
         let full = |seen: &&Seen| {
             let lags = seen.sequence != newest && is_newer(newest, seen.sequence);
-            !seen.connected || seen.backlog > 0 || lags || seen.cut
+            seen.connected && (seen.backlog > 0 || lags || seen.cut)
         };
-        let full: Vec<&str> = list.iter().filter(full).map(|seen| seen.name.as_str()).collect();
+        let names = |is: &dyn Fn(&&Seen) -> bool| -> Vec<String> {
+            list.iter().filter(is).map(|seen| seen.name.clone()).collect()
+        };
+        let full = names(&full);
+        away = names(&|seen| !seen.connected).join(", ");
         let twice = std::mem::replace(&mut before, full.is_empty()) && full.is_empty();
         (!twice).then(|| format!("not drained at {}", full.join(", ")))
-    })
+    })?;
+    if !away.is_empty() {
+        let _ = writeln!(std::io::stderr(), "rignoldactl: not connected: {}", ask::plain(&away));
+    }
+    Ok(())
 }

@@ -37,17 +37,27 @@ pub struct Found {
 }
 
 impl Faults {
-    /// One more.
+    /// One more. It is a line, whatever names are in it.
     pub fn add(&mut self, text: String) {
         self.count += 1;
         if self.texts.len() < NAMED {
-            self.texts.insert(text);
+            self.texts.insert(in_a_line(&text));
         }
     }
 }
 
+/// A text without a control character, each of which is written as in JSON: so it is in one line.
+fn in_a_line(text: &str) -> String {
+    let code = |c: char| match c.is_control() {
+        true => format!("\\u{:04x}", u32::from(c)),
+        false => c.into(),
+    };
+    text.chars().map(code).collect()
+}
+
 /// What is said of a name that is none of a setting.
 pub fn no_key(name: &str) -> String {
+    let name = in_a_line(name);
     format!(
         "`{name}` is no key: that is 1 to {KEY_BYTES} letters, digits, `.`, `_` or `-`, the first \
          one no dot or hyphen, and for a group `KEY@GROUP`, where no two dots stand together",

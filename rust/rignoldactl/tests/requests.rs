@@ -1,5 +1,6 @@
 //! What is said to an agent, and how it is written.
-use rignoldactl::{milliseconds, report, Key, Keys, Request, Response, Seen};
+use rignoldactl::ask::{plain, status_text};
+use rignoldactl::{milliseconds, report, Key, Keys, Request, Response, Seen, Status};
 
 #[test]
 fn requests_and_answers_are_json() {
@@ -68,4 +69,27 @@ fn a_report_leaves_out_what_is_nothing() {
         let text = format!(r#"[{{"name":"a","digest":"{digest}"}}]"#);
         assert_eq!(serde_json::from_str::<Vec<Seen>>(&text).is_ok(), is_one, "{text}");
     }
+}
+
+/// What a peer, a file or a configuration is called is in one line.
+#[test]
+fn a_status_has_no_line_that_others_wrote() {
+    let evil = "x\nparent         evil\u{1b}[2J".to_string();
+    let status = Status {
+        name: evil.clone(),
+        version: evil.clone(),
+        no_parent: evil.clone(),
+        other_root: evil.clone(),
+        way: vec![evil.clone()],
+        groups: vec![evil.clone()],
+        folder: evil.clone(),
+        refused: 1,
+        last_refused: evil.clone(),
+        faults: vec![evil.clone()],
+        reload_failed: evil,
+        ..Status::default()
+    };
+    let text = plain(&status_text(&status));
+    assert!(!text.lines().any(|line| line.starts_with("parent         evil")), "{text}");
+    assert_eq!(text.matches("\\nparent         evil\\u001b").count(), 9, "{text}");
 }

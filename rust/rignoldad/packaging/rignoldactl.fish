@@ -18,8 +18,13 @@ complete -c rignoldactl -n __fish_use_subcommand -a promote-value -d 'make the v
 complete -c rignoldactl -n __fish_use_subcommand -a promote -d 'make a standby the root'
 complete -c rignoldactl -n __fish_use_subcommand -a demote -d 'make it an agent again'
 complete -c rignoldactl -n __fish_use_subcommand -a child -d 'add or remove a child'
+complete -c rignoldactl -n __fish_use_subcommand -a forget -d 'leave out who is gone for good'
 complete -c rignoldactl -n __fish_use_subcommand -a bounds -d 'show what is proved of each agent'
 complete -c rignoldactl -n '__fish_seen_subcommand_from get wait' -l everywhere -d 'of every agent'
+complete -c rignoldactl -n '__fish_seen_subcommand_from wait' -l now -d 'that has looked at its files'
+complete -c rignoldactl -n '__fish_seen_subcommand_from status' -l connected -d 'is it so'
+complete -c rignoldactl -n '__fish_seen_subcommand_from status' -l within -r -d 'a table in this time'
+complete -c rignoldactl -n '__fish_seen_subcommand_from status' -l sound -d 'did nothing fail'
 complete -c rignoldactl -n '__fish_seen_subcommand_from wait' -l group -r -d 'of those of a group'
 complete -c rignoldactl -n '__fish_seen_subcommand_from wait drain' -l timeout -r -d time
 complete -c rignoldactl -n '__fish_seen_subcommand_from promote' -l as-is -d 'its folder as it is'

@@ -1,14 +1,19 @@
-//! The loop of an agent: its sockets, timers and files. One thread does all of it but hooks and the
-//! look-up of names, and never waits for anything else than for all of them at once.
+//! The loop of an agent: its sockets, timers and files. One thread does all of it but hooks, the
+//! look-up of names and handshakes of TLS, and never waits for anything else than for all of them
+//! at once.
+use crate::answers::{Answers, What};
 use crate::apply::{Applied, Applier, Outcome};
+use crate::asked;
 use crate::config::{plain, Address, Apply, Config, Fault, Parent};
 use crate::control::{self, Asked, Server, Shown};
 use crate::digest::{Ends, Published};
 use crate::fact;
 use crate::journal;
+use crate::label::Labels;
 use crate::metrics;
 use crate::page;
 use crate::refused::Refused;
+use crate::repeats::Repeats;
 use crate::root::Root;
 use crate::serve::Ticket;
 use crate::standby::{Change, Standby};
@@ -19,7 +24,7 @@ use rignolda::net::wire::HEAD_BYTES;
 use rignolda::net::{Body, Handler, Peers, Way};
 use rignolda::settings::{furthest, older, table_of, Meaning, Table, Taker};
 use rignolda_redis::Stores;
-use rignolda_tls::{Caller, Line, Listener, Maker};
+use rignolda_tls::{Caller, Handshakes, Line, Listener, Maker};
 use rignoldactl::{
     at, ChildStatus, Compared, ErrorAt, Request, Response, Seen, Standby as Role, Status,
 };
@@ -65,6 +70,7 @@ type Answer = Result<Option<Response>, Refused>;
 pub struct Agent {
     path: PathBuf,
     config: Config,
+    handshakes: Handshakes,
     maker: Maker,
     poll: Poll,
     events: Events,
@@ -77,6 +83,8 @@ pub struct Agent {
     is_due: bool,
     /// When the first certificate of a line expires, in seconds since 1970.
     expires: i64,
+    /// The lines whose certificates have to be looked at, since the authority may be another one.
+    unsure: Vec<u64>,
     /// The other descriptors that are waited for, each with its number, and whether until they can
     /// be written, and not read.
     others: Vec<(RawFd, u64, bool)>,
@@ -91,12 +99,15 @@ pub struct Agent {
     wake: Arc<dyn Fn() + Send + Sync>,
     state: State,
     servers: Vec<Server>,
+    answers: Answers,
     reported: Instant,
     /// What the children had not acknowledged when it last reported that.
     reported_backlog: u64,
     checked: Instant,
     /// What was not taken at the last reload, and why.
     reload_failed: String,
+    /// What stands for digests where operators ask.
+    labels: Labels,
 }
 
 /// What came, and what became of it.
@@ -122,6 +133,8 @@ struct State {
     /// Whether each body is a fact of the journal, for trials.
     traces: bool,
     said: Option<Instant>,
+    /// What connections make happen at any rate.
+    repeats: Repeats,
 }
 
 /// Runs the agent that this file configures until it is told to end.
@@ -243,10 +256,8 @@ impl State {
     }
 
     /// The digest of its files, where these are a whole table, and nothing waits.
-    fn whole(&self) -> Option<u64> {
-        let number = self.table.taker.number;
-        let applier = self.applier.as_ref().filter(|_| self.table.taker.is_whole())?;
-        applier.files(number).filter(|(before, _)| *before == number).map(|(_, digest)| digest)
+    fn whole(&self) -> Option<String> {
+        self.applier.as_ref().filter(|_| self.table.taker.is_whole())?.whole()
     }
 
     /// Whether to say now what a peer can make happen at any rate: once in a second, but in trials.
@@ -260,7 +271,17 @@ impl State {
     fn knows_groups(&mut self) {
         if self.is_root {
             let own = self.applier.as_ref().map_or(Vec::new(), Applier::groups);
-            self.published.knows(self.below.groups().chain([&own[..]]));
+            self.published.knows(&own, self.below.groups());
+        }
+    }
+
+    /// Takes up what a child said.
+    fn heard(&mut self, child: &str) {
+        self.changed = true;
+        let numbers = self.below.numbers(child).into_iter().chain([self.ahead]);
+        self.ahead = furthest(self.table.taker.number, numbers);
+        if self.below.has_other_groups() {
+            self.knows_groups();
         }
     }
 
@@ -306,6 +327,9 @@ impl Handler for State {
             let is_end = is_table && self.table.heard.looks;
             let ends = if is_end { Ends::ARound } else { Ends::Nothing };
             self.published.take(sequence, &meaning, ends);
+            if self.published.has_other_groups() || is_end {
+                self.knows_groups();
+            }
         }
         // (before a line is written, so that the files wait for nothing)
         if let (true, Some(applier)) = (takes, &mut self.applier) {
@@ -341,13 +365,8 @@ impl Handler for State {
     }
 
     fn on_report(&mut self, child: &str, report: &[u8], now: Instant) -> bool {
-        self.changed = true;
         let is_one = self.below.heard(child, report, now);
-        let numbers = self.below.numbers(child).into_iter().chain([self.ahead]);
-        self.ahead = furthest(self.table.taker.number, numbers);
-        if self.below.has_other_groups() {
-            self.knows_groups();
-        }
+        self.heard(child);
         is_one
     }
 
@@ -362,7 +381,13 @@ impl Handler for State {
 
     fn on_fact(&mut self, fact: &'static str, words: std::fmt::Arguments<'_>) {
         self.changed = true;
-        journal::lines(fact, [words.to_string()]);
+        let mut words = words.to_string();
+        match self.repeats.says(fact, &words, Instant::now()) {
+            None if !self.traces => return,
+            Some(more @ 1..) => words += &format!(" (and {more} more of these)"),
+            _ => (),
+        }
+        journal::lines(fact, [words]);
     }
 }
 
@@ -396,15 +421,18 @@ impl Agent {
         };
         let mut table = Table::default();
         table.taker = Taker::new(applier.as_ref().map_or(0, Applier::floor));
+        let handshakes = Handshakes::new(wake.clone());
         Ok(Agent {
             path: path.into(),
-            maker: maker(&config)?,
+            maker: maker(&config)?.with_handshakes(&handshakes),
+            handshakes,
             poll,
             events: Events::with_capacity(EVENTS),
             lines: BTreeMap::new(),
             ready: Vec::new(),
             is_due: true,
             expires: i64::MAX,
+            unsure: Vec::new(),
             others: Vec::new(),
             listeners: config.listen.iter().map(listen).collect::<Result<_, _>>()?,
             full_until: now,
@@ -424,10 +452,12 @@ impl Agent {
             root,
             wake,
             servers: control.chain(counts).collect::<Result<_, _>>()?,
+            answers: Answers::default(),
             reported: now,
             reported_backlog: 0,
             checked: now,
             reload_failed: String::new(),
+            labels: Labels::new([random(), random()].map(Result::unwrap_or_default)),
             config,
         })
     }
@@ -437,6 +467,7 @@ impl Agent {
     /// Waits until something can be done: the descriptors besides lines for which it can.
     fn wait(&mut self, signals: &Signals, most: Duration) -> io::Result<HashSet<RawFd>> {
         let now = Instant::now();
+        self.handshakes.go_on(now);
         let listeners = self.listeners.iter().filter(|_| now >= self.full_until);
         let reads = [signals.reload.as_raw_fd(), signals.end.as_raw_fd()].into_iter();
         let reads = reads.chain(listeners.map(|it| it.socket.as_raw_fd()));
@@ -479,6 +510,7 @@ impl Agent {
                 Token(other) => drop(fired.insert((other & !OTHER) as RawFd)),
             }
         }
+        self.ready.extend(self.handshakes.ended(Instant::now()));
         self.is_due |= !fired.is_empty();
         // (of these, all need not be read at once: so the system is asked again)
         for it in self.others.iter_mut().filter(|it| fired.contains(&it.0)) {
@@ -497,10 +529,11 @@ impl Agent {
         // (the clock may be set meanwhile)
         let expires = Some(now + Duration::from_secs(expires).min(CLOCK));
         let files = self.state.applying.map(|_| now + ASKS_AGAIN);
-        let more = self.may_publish().then_some(now);
+        let more = (self.may_publish() || !self.unsure.is_empty()).then_some(now);
         let (peers, checks) = (self.peers.deadline(now), Some(self.checked + self.checks()[1]));
         let standby = self.state.standby.as_ref().and_then(Standby::deadline);
-        let all = [peers, root, standby, report, served, full, files, more, expires, checks];
+        let reads = self.state.below.reads_at(now);
+        let all = [peers, root, standby, report, reads, served, full, files, more, expires, checks];
         all.into_iter().flatten().min().unwrap_or(now + CLOCK)
     }
 
@@ -511,6 +544,7 @@ impl Agent {
             self.stores.done(&mut self.peers, now, &mut self.state);
             self.accept(fired, now);
             self.leave_expired(now);
+            self.leave_distrusted(now);
             self.peers.tick(now, &mut self.state);
             self.connect(now);
             if let Some(root) = &mut self.root {
@@ -520,6 +554,7 @@ impl Agent {
                 root.tick(now, || self.state.below.depth());
             }
             self.state.applied(now);
+            self.state.below.reads(now).iter().for_each(|child| self.state.heard(child));
             self.stand(now)?;
             self.serve(fired, now);
             self.report(now);
@@ -535,7 +570,9 @@ impl Agent {
         let whole = self.state.whole();
         let Some(standby) = &mut self.state.standby else { return Ok(()) };
         whole.into_iter().for_each(|digest| standby.notes(digest));
-        let change = standby.tick(self.config.peers.parents.len(), now);
+        let parents = &self.config.peers.parents;
+        let (said, children) = said(&self.peers, &self.state.below, parents);
+        let change = standby.tick(parents.len(), &said, children, now);
         let answers = standby.answers();
         let (rank, was_root) = (standby.rank(), self.config.peers.rank.is_some());
         self.config.peers.rank = rank;
@@ -549,7 +586,10 @@ impl Agent {
             self.root.iter_mut().for_each(|root| root.begins_above(number));
         }
         for (ticket, done) in answers {
-            let response = done.map_or_else(refused, |()| Response::Done);
+            let response = done.map_or_else(refused, |it| match it {
+                none if none.is_empty() => Response::Done,
+                words => Response::Said(words),
+            });
             say(&mut self.servers, ticket, &response);
         }
         Ok(())
@@ -585,13 +625,20 @@ impl Agent {
             return Ok(());
         }
         self.checked = now;
+        self.answers.passes(now);
+        for (fact, words) in self.state.repeats.passes(now) {
+            journal::lines(fact, [words]);
+        }
         self.full_until = self.full_until.min(now + FULL);
         self.reported = self.reported.min(now);
         // (where a child acknowledges the last item, nothing else may be new)
         self.state.changed |= self.reported_backlog != self.backlog();
         let table = &mut self.state.table;
         table.changed = older(table.changed, table.taker.number);
-        self.state.knows_groups();
+        if self.state.below.leaves_out() {
+            let status = self.status(now);
+            self.state.below.are_back(&status, now);
+        }
         // (all are looked at again)
         self.expires = i64::MAX;
         self.lines.retain(|id, _| self.peers.line(*id).is_some());
@@ -645,6 +692,17 @@ impl Agent {
         }
     }
 
+    /// Leaves lines whose certificates are of no authority any more: some are looked at in a turn.
+    fn leave_distrusted(&mut self, now: Instant) {
+        let later = self.unsure.len().saturating_sub(ACCEPTS);
+        for id in self.unsure.split_off(later) {
+            let holds = self.peers.line(id).map_or(Ok(()), |(line, _)| line.holds(&self.maker));
+            if let Err(why) = holds {
+                self.peers.close(id, &why, now, &mut self.state);
+            }
+        }
+    }
+
     /// Leaves lines when the certificate of one of their ends has expired.
     fn leave_expired(&mut self, now: Instant) {
         let time = unix_now();
@@ -676,12 +734,24 @@ impl Agent {
     /// Whether something waits to be published, and the quickest child that there is takes it.
     fn may_publish(&self) -> bool {
         let backlog = || self.peers.relay().least_backlog();
-        self.root.as_ref().is_some_and(Root::waits) && backlog().unwrap_or(0) <= 1
+        let standby = self.state.standby.as_ref();
+        let may = |number| standby.is_none_or(|it| it.may_publish(number));
+        self.next_number().is_some_and(may) && backlog().unwrap_or(0) <= 1
+    }
+
+    /// The number of the next body, where one waits.
+    fn next_number(&self) -> Option<u64> {
+        let root = self.root.as_ref().filter(|root| root.waits())?;
+        Some(root.next_number(self.config.backlog / 2))
     }
 
     /// At the root: publishes what waits, as fast as the quickest child takes it.
     fn publish(&mut self, now: Instant) {
         self.root.iter_mut().for_each(|root| root.hears(self.state.numbers()));
+        let number = self.next_number();
+        if let (Some(number), Some(standby)) = (number, &mut self.state.standby) {
+            standby.reserves(number);
+        }
         while self.may_publish() {
             let Some(root) = &mut self.root else { return };
             let Some(published) = root.next(self.config.backlog / 2, now) else { break };
@@ -768,8 +838,9 @@ impl Agent {
             other_root: standby.map_or(String::new(), |it| it.other().into()),
             version: env!("CARGO_PKG_VERSION").into(),
             failing: applier.as_ref().map_or(0, Applier::failing),
+            failures: applier.as_ref().map_or(Vec::new(), |it| it.failures(FAULTS)),
             parent: parent.map(|(parent, _)| parent.to_string()),
-            no_parent: parent.map_or(self.peers.no_parent(), |_| "").into(),
+            no_parent: parent.map_or_else(|| why_none(self.peers.no_parent()), |_| String::new()),
             place: parent.map_or(0, |(parent, _)| place(&self.config.peers.parents, parent)),
             cost: self.peers.way().cost,
             way: self.peers.way().names.clone(),
@@ -834,13 +905,33 @@ impl Agent {
         status
     }
 
-    /// What whoever watches is shown.
-    fn shown(&self, what: &Shown, now: Instant) -> String {
-        match what {
-            Shown::Counts => metrics::answer(&self.full_status(now)),
-            Shown::Page => page::answer(&self.tree(&self.status(now), now)),
-            Shown::Nothing => metrics::NOTHING.into(),
+    /// What whoever watches is shown: what took long is shown again for a while.
+    fn shown(&mut self, what: What, now: Instant) -> Arc<[u8]> {
+        let (changed, begun) = (self.state.table.changed, Instant::now());
+        if let Some(again) = self.answers.again(what, changed, now) {
+            return again;
         }
+        let made = match what {
+            What::Counts => metrics::answer(&self.full_status(now)).into(),
+            What::Page => page::answer(&self.tree(&self.status(now), now)).into(),
+            What::Status => {
+                let status = self.labels.status(self.full_status(now));
+                control::answer(&Response::Status(Box::new(status)))
+            }
+            What::Tree => {
+                let list = self.labels.list(self.tree(&self.status(now), now));
+                control::answer(&Response::Tree(list))
+            }
+        };
+        let made = made.into();
+        self.answers.keep(what, changed, &made, begun.elapsed(), now);
+        made
+    }
+
+    /// Answers an operator who watches.
+    fn show(&mut self, what: What, ticket: Ticket, now: Instant) {
+        let shown = self.shown(what, now);
+        self.servers.iter_mut().for_each(|it| it.answer(ticket, &shown));
     }
 
     fn serve(&mut self, fired: &HashSet<RawFd>, now: Instant) {
@@ -848,12 +939,23 @@ impl Agent {
         for (ticket, asked) in asked.collect::<Vec<_>>() {
             match asked {
                 Asked::Shown(what) => {
-                    let shown = self.shown(&what, now).into_bytes();
+                    let shown = match what {
+                        Shown::Counts => self.shown(What::Counts, now),
+                        Shown::Page => self.shown(What::Page, now),
+                        Shown::Nothing => metrics::NOTHING.as_bytes().into(),
+                        Shown::Elsewhere => metrics::ELSEWHERE.as_bytes().into(),
+                    };
                     self.servers.iter_mut().for_each(|it| it.answer_last(ticket, &shown));
                 }
-                Asked::Request(request) => {
+                Asked::Request(request, by) => {
+                    let words = request.as_ref().ok().and_then(asked::words);
+                    let client = self.servers.iter().find_map(|it| it.client(ticket));
+                    let by = words.as_ref().map(|_| asked::by(client.and_then(asked::user), &by));
                     let request = request.map_err(Refused::from);
                     let response = request.and_then(|it| self.request(ticket, it, now));
+                    if let (Some(words), Some(by), Ok(_)) = (words, by, &response) {
+                        fact!("asked", "{words}, by {by}");
+                    }
                     let response = response.unwrap_or_else(|why| Some(refused(why)));
                     response.into_iter().for_each(|it| say(&mut self.servers, ticket, &it));
                 }
@@ -864,12 +966,17 @@ impl Agent {
 
     /// Does what an operator asks for.
     fn request(&mut self, ticket: Ticket, request: Request, now: Instant) -> Answer {
+        if !matches!(request, Request::Status | Request::Tree) {
+            self.answers.forget();
+        }
         match (request, &mut self.root) {
             (Request::Status, _) => {
-                return Ok(Some(Response::Status(Box::new(self.full_status(now)))));
+                self.show(What::Status, ticket, now);
+                return Ok(None);
             }
             (Request::Tree, _) => {
-                return Ok(Some(Response::Tree(self.tree(&self.status(now), now))));
+                self.show(What::Tree, ticket, now);
+                return Ok(None);
             }
             (Request::ChildAdd { .. }, _) if self.listeners.is_empty() => {
                 return Err("nobody can connect: there is no `listen`".into());
@@ -884,12 +991,28 @@ impl Agent {
                 removed.map_err(|why| why.to_string())?;
                 self.config.peers = self.peers.setup().clone();
             }
+            (Request::Forget { name }, _) => {
+                let list = self.state.below.tree(&self.status(now), now);
+                match list.iter().skip(1).find(|seen| seen.name == name) {
+                    None => return Err(format!("no agent `{name}` is known below it").into()),
+                    Some(seen) if seen.connected => {
+                        return Err(format!("`{name}` is connected").into());
+                    }
+                    Some(_) => self.state.below.leave_out(&name),
+                }
+                self.state.changed = true;
+            }
             (Request::Promote { as_is }, _) => {
                 let digest = self.state.whole();
-                let seen = furthest(self.state.table.taker.number, self.state.numbers());
+                let taker = &self.state.table.taker;
+                let seen = furthest(taker.number, self.state.numbers());
+                let own = furthest(taker.floor, [taker.number]);
+                let newer = self.state.below.newer(own).map(|(who, newer)| {
+                    format!("{who} has change {newer}, and this agent has none after {own}")
+                });
                 let standby = self.state.standby.as_mut();
                 let standby = standby.ok_or(Refused::NoStandby)?;
-                return standby.promote(!as_is, seen, digest, ticket).map(|()| None);
+                return standby.promote(!as_is, newer, seen, digest, ticket).map(|()| None);
             }
             (Request::Demote, _) => {
                 let standby = self.state.standby.as_mut();
@@ -898,7 +1021,8 @@ impl Agent {
             }
             (_, None) => return Err(Refused::NotRoot),
             (Request::Key { key }, _) => {
-                return Ok(Some(Response::Key(self.state.published.key(&key))));
+                let keys = self.labels.keys(self.state.published.key(&key));
+                return Ok(Some(Response::Key(keys)));
             }
             // (who asked for a change is answered when it is published)
             (Request::Publish { key, value }, Some(root)) => {
@@ -912,7 +1036,7 @@ impl Agent {
                 root.resume();
                 root.begin_round(now);
             }
-            (Request::Round, Some(root)) => root.begin_round(now),
+            (Request::Round, Some(root)) => return root.ask_round(now, ticket).map(|()| None),
             (Request::PromoteValue { key }, Some(root)) => {
                 return root.promote(&key, ticket).map(|()| None);
             }
@@ -921,7 +1045,7 @@ impl Agent {
                 return Ok(None);
             }
             (Request::Confirm { digest }, Some(root)) => {
-                return root.confirm(digest, now, ticket).map(|()| None);
+                return root.confirm(&digest, now, ticket).map(|()| None);
             }
             (Request::Look, Some(root)) => {
                 root.look_again(now, ticket);
@@ -938,12 +1062,13 @@ impl Agent {
         let whys = |faults: Vec<Fault>| faults.iter().map(Fault::to_string).collect::<Vec<_>>();
         let mut new =
             Config::read(&self.path).map_err(|faults| nothing(whys(faults).join("; ")))?;
-        let standby = |config: &Config| config.root.as_ref().map(|root| root.standby);
-        if standby(&new) != standby(&self.config) {
-            return Err(nothing("a root is one from its start alone".into()));
+        if let Some(why) = self.config.refuses(&new) {
+            return Err(nothing(why.into()));
         }
         new.peers.rank = self.config.peers.rank;
-        self.maker = maker(&new).map_err(|why| nothing(why.to_string()))?;
+        let maker = maker(&new).map_err(|why| nothing(why.to_string()))?;
+        self.maker = maker.with_handshakes(&self.handshakes);
+        self.unsure = self.peers.lines().map(|(id, ..)| id).collect();
         let late = self.config.take(new).join(", ");
         if let (Some(applier), Some(apply)) = (&mut self.state.applier, &self.config.apply) {
             applier.reload(apply);
@@ -951,6 +1076,7 @@ impl Agent {
         if let (Some(root), Some(config)) = (&mut self.root, &self.config.root) {
             root.reload(config, now);
         }
+        self.state.knows_groups();
         self.peers.set_up(self.config.peers.clone(), now, &mut self.state);
         self.state.changed = true;
         let late = Some(late).filter(|late| !late.is_empty());
@@ -963,6 +1089,30 @@ fn watch(registry: &Registry, fd: RawFd, token: Token, interest: Interest) -> io
     let mut it = SourceFd(&fd);
     let again = registry.reregister(&mut it, token, interest);
     again.or_else(|_| registry.register(&mut it, token, interest))
+}
+
+/// The numbers that children have, where they have said any since they connected, and how many
+/// children there are: without those that may be another root.
+fn said(
+    peers: &Peers<Line, Address>,
+    below: &Below,
+    parents: &[Parent<Address>],
+) -> (Vec<u64>, usize) {
+    let is_root = |name: &String| parents.iter().any(|it| it.name.as_ref() == Some(name));
+    let children = peers.relay().children().filter(|(name, _)| !is_root(name));
+    let children: Vec<_> = children.collect();
+    let connected = children.iter().filter(|(_, link)| link.is_connected());
+    (connected.filter_map(|(name, _)| below.number(name)).collect(), children.len())
+}
+
+/// Why there is no parent: one that refuses a child only closes the connection.
+fn why_none(why: &str) -> String {
+    match why.ends_with("the other end closed it") {
+        true => {
+            format!("{why}: why, its `status` and journal say, as where this is no child there")
+        }
+        false => why.into(),
+    }
 }
 
 /// At which place of a list of parents this one is.

@@ -12,13 +12,18 @@
 //! folder; to choose one, nothing is read there, since each body has all that are set.
 //!
 //! The marker of the folder has the number up to which its files are, or are about to be: an agent
-//! that starts applies nothing older.
+//! that starts applies nothing older. It is there before any other file.
+//!
+//! What no setting names is removed, so a folder has to be [the agent's own](refusal). That it is,
+//! is known of one folder alone, and not of what comes to its place: each body is applied in a
+//! folder that is held open.
 use crate::config::{is_key, Apply};
 use crate::digest::Digest;
 use crate::fact;
-use crate::floor::{read_floor, Marker};
-use crate::folder::{remove, Folder};
+use crate::floor::{self, read_floor, Marker};
+use crate::folder::{unlink, Folder};
 use crate::hooks::{self, Hook, Runs, INPUT, PENDING};
+use crate::place::{has_mount, Identity, Place};
 use rignolda::net::LOST;
 use rignolda::settings::{
     older, parts, shown, Change, Heard, Meaning, Waiting, SETTINGS, VALUE_BYTES,
@@ -29,7 +34,7 @@ use std::collections::{BTreeMap, BTreeSet};
 use std::fmt;
 use std::fs;
 use std::io;
-use std::path::PathBuf;
+use std::path::{Path, PathBuf};
 use std::sync::{Arc, Condvar, Mutex, MutexGuard, PoisonError};
 use std::thread::{self, JoinHandle};
 use std::time::{Duration, Instant};
@@ -40,6 +45,8 @@ pub const GROUPS: &str = ".groups";
 const GROUPS_MODE: u32 = 0o600;
 /// The file that says that a folder is an agent's, and up to which number its files are.
 const MARKER: &str = ".rignolda";
+/// How much is said of why something failed, in characters.
+const WHY: usize = 200;
 /// How soon after a look at all that is in the folder the next one is, unless a table looks: where
 /// changes come faster than that, none of them waits for it.
 const LISTS: Duration = Duration::from_secs(1);
@@ -83,11 +90,39 @@ impl fmt::Display for Outcome {
 /// has what a setting could name, but nothing that says it is an agent's.
 pub fn refusal(config: &Apply) -> Option<String> {
     let folder = &config.folder;
-    let is_own = config.take || [MARKER, PENDING].iter().any(|it| folder.join(it).exists());
-    let there = fs::read_dir(folder).ok().filter(|_| !is_own)?;
+    let there = fs::read_dir(folder).ok().filter(|_| !has_consent(config, folder))?;
     let mut names = there.flatten().filter_map(|entry| entry.file_name().into_string().ok());
-    let (name, folder) = (names.find(|name| is_key(name))?, folder.display());
-    Some(format!("{folder} has `{name}`, and no `{MARKER}`: all of it would go; see `take`"))
+    names.find(|name| is_key(name)).map(|name| has(config, &name))
+}
+
+/// Whether somebody said of the folder at this path that it is an agent's.
+fn has_consent(config: &Apply, at: &Path) -> bool {
+    config.take || [MARKER, PENDING].iter().any(|it| fs::symlink_metadata(at.join(it)).is_ok())
+}
+
+/// Why a folder that has this name is not taken.
+fn has(config: &Apply, name: &str) -> String {
+    let folder = config.folder.display();
+    format!("{folder} has `{name}`, and no `{MARKER}`: all of it would go; see `take`")
+}
+
+/// Why the folder that is open is not taken, where it is not, and these files are to be in it: the
+/// first one of a life, or a later one that came to its place.
+///
+/// Of the first one it is also the agent's where a table names all that is in it, so that nothing
+/// would go. In a later one each file has to have the value that the agent put, or puts.
+fn refused(config: &Apply, folder: &Folder, files: &Waiting, is_first: bool) -> Option<String> {
+    if has_consent(config, folder.at()) {
+        return None;
+    }
+    let stranger = if is_first {
+        let all = folder.names().into_iter().chain(folder.others()).filter(|it| is_key(it));
+        let named = |name: &String| files.is_whole() && files.has(name);
+        all.filter(|it| !named(it)).min()
+    } else {
+        folder.stranger(|name| files.value(name))
+    };
+    stranger.map(|name| has(config, &name))
 }
 
 /// Wakes the loop when a hook has ended. What was done about files, it asks for.
@@ -125,8 +160,11 @@ struct State {
     /// Whether files, or hooks, were taken in hand since the last look.
     took_files: bool,
     took_hooks: bool,
-    /// The digest of the files, once all were looked at.
+    /// The digest of the files, once all were looked at; and that by which they may be promoted.
     digest: Option<u64>,
+    whole: Option<String>,
+    /// Which folder is the agent's own.
+    taken: Option<Identity>,
     /// The key whose file is being written.
     key: Option<String>,
     hooks: Waiting,
@@ -159,7 +197,8 @@ impl State {
         for hook in &config.hooks {
             self.runs.insert(hook.clone(), old.remove(hook).unwrap_or_default());
         }
-        for runs in old.into_values() {
+        for (hook, runs) in old {
+            self.failing.remove(&hook.name());
             let waiting = runs.waiting.in_order().into_iter().chain(runs.changing.in_order());
             let running = runs.running.into_iter().flat_map(|it| it.0);
             self.due.extend(waiting.map(|(key, _)| key).chain(running).chain(runs.due));
@@ -363,6 +402,14 @@ impl Applier {
         Some((before, digest))
     }
 
+    /// The [digest of all files](Digest::whole), where they may be promoted, are what bodies said,
+    /// and nothing waits.
+    pub fn whole(&self) -> Option<String> {
+        let state = self.shared.lock();
+        let waits = state.holds || state.writing.is_some() || !state.files.is_empty();
+        state.whole.clone().filter(|_| state.digest.is_some() && !waits)
+    }
+
     /// What of its state cannot be, where something cannot: to be asked each second or two.
     pub fn fault(&self, config: &Apply) -> Option<&'static str> {
         let mut state = self.shared.lock();
@@ -398,6 +445,13 @@ impl Applier {
     /// How many settings have a file or hook that failed last.
     pub fn failing(&self) -> u64 {
         self.shared.lock().failing.len() as u64
+    }
+
+    /// The first of these, so many at most, each with why.
+    pub fn failures(&self, most: usize) -> Vec<String> {
+        let state = self.shared.lock();
+        let all = state.failing.iter().take(most);
+        all.map(|(key, why)| format!("{key}: {why}").chars().take(WHY).collect()).collect()
     }
 
     /// How many hooks failed since the start.
@@ -454,6 +508,12 @@ impl Shared {
         None
     }
 
+    /// The folder, as long as the one at its place is the agent's own.
+    fn place(&self) -> Option<Place> {
+        let taken = self.lock().taken?;
+        Place::open(&self.folder).ok().filter(|it| it.is() == taken)
+    }
+
     fn report(&self, state: &mut State, key: &str, sequence: u64, status: Outcome) {
         let before = match &status {
             Outcome::Done => state.failing.remove(key),
@@ -479,13 +539,20 @@ fn keep_files(shared: &Shared) {
     let (mut folder, mut others) = (Folder::new(shared.folder.clone()), Others::default());
     let mut marker = Marker::default();
     let mut grouped = Folder::new(shared.folder.join(GROUPS));
-    let (mut is_taken, mut digest, mut groups) = (false, None, Vec::new());
+    let (mut taken, mut digest, mut groups) = (None, None, Vec::new());
     // (whether its files were never looked at with this mode)
     let (mut is_first, mut mode) = (true, 0);
-    while let Some(work) = shared.next_within(&shared.files, others.waits(&marker), take) {
-        let Some((mut files, due, looks, floor, config)) = work else {
+    // (whether somebody may be removing the folder since its files were put)
+    let mut may_go = false;
+    loop {
+        let waits = others.waits(&marker).or(may_go.then_some(LISTS));
+        let Some(work) = shared.next_within(&shared.files, waits, take) else { break };
+        let Some((mut files, due, mut looks, floor, config)) = work else {
             marker.close();
             others.say_if_due(&folder);
+            if std::mem::take(&mut may_go) {
+                folder.begins_again();
+            }
             continue;
         };
         if folder.path() != config.folder {
@@ -500,26 +567,39 @@ fn keep_files(shared: &Shared) {
         }
         let all;
         (files, all) = files.of_groups(&groups);
-        // (until it is the agent's, nothing in it is touched; the next table sets all then. It is
-        // also where a table names all that is in it, so that nothing would go)
-        let there = || folder.names().into_iter().chain(folder.others()).filter(|it| is_key(it));
-        let is_known = is_taken || files.is_whole() && there().all(|name| files.has(&name));
-        let refused = (!is_known).then(|| refusal(&config)).flatten();
+        // (until it is the agent's, nothing in it is touched; the next table sets all then)
+        let refused = match folder.open() {
+            Err(error) => Some(error.to_string()),
+            Ok(_) if taken.is_some() && taken == folder.is() => None,
+            Ok(_) => refused(&config, &folder, &files, taken.is_none()),
+        };
         // (what came while it was refused was dropped, so a change alone is not enough)
         let lacks = shared.lock().failing.get(MARKER).cloned().filter(|_| !files.is_whole());
         let refused = refused.map(Outcome::File).or(lacks);
         // (else older ones could follow what is written now, by a process that is ended meanwhile)
         let outcome =
-            refused.unwrap_or_else(|| mark(&mut marker, &folder, floor, files.is_whole()));
-        is_taken = outcome == Outcome::Done;
+            refused.unwrap_or_else(|| mark(&mut marker, &mut folder, floor, files.is_whole()));
+        let is_taken = outcome == Outcome::Done;
         if !is_taken || shared.lock().failing.contains_key(MARKER) {
             let (mut state, sequence) = (shared.lock(), files.first().unwrap_or(0));
             shared.report(&mut state, MARKER, sequence, outcome);
             if !is_taken {
                 // (and it is looked at as a whole before a digest is known again)
                 (state.looks, state.writing, state.digest) = (true, None, None);
+                folder.close();
+                marker.close();
                 continue;
             }
+        }
+        if taken != folder.is() {
+            // (of another folder nothing is known, and a change alone does not make it right)
+            // (what is in it is as much its own, values for groups too)
+            folder.forget();
+            grouped = Folder::new(config.folder.join(GROUPS));
+            (taken, digest, looks) = (folder.is(), None, true);
+            let mut state = shared.lock();
+            state.taken = taken;
+            state.looks |= !files.is_whole();
         }
         if files.is_whole() {
             // (a folder in it is no setting, and may be somebody's)
@@ -528,6 +608,8 @@ fn keep_files(shared: &Shared) {
             if looks {
                 is_first = digest.replace(Digest::default()).is_none() || mode != config.mode;
                 mode = config.mode;
+                // (what cannot be so is seen by whoever cannot list it)
+                let _ = folder.is_listed_by_readers(mode);
             }
         }
         let (mut mended, is_whole) = (Vec::new(), files.is_whole());
@@ -549,10 +631,13 @@ fn keep_files(shared: &Shared) {
                 _ => (),
             }
         }
-        keep_grouped(shared, &mut grouped, all, looks);
+        keep_grouped(shared, &folder, &mut grouped, all, looks);
         if looks {
             others.may_say(&folder, is_whole);
         }
+        let was_removed = taken != folder.is();
+        (taken, may_go) = (folder.is(), true);
+        folder.close();
         if let [first, ..] = &mended[..] {
             fact!("mended", "{} files were not as they were put, as {first}", mended.len());
         }
@@ -563,13 +648,64 @@ fn keep_files(shared: &Shared) {
             shared.hooks.notify_all();
         }
         state.writing = None;
+        if was_removed {
+            // (what was put before that is gone)
+            (state.taken, state.looks, digest) = (taken, true, None);
+        }
         let is_of_now = state.config.groups == groups;
-        state.digest = digest.as_ref().filter(|_| is_of_now).map(|it| it.sum);
+        let digest = digest.as_ref().filter(|_| is_of_now);
+        state.whole = digest.filter(|_| config.may_be_root).map(Digest::whole);
+        state.digest = digest.map(|it| it.sum);
     }
 }
 
+/// Opens the folder of values as they are published, where it is there or one is to be put; whether
+/// there is one. One that has no marker is the agent's where it was there when that took the folder
+/// around it, and is no mount, or where it has nothing else than these values.
+fn open_grouped(within: &Folder, folder: &mut Folder, all: &Waiting) -> io::Result<bool> {
+    let at = within.at().join(GROUPS);
+    let place = match Place::open_itself(&at) {
+        Err(_) if !all.sets() => return Ok(false),
+        Err(_) => {
+            unlink(&at)?;
+            fs::create_dir(&at)?;
+            Place::open_itself(&at)?
+        }
+        Ok(place) => place,
+    };
+    let is_first = folder.is().is_none();
+    folder.begins_with(MARKER, Vec::new());
+    if folder.is_at(place) {
+        let is_marked = fs::symlink_metadata(folder.at().join(MARKER)).is_ok();
+        let is_known = is_marked || is_first && !has_mount(&at);
+        let stranger = || folder.stranger(|name| all.value(name));
+        if let Some(name) = (!is_known).then(stranger).flatten() {
+            return Err(io::Error::other(format!("another folder is in its place, with `{name}`")));
+        }
+        folder.forget();
+        folder.begins()?;
+    }
+    Ok(true)
+}
+
 /// Keeps values as they are published, of keys that have one for some group.
-fn keep_grouped(shared: &Shared, folder: &mut Folder, mut all: Waiting, looks: bool) {
+fn keep_grouped(
+    shared: &Shared,
+    within: &Folder,
+    folder: &mut Folder,
+    mut all: Waiting,
+    looks: bool,
+) {
+    let was = folder.is();
+    match open_grouped(within, folder, &all) {
+        Ok(true) => drop(shared.lock().failing.remove(GROUPS)),
+        Ok(false) => return drop(shared.lock().failing.remove(GROUPS)),
+        Err(error) => {
+            let (mut state, number) = (shared.lock(), all.first().unwrap_or(0));
+            shared.report(&mut state, GROUPS, number, Outcome::File(error.to_string()));
+            return folder.leave(was);
+        }
+    }
     if all.is_whole() {
         let there = if looks { folder.names() } else { folder.keys() };
         all.unset_others(there);
@@ -578,13 +714,7 @@ fn keep_grouped(shared: &Shared, folder: &mut Folder, mut all: Waiting, looks: b
         let value = change.value.as_deref();
         let had = !looks && value.map_or(!folder.knows(&key), |value| folder.had(&key, value));
         let differs = !had && folder.differs(&key, value, GROUPS_MODE);
-        let put = |folder: &mut Folder| {
-            if value.is_some() && !folder.path().is_dir() {
-                remove(folder.path())?;
-            }
-            folder.put(&key, value, GROUPS_MODE)
-        };
-        let kept = if differs { put(folder) } else { Ok(true) };
+        let kept = if differs { folder.put(&key, value, GROUPS_MODE) } else { Ok(true) };
         let (mut state, name) = (shared.lock(), format!("{GROUPS}/{}", shown(&key)));
         match kept {
             Ok(_) => drop(state.failing.remove(&name)),
@@ -594,16 +724,19 @@ fn keep_grouped(shared: &Shared, folder: &mut Folder, mut all: Waiting, looks: b
             }
         }
     }
+    folder.close();
 }
 
-/// Says in the folder that it is an agent's, and up to which number its files will be.
-fn mark(marker: &mut Marker, folder: &Folder, floor: u64, is_whole: bool) -> Outcome {
+/// Says in the folder that it is an agent's, and up to which number its files will be; and so it is
+/// before any of them is put there, too.
+fn mark(marker: &mut Marker, folder: &mut Folder, floor: u64, is_whole: bool) -> Outcome {
+    folder.begins_with(MARKER, floor::text(floor).into_bytes());
     // (a table looks at the folder itself too, and leaves nothing open)
     let mut once = Marker::default();
     let marker = if is_whole { &mut once } else { marker };
     let marked = marker.write(folder, MARKER, floor);
     // (one that cannot be listed may have what no table names)
-    let listed = || if is_whole { fs::read_dir(folder.path()).map(drop) } else { Ok(()) };
+    let listed = || if is_whole { fs::read_dir(folder.at()).map(drop) } else { Ok(()) };
     let marked = marked.and_then(|()| listed());
     marked.map_or_else(|error| Outcome::File(error.to_string()), |()| Outcome::Done)
 }
@@ -654,7 +787,7 @@ impl Others {
 
 /// Takes up what the file of a key is now that it was written, or could not be.
 fn see(digest: &mut Digest, folder: &Folder, key: &str) {
-    match read_plain(&folder.path().join(key), VALUE_BYTES) {
+    match read_plain(&folder.at().join(key), VALUE_BYTES) {
         Ok(value) => digest.set(key, Some(&value)),
         Err(error) if error.kind() == io::ErrorKind::NotFound => digest.unset(key),
         Err(_) => digest.set(key, None),
@@ -676,7 +809,7 @@ fn keep_file(
     waited.unwrap_or_else(PoisonError::into_inner).0.key = Some(key.into());
     let kept = if work.differs {
         let is_told = config.hook.is_some() || !work.hooks.is_empty();
-        let announced = if is_told { hooks::announce(&shared.folder, key) } else { Ok(()) };
+        let announced = if is_told { hooks::announce(folder.at(), key) } else { Ok(()) };
         announced.and_then(|()| folder.put(key, change.value.as_deref(), config.mode))
     } else {
         Ok(true)
@@ -750,7 +883,10 @@ fn run_hooks(shared: &Shared) {
 }
 
 fn run_one(shared: &Shared, config: &Apply, key: &str, change: &Change) {
-    let status = hooks::run(&shared.folder, config, key, change);
+    let place = shared.place();
+    let house = hooks::House::new(&shared.folder, place.as_ref().map(Place::at));
+    let status = hooks::run(&house, config, key, change);
+    drop(place);
     if status.is_ok() {
         settle(shared, [key]);
     }
@@ -766,7 +902,10 @@ fn run_one(shared: &Shared, config: &Apply, key: &str, change: &Change) {
 }
 
 fn run_many(shared: &Shared, hook: &Hook, keys: BTreeSet<String>, last: u64) {
-    let status = hook.run(&shared.folder, &keys, last);
+    let place = shared.place();
+    let house = hooks::House::new(&shared.folder, place.as_ref().map(Place::at));
+    let status = hook.run(&house, &keys, last);
+    drop(place);
     let is_there = || shared.lock().runs.get(hook).is_some_and(|it| it.running.is_some());
     if status.is_ok() && is_there() {
         settle(shared, keys.iter().map(String::as_str));
@@ -777,14 +916,14 @@ fn run_many(shared: &Shared, hook: &Hook, keys: BTreeSet<String>, last: u64) {
     if outcome != Outcome::Done {
         state.failures += 1;
     }
-    // (else all hooks are told of them at the next round)
+    // (else all hooks are told of them at the next round, and this one fails no more)
     if let Some(runs) = state.runs.get_mut(hook) {
         runs.running = None;
         if outcome != Outcome::Done {
             runs.due.extend(keys);
         }
+        shared.report(&mut state, &hook.name(), last, outcome);
     }
-    shared.report(&mut state, &hook.name(), last, outcome);
 }
 
 /// Takes away the marks of keys of which a hook has ended well, unless there are more to come.
@@ -794,7 +933,9 @@ fn settle<'a>(shared: &Shared, keys: impl IntoIterator<Item = &'a str>) {
     state.settling.extend(keys.iter().map(|key| (*key).to_owned()));
     // (the disk may hang: so the lock that the loop takes is not held)
     drop(state);
-    keys.iter().for_each(|key| hooks::settle(&shared.folder, key));
+    if let Some(place) = shared.place() {
+        keys.iter().for_each(|key| hooks::settle(place.at(), key));
+    }
     let mut state = shared.lock();
     state.settling.retain(|key| !keys.contains(&&**key));
 }

@@ -1,7 +1,7 @@
 //! Files that are kept on the disk, several at once.
 use rignolda::settings::shown;
 use std::collections::BTreeSet;
-use std::fs::{self, File, OpenOptions, Permissions};
+use std::fs::{self, File, OpenOptions};
 use std::io::{self, ErrorKind, Write};
 use std::os::unix::fs::{OpenOptionsExt, PermissionsExt};
 use std::path::{Path, PathBuf};
@@ -11,8 +11,11 @@ use std::time::{Duration, Instant};
 /// A disk that takes longer than this for one file is given the others at once.
 const QUICK: Duration = Duration::from_micros(500);
 const STACK_BYTES: usize = 64 << 10;
-/// The permissions of a file that is in nobody's place, at most.
-const NEW: u32 = 0o640;
+/// The permissions of a file, at most; and what it has of them in any case.
+const MOST: u32 = 0o640;
+const LEAST: u32 = 0o600;
+/// How many names beside a place are tried for a new file, since a folder may have some of them.
+const NAMES: usize = 100;
 
 /// A key, and its value; without one, it is unset.
 pub type Kept = (String, Option<Vec<u8>>);
@@ -41,6 +44,8 @@ pub type Kept = (String, Option<Vec<u8>>);
 #[derive(Debug, Default)]
 pub struct Batch {
     new: Vec<New>,
+    /// How many names were used for files that are beside their places.
+    names: usize,
     /// The folders in which something moved, or was removed.
     folders: BTreeSet<PathBuf>,
 }
@@ -59,27 +64,46 @@ impl Batch {
     }
 
     /// Writes a file beside its place, under a name with a dot in front. A batch has at most one
-    /// file of each path, and a folder one batch. Where there is a file in that place, the new one
-    /// gets its permissions, and never has more; else 0640, or what the mask of the process leaves.
+    /// file of each path, and a folder one batch. Its mode is 0640, or what the mask of the process
+    /// leaves; and 0600 where a file is in that place that is for its owner alone. What else that
+    /// allows to anybody, or what a link there leads to, makes no difference.
     ///
     /// # Errors
     ///
     /// Where the system refuses it; then the file is not in the batch.
     pub fn write(&mut self, path: PathBuf, value: &[u8]) -> io::Result<()> {
-        // (a few names, so that one which is killed leaves few files)
-        let beside = path.with_file_name(format!(".rignolda{}.new", self.new.len()));
-        let before = fs::metadata(&path).ok().filter(|is| is.is_file());
-        let before = before.map(|is| is.permissions());
-        let mut file = create(&beside, before.as_ref())?;
-        let written = file.write_all(value);
-        // (the mask of the process may have taken some away)
-        let written = written.and_then(|()| before.map_or(Ok(()), |it| file.set_permissions(it)));
-        if let Err(error) = written {
+        let before = fs::symlink_metadata(&path).ok().filter(|is| is.is_file());
+        let before = before.map_or(MOST, |is| is.permissions().mode());
+        let (beside, mut file) = self.create(&path, LEAST | MOST & before)?;
+        if let Err(error) = file.write_all(value) {
             let _ = fs::remove_file(&beside);
             return Err(error);
         }
         self.new.push(New { file, beside, path });
         Ok(())
+    }
+
+    /// A new file beside a path, in place of one that was left there.
+    fn create(&mut self, path: &Path, mode: u32) -> io::Result<(PathBuf, File)> {
+        let mut options = OpenOptions::new();
+        options.write(true).create_new(true).mode(mode);
+        // (a few names, so that one which is killed leaves few files)
+        let last = self.names + NAMES;
+        loop {
+            let beside = path.with_file_name(format!(".rignolda{}.new", self.names));
+            self.names += 1;
+            match options.open(&beside) {
+                Err(error) if error.kind() == ErrorKind::AlreadyExists => {
+                    match fs::remove_file(&beside) {
+                        Ok(()) => return options.open(&beside).map(|it| (beside, it)),
+                        // (a folder is somebody's)
+                        Err(error) if self.names == last => return Err(error),
+                        Err(_) => (),
+                    }
+                }
+                file => return file.map(|it| (beside, it)),
+            }
+        }
     }
 
     /// Removes a file at once. [`Batch::commit`] waits until the disk knows.
@@ -99,6 +123,7 @@ impl Batch {
     #[must_use = "files may have failed"]
     pub fn commit(&mut self) -> Vec<(PathBuf, io::Error)> {
         let all = std::mem::take(&mut self.new);
+        self.names = 0;
         let done = sync(&all);
         let mut failed = Vec::new();
         for (New { file, beside, path }, synced) in all.into_iter().zip(done) {
@@ -116,20 +141,6 @@ impl Batch {
             let _ = File::open(folder).and_then(|folder| folder.sync_all());
         }
         failed
-    }
-}
-
-/// A new file, in place of one that was left there, with these permissions at most.
-fn create(at: &Path, most: Option<&Permissions>) -> io::Result<File> {
-    let mut options = OpenOptions::new();
-    options.write(true).create_new(true);
-    options.mode(most.map_or(NEW, |most| most.mode() & 0o777));
-    match options.open(at) {
-        Err(error) if error.kind() == ErrorKind::AlreadyExists => {
-            fs::remove_file(at)?;
-            options.open(at)
-        }
-        done => done,
     }
 }
 

@@ -2,7 +2,8 @@
 //! machine, and, of the files of a whole tree, which agents do not fit.
 use crate::apply::refusal;
 use crate::config::{hook_lines, leads, line_of, read_text};
-use crate::config::{Address, Children, Config, Fault, Tls, ROUNDS};
+use crate::config::{Address, Children, Config, Fault, Tls};
+use rignolda::settings::published_by;
 use rignoldactl::harmless_for;
 use std::collections::BTreeMap;
 use std::fs;
@@ -91,6 +92,7 @@ impl Check<'_> {
             let standby = may_be_promoted(config);
             let tests = if path.is_dir() { "-r -x" } else { "-r -f" };
             let is_well = self.may("root.settings", path, tests) && config.control.is_some();
+            self.links(path);
             if standby && path.is_file() {
                 self.say(0, "root.settings", "is no folder: `promote` is refused");
             } else if is_well && path.is_dir() && !self.test("-w", path) {
@@ -112,6 +114,18 @@ impl Check<'_> {
             if fs::symlink_metadata(&path).is_ok_and(|it| !it.file_type().is_socket()) {
                 self.say(0, key, format!("`{}` is there, and no socket", path.display()));
             }
+        }
+    }
+
+    /// Warns of links in the place of settings, as where Kubernetes mounts a ConfigMap.
+    fn links(&mut self, settings: &Path) {
+        let there = fs::read_dir(settings).into_iter().flatten().flatten();
+        let links = there.filter(|it| it.file_type().is_ok_and(|it| it.is_symlink()));
+        let names = links.filter_map(|it| it.file_name().into_string().ok());
+        let names: Vec<String> = names.filter(|it| published_by(it).is_some()).collect();
+        if let Some(first) = names.iter().min() {
+            let (count, text) = (names.len(), "and none is followed: they are not published");
+            self.warn(0, "root.settings", format!("{count} in it are links, as `{first}`, {text}"));
         }
     }
 
@@ -230,11 +244,7 @@ impl Check<'_> {
         let depth = depths.into_iter().flatten().max().unwrap_or(0);
         let (least, config) = (harmless_for(depth), all[root].root.as_ref());
         if config.is_some_and(|it| it.harmless(depth) < least) {
-            let is_said = config.is_some_and(|it| it.harmless.is_some());
-            let room = ROUNDS * (u64::from(least) + 2);
-            let (key, least) =
-                if is_said { ("root.harmless", least.into()) } else { ("link.backlog", room) };
-            self.say(root, key, format!("in this tree it is at least {least}"));
+            self.say(root, "root.harmless", format!("in this tree it is at least {least}"));
         }
     }
 

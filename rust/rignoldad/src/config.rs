@@ -36,7 +36,7 @@ const TEXT_CHARS: usize = 500;
 /// How deep a tree is taken to be while that is not known.
 pub const DEEP: u32 = 10;
 /// Of how many rounds a root's backlogs have room for the items.
-pub const ROUNDS: u64 = 4;
+const ROUNDS: u64 = 4;
 
 /// What an agent is set up with.
 #[derive(Clone, Debug, PartialEq)]
@@ -64,10 +64,8 @@ pub struct Root {
     /// Whether it is an agent as any other until it is promoted.
     pub standby: bool,
     pub round: Duration,
-    /// How many harmless items a round begins with: so many, or those that the tree needs, but no
-    /// more than the backlogs have room for.
+    /// How many harmless items a round begins with: so many, or those that the tree needs.
     pub harmless: Option<u32>,
-    pub most_harmless: u32,
     /// Whether each change of the folder waits until it is confirmed; and how many settings it may
     /// unset without that: half of them where there is no number.
     pub hold: bool,
@@ -87,12 +85,15 @@ pub struct Apply {
     pub hook_timeout: Duration,
     /// The hooks that have one run for many keys, in the order of the file.
     pub hooks: Vec<Hook>,
+    /// Whether what is applied may be promoted.
+    pub may_be_root: bool,
 }
 
 impl Root {
-    /// How many harmless items a round begins with in a tree this deep.
+    /// How many harmless items a round begins with in a tree that is said to be this deep: no more
+    /// than after a start, since any agent can say that many are below it. A deeper one is set up.
     pub fn harmless(&self, depth: u32) -> u32 {
-        self.harmless.unwrap_or(harmless_for(depth).min(self.most_harmless))
+        self.harmless.unwrap_or(harmless_for(depth.min(DEEP)))
     }
 }
 
@@ -166,6 +167,18 @@ impl Config {
         match check.faults.is_empty() {
             true => Ok(config),
             false => Err(check.faults),
+        }
+    }
+
+    /// Why a new configuration cannot be taken while the agent runs, where it cannot: it has a
+    /// table that counts from a start alone, or lacks it.
+    pub fn refuses(&self, new: &Config) -> Option<&'static str> {
+        let standby = |config: &Config| config.root.as_ref().map(|root| root.standby);
+        match (&self.apply, &new.apply) {
+            _ if standby(self) != standby(new) => Some("a root is one from its start alone"),
+            (Some(_), None) => Some("[apply] is gone, which counts from a start alone"),
+            (None, Some(_)) => Some("[apply] is new, which counts from a start alone"),
+            _ => None,
         }
     }
 
@@ -378,7 +391,6 @@ impl<'a> Check<'a> {
                 harmless: self
                     .get("root.harmless")
                     .map(|_| self.number("root.harmless", 0, 1..=10_000) as u32),
-                most_harmless: (backlog / ROUNDS).saturating_sub(2) as u32,
                 hold: self.is_set("root.hold"),
                 unsets: self
                     .get("root.unsets")
@@ -397,6 +409,7 @@ impl<'a> Check<'a> {
                 hook: self.path("apply.hook"),
                 hook_timeout: self.time("apply.hook_timeout", 30_000, HOOK_TIMES),
                 hooks: self.hooks(),
+                may_be_root: self.get("root.standby").and_then(Value::as_bool) == Some(true),
             }),
             store: Login {
                 user: self.text("store.user").unwrap_or_default().into(),
@@ -435,7 +448,8 @@ impl<'a> Check<'a> {
         let named = peers.parents.iter().filter(|_| standby.is_none());
         for parent in named.filter_map(|parent| parent.name.as_deref()) {
             if matches!(&peers.children, Children::Named(names) if names.contains_key(parent)) {
-                self.fault("children", format!("`{parent}` is a parent"));
+                let text = "is a parent: three agents or more may form a ring, and not two";
+                self.fault("children", format!("`{parent}` {text}"));
             }
         }
         if standby.is_some() {
@@ -461,7 +475,11 @@ impl<'a> Check<'a> {
             let is_truth = truth
                 .is_some_and(|it| it.starts_with(&apply.folder) || apply.folder.starts_with(it));
             let text = "it has to be a folder of the agent's own, as /a/b";
-            self.refuse("apply.folder", is_shallow || is_truth, text);
+            self.refuse("apply.folder", is_shallow, text);
+            let text =
+                "it may not be `root.settings`, nor in that, nor around it: what no setting \
+                        names is removed here";
+            self.refuse("apply.folder", is_truth && !is_shallow, text);
         }
         let text = "it has to be longer than `ack_timeout`";
         self.refuse("link.evict", peers.evict <= peers.ack_timeout, text);

@@ -1,6 +1,7 @@
 //! Digests of settings, by which the root sees whether an agent's files are what it published.
-use rignolda::settings::{is_newer, of_group, parts, that_counts, values_of, Entry, Meaning};
-use rignoldactl::{Compared, Key, Keys, Seen};
+use openssl::sha::Sha256;
+use rignolda::settings::{is_newer, parts, values_of, Entry, Meaning};
+use rignoldactl::{short, Compared, Key, Keys, Seen};
 use std::collections::{BTreeMap, BTreeSet, VecDeque};
 
 /// For how many of its last changes a root remembers the digest, and for how many rounds.
@@ -12,27 +13,38 @@ const GROUPS: usize = 256;
 /// A digest of settings: the same ones have the same digest, in whatever order they came.
 ///
 /// It is the sum of [that of each one](rignoldactl::digest), so a change costs no more than its own
-/// bytes. It tells what came about by a fault, and is no signature.
+/// bytes. It tells what came about by a fault, and is no signature. What follows from a digest goes
+/// by [that of all](Digest::whole) instead.
 #[derive(Debug, Default)]
 pub struct Digest {
-    each: BTreeMap<String, u64>,
+    each: BTreeMap<String, [u8; 32]>,
     pub sum: u64,
 }
 
 impl Digest {
     /// A setting has this value now; or none, where its file is there and cannot be read.
     pub fn set(&mut self, key: &str, value: Option<&[u8]>) {
-        let part = rignoldactl::digest(key, value);
+        let part = rignoldactl::sha256(key, value);
         let old = match self.each.get_mut(key) {
-            Some(it) => std::mem::replace(it, part),
-            None => self.each.insert(key.into(), part).unwrap_or(0),
+            Some(it) => Some(std::mem::replace(it, part)),
+            None => self.each.insert(key.into(), part),
         };
-        self.sum = self.sum.wrapping_sub(old).wrapping_add(part);
+        let old = old.map_or(0, |old| short(&old));
+        self.sum = self.sum.wrapping_sub(old).wrapping_add(short(&part));
     }
 
     /// There is no such setting now.
     pub fn unset(&mut self, key: &str) {
-        self.sum = self.sum.wrapping_sub(self.each.remove(key).unwrap_or(0));
+        let old = self.each.remove(key).map_or(0, |old| short(&old));
+        self.sum = self.sum.wrapping_sub(old);
+    }
+
+    /// The SHA-256 of those of all settings, in the order of their keys, in hexadecimal digits: no
+    /// others have it.
+    pub fn whole(&self) -> String {
+        let mut sha = Sha256::new();
+        self.each.values().for_each(|it| sha.update(it));
+        sha.finish().iter().map(|byte| format!("{byte:02x}")).collect()
     }
 }
 
@@ -55,6 +67,10 @@ pub struct Published {
     files: BTreeMap<Vec<String>, Files>,
     /// Of each value that is set, what it is and was.
     keys: BTreeMap<String, Key>,
+    /// For which groups there are values, each with how many rounds ended since it had one; and
+    /// whether these may be other ones than before.
+    groups: BTreeMap<String, u8>,
+    has_other_groups: bool,
 }
 
 /// The digests that an agent's files have to have.
@@ -98,46 +114,84 @@ impl Published {
             }
         }
         self.take_keys(number, meaning);
+        self.note_groups(meaning, ends);
         self.files.values_mut().for_each(|files| files.note(number, ends));
     }
 
     /// Takes changes, which have all values of the keys of files that they have some of.
     fn changes(&mut self, entries: &[Entry<'_>]) {
         let changed: BTreeSet<&str> = entries.iter().map(|(key, _)| parts(key).0).collect();
-        let each = &self.each;
-        for (groups, files) in &mut self.files {
-            let old = changed.iter().map(|file| digest_for(each, file, groups));
-            files.sum = old.fold(files.sum, u64::wrapping_sub);
-        }
-        for file in &changed {
-            let keys: Vec<String> = values_of(&self.each, file).map(|it| it.0.clone()).collect();
-            for key in keys {
-                self.each.remove(&key);
-            }
+        let of_changed = |each: &BTreeMap<String, u64>| -> BTreeMap<String, u64> {
+            let values = changed.iter().flat_map(|file| values_of(each, file));
+            values.map(|(key, digest)| (key.clone(), *digest)).collect()
+        };
+        let old = of_changed(&self.each);
+        for key in old.keys() {
+            self.each.remove(key);
         }
         self.each.extend(entries.iter().filter_map(digest_of));
-        let each = &self.each;
+        let new = of_changed(&self.each);
+        let (old, new) = (sums(&old), sums(&new));
         for (groups, files) in &mut self.files {
-            let new = changed.iter().map(|file| digest_for(each, file, groups));
-            files.sum = new.fold(files.sum, u64::wrapping_add);
+            files.sum = files.sum.wrapping_sub(old(groups)).wrapping_add(new(groups));
         }
     }
 
-    /// Agents are of these groups: of others nothing is known any more. What they ought to have is
-    /// known from now on.
-    pub fn knows<'a>(&mut self, all: impl IntoIterator<Item = &'a [String]>) {
-        let mut all: BTreeSet<&[String]> = all.into_iter().collect();
-        all.insert(&[]);
-        self.files.retain(|groups, _| all.contains(&groups[..]));
-        all.retain(|groups| !self.files.contains_key(*groups));
+    /// Notes for which groups there are values now. One that has none any more counts as long as
+    /// agents may be compared with what they had by it.
+    fn note_groups(&mut self, meaning: &Meaning<'_>, ends: Ends) {
+        let rounds = u8::from(ends == Ends::ARound);
+        self.groups.values_mut().for_each(|it| *it = it.saturating_add(rounds));
+        if let Meaning::Changes(entries) | Meaning::Table(entries) = meaning {
+            let set = entries.iter().filter(|(_, value)| value.is_some());
+            for group in set.filter_map(|(key, _)| parts(key).1) {
+                self.has_other_groups |= self.groups.insert(group.into(), 0).is_none();
+            }
+        }
+        let before = self.groups.len();
+        self.groups.retain(|_, it| *it <= ROUNDS);
+        self.has_other_groups |= self.groups.len() != before;
+    }
+
+    /// Whether there are values for other groups than when this was asked last.
+    pub fn has_other_groups(&mut self) -> bool {
+        std::mem::take(&mut self.has_other_groups)
+    }
+
+    /// What counts of these groups: those for which there are values, each once.
+    fn counting(&self, groups: &[String]) -> Vec<String> {
+        let mut counting: Vec<String> = Vec::new();
+        for group in groups {
+            if self.groups.contains_key(group) && !counting.contains(group) {
+                counting.push(group.clone());
+            }
+        }
+        counting
+    }
+
+    /// The agent itself is of these groups, and those below each child are of those: of others
+    /// nothing is known any more. What they ought to have is known from now on.
+    pub fn knows<'a>(
+        &mut self,
+        own: &[String],
+        children: impl Iterator<Item = impl Iterator<Item = &'a [String]>>,
+    ) {
+        let counting = |all: &mut dyn Iterator<Item = &'a [String]>| -> BTreeSet<Vec<String>> {
+            all.map(|groups| self.counting(groups)).collect()
+        };
+        let children = children.map(|mut all| counting(&mut all)).collect();
+        let own = BTreeSet::from([Vec::new(), self.counting(own)]);
+        let mut all = shared(own, children, GROUPS);
+        self.files.retain(|groups, _| all.contains(groups));
+        all.retain(|groups| !self.files.contains_key(groups));
         if all.is_empty() {
             return;
         }
         let sum = sums(&self.each);
-        for groups in all.into_iter().take(GROUPS.saturating_sub(self.files.len())) {
-            let mut files = Files { sum: sum(groups), ..Files::default() };
+        for groups in all {
+            let mut files = Files { sum: sum(&groups), ..Files::default() };
             files.note(self.number, Ends::Nothing);
-            self.files.insert(groups.into(), files);
+            self.files.insert(groups, files);
         }
     }
 
@@ -184,7 +238,7 @@ impl Published {
 
     /// Whether an agent's files are what was published up to the number that they are from.
     pub fn compared(&self, seen: &Seen) -> Compared {
-        match self.at(&seen.groups, seen.files) {
+        match self.at(&self.counting(&seen.groups), seen.files) {
             _ if !seen.applies => Compared::Nothing,
             Some(digest) if digest == seen.digest => Compared::Same,
             Some(_) => Compared::Differs,
@@ -193,19 +247,53 @@ impl Published {
     }
 }
 
-/// What gives the digest of all files of agents of some groups.
+/// The first ones of these lists, and of those of each child as many as there is room for: each
+/// child has the same share, and what needs less is whole. So whoever has many drives nobody out.
+fn shared(
+    first: BTreeSet<Vec<String>>,
+    children: Vec<BTreeSet<Vec<String>>>,
+    most: usize,
+) -> BTreeSet<Vec<String>> {
+    let mut children: Vec<_> = children.into_iter().map(BTreeSet::into_iter).collect();
+    let mut shared = first;
+    while !children.is_empty() {
+        children.retain_mut(|lists| {
+            let new = lists.find(|list| !shared.contains(list));
+            shared.len() < most && new.is_some_and(|list| shared.insert(list))
+        });
+    }
+    shared
+}
+
+/// What gives the digest of all files of agents of some groups. For each list of groups it costs a
+/// step for each value that is for a group, whatever the list is.
 fn sums(each: &BTreeMap<String, u64>) -> impl Fn(&[String]) -> u64 + '_ {
-    let (mut all, mut grouped) = (0_u64, BTreeSet::new());
+    let mut all = 0_u64;
+    let mut numbers: BTreeMap<&str, usize> = BTreeMap::new();
+    let mut grouped: BTreeMap<&str, Vec<(usize, u64)>> = BTreeMap::new();
     for (key, digest) in each {
         match parts(key) {
             (_, None) => all = all.wrapping_add(*digest),
-            (file, Some(_)) => drop(grouped.insert(file)),
+            (file, Some(group)) => {
+                let next = numbers.len();
+                let number = *numbers.entry(group).or_insert(next);
+                grouped.entry(file).or_default().push((number, *digest));
+            }
         }
     }
+    // (each file with its value for all, if there is one)
+    let grouped = grouped.into_iter();
+    let grouped: Vec<_> =
+        grouped.map(|(file, it)| (each.get(file).copied().unwrap_or(0), it)).collect();
     move |groups| {
-        grouped.iter().fold(all, |sum, file| {
-            let for_all = each.get(*file).copied().unwrap_or(0);
-            sum.wrapping_sub(for_all).wrapping_add(digest_for(each, file, groups))
+        let mut ranks = vec![usize::MAX; numbers.len()];
+        for (rank, group) in groups.iter().enumerate().rev() {
+            numbers.get(&**group).into_iter().for_each(|number| ranks[*number] = rank);
+        }
+        grouped.iter().fold(all, |sum, (for_all, values)| {
+            let first = values.iter().min_by_key(|(number, _)| ranks[*number]);
+            let first = first.filter(|(number, _)| ranks[*number] < usize::MAX);
+            first.map_or(sum, |(_, it)| sum.wrapping_sub(*for_all).wrapping_add(*it))
         })
     }
 }
@@ -213,15 +301,6 @@ fn sums(each: &BTreeMap<String, u64>) -> impl Fn(&[String]) -> u64 + '_ {
 /// The digest of a value that is set, as that of the key that its file has.
 fn digest_of((key, value): &Entry<'_>) -> Option<(String, u64)> {
     value.map(|_| ((*key).into(), rignoldactl::digest(parts(key).0, *value)))
-}
-
-/// The digest of the file of this key at an agent of these groups; 0 where it has none.
-fn digest_for(each: &BTreeMap<String, u64>, file: &str, groups: &[String]) -> u64 {
-    let digest = |group: Option<&str>| match group {
-        Some(group) => each.get(&of_group(file, group)),
-        None => each.get(file),
-    };
-    that_counts(groups, digest).copied().unwrap_or(0)
 }
 
 #[cfg(test)]
@@ -232,12 +311,15 @@ mod tests {
         Seen { applies: true, files, digest, ..Seen::default() }
     }
 
-    /// Its value is of another program: `printf '\4\1pathup' | sha256sum`.
+    /// Its value is of another program: `printf '\4\1pathup' | sha256sum`, and of all of these
+    /// bytes again.
     #[test]
     fn one_setting() {
         let mut digest = Digest::default();
         digest.set("path", Some(b"up"));
         assert_eq!(digest.sum, 0x36e4_557c_afcc_3106);
+        let whole = "dfbdd7be09cb69000067680348e603c86d6cfb3d7a02ee647c90addb7c2d2a2a";
+        assert_eq!(digest.whole(), whole);
     }
 
     #[test]
@@ -248,10 +330,10 @@ mod tests {
         for (key, value) in [("b", b"0"), ("c", b"3"), ("a", b"1"), ("b", b"2")] {
             other.set(key, Some(value));
         }
-        assert_ne!(one.sum, other.sum);
+        assert!(one.sum != other.sum && one.whole() != other.whole());
         other.unset("c");
         other.unset("c");
-        assert_eq!(one.sum, other.sum);
+        assert_eq!((one.sum, one.whole()), (other.sum, other.whole()));
         // (no two are of one text)
         other.unset("b");
         other.set("", Some(b"b2"));
@@ -376,7 +458,10 @@ mod tests {
             Ends::ARound,
         );
         let lists = [&none, &canary, &both, &other];
-        it.knows(lists.map(|groups| &groups[..]));
+        let knows = |it: &mut Published, lists: &[&Vec<String>]| {
+            it.knows(&[], lists.iter().map(|list| std::iter::once(&list[..])));
+        };
+        knows(&mut it, &lists);
         let is = |it: &Published, at, expected: [&[(&str, &str)]; 4]| {
             for (groups, settings) in lists.into_iter().zip(expected) {
                 let seen = Seen { groups: groups.clone(), ..seen(at, digest(settings)) };
@@ -402,15 +487,79 @@ mod tests {
         let all_have = &[("a", "5"), ("c", "6")][..];
         is(&it, 12, [all_have, all_have, &[("a", "5"), ("b", "3"), ("c", "6")], all_have]);
         // of groups that nobody has any more, and then has again, older numbers are not known
-        it.knows([&canary[..]]);
+        knows(&mut it, &[&canary]);
         let seen = Seen { groups: both.clone(), ..seen(12, 0) };
         assert_eq!(it.compared(&seen), Compared::NotKnown);
-        it.knows(lists.map(|groups| &groups[..]));
+        knows(&mut it, &lists);
         assert_eq!(it.compared(&seen), Compared::Differs);
         assert_eq!(it.compared(&Seen { files: 11, ..seen }), Compared::NotKnown);
         assert_eq!((it.key("b").all.digest, it.key("b").groups.len()), (0, 1));
         it.take(13, &Meaning::Table(all(&[("a..us", "7")])), Ends::ARound);
+        // (who is of a group for which there is a first value is known from there on)
+        assert_eq!([it.has_other_groups(), it.has_other_groups()], [true, false]);
+        knows(&mut it, &lists);
         is(&it, 13, [&[], &[], &[], &[("a", "7")]]);
+    }
+
+    fn group(names: &[&str]) -> Vec<String> {
+        names.iter().map(|it| (*it).to_string()).collect()
+    }
+
+    /// Of groups for which there is no value nothing is kept, however many there are, and whatever
+    /// stands between those for which there is one.
+    #[test]
+    fn groups_without_a_value_cost_nothing() {
+        let mut it = Published::default();
+        let table = |keys: &[&'static str]| -> Vec<Entry<'static>> {
+            keys.iter().map(|key| (*key, Some(&b"1"[..]))).collect()
+        };
+        it.take(10, &Meaning::Table(table(&["a", "a..canary"])), Ends::ARound);
+        let invented: Vec<Vec<String>> = (0..5_000)
+            .map(|at| (0..16).map(|no| format!("n{at}x{no}")).collect())
+            .chain((0..99).map(|at| group(&["x", "canary", &format!("n{at}"), "canary"])))
+            .collect();
+        it.knows(&[], [invented.iter().map(|it| &it[..])].into_iter());
+        let known: Vec<_> = it.files.keys().cloned().collect();
+        assert_eq!(known, [group(&[]), group(&["canary"])]);
+        let of = |key| rignoldactl::digest(key, Some(b"1"));
+        for list in &invented {
+            let seen = Seen { groups: list.clone(), ..seen(10, of("a")) };
+            assert_eq!(it.compared(&seen), Compared::Same);
+        }
+        // (as long as somebody may be compared with what he had by it, a group counts)
+        let seen = |files| Seen { groups: group(&["canary"]), ..seen(files, of("a")) };
+        for number in 11..11 + u64::from(ROUNDS) {
+            it.take(number, &Meaning::Table(table(&["a"])), Ends::ARound);
+            assert_eq!((it.groups.len(), it.compared(&seen(number))), (1, Compared::Same));
+        }
+        it.has_other_groups();
+        it.take(50, &Meaning::Table(table(&["a"])), Ends::ARound);
+        assert!(it.has_other_groups() && it.groups.is_empty());
+        it.knows(&[], [invented.iter().map(|it| &it[..])].into_iter());
+        assert_eq!((it.files.len(), it.compared(&seen(50))), (1, Compared::Same));
+    }
+
+    /// Whoever invents lists takes no other child's place, and not that of the root itself.
+    #[test]
+    fn lists_that_a_child_invents_leave_room_for_others() {
+        let keys: Vec<String> = (0..300).map(|at| format!("a..g{at}")).collect();
+        let table = keys.iter().map(|key| (&**key, Some(&b"1"[..]))).collect();
+        let mut it = Published::default();
+        it.take(10, &Meaning::Table(table), Ends::ARound);
+        let one = |at: usize| group(&[&format!("g{at}")]);
+        let liar: Vec<_> = (0..250).flat_map(|at| [group(&["g0", &format!("g{at}")])]).collect();
+        let many: Vec<_> = (100..200).map(one).collect();
+        let rack = [one(7), group(&["g7", "g8"])];
+        let children = [&liar[..], &many, &rack];
+        for turn in 0..2 {
+            it.knows(&one(299), children.iter().map(|it| it.iter().map(|list| &list[..])));
+            assert_eq!(it.files.len(), GROUPS);
+            let known = |lists: &[Vec<String>]| {
+                lists.iter().filter(|list| it.files.contains_key(*list)).count()
+            };
+            assert_eq!((known(&rack), known(&many), known(&[one(299)])), (2, 100, 1), "{turn}");
+        }
+        assert_eq!(shared(BTreeSet::new(), Vec::new(), 3), BTreeSet::new());
     }
 
     #[test]

@@ -1,6 +1,7 @@
 //! The disk that has the root's settings. A thread does what may have to wait for it.
 use crate::batch::{write_folder, Kept};
 use crate::depth::{too_deep, TOO_DEEP};
+use crate::kept::{Places, Record};
 use crate::refused::Refused;
 use inotify::{Inotify, WatchMask};
 use rignolda::net::{Worker, BODY_BYTES};
@@ -17,7 +18,10 @@ use std::sync::Arc;
 /// How often a folder is read that is another one each time.
 const READS: u32 = 3;
 
+/// The file by which an empty folder is meant.
+const MEANT: &str = ".empty";
 const EMPTY: &str = "it is empty: is a mount missing, or else `.empty`?";
+const NO_SETTING: &str = "nothing in it can be published";
 
 /// What is to be done. One comes after the other.
 pub enum Job {
@@ -29,6 +33,10 @@ pub enum Job {
     Write(Vec<Kept>),
     /// To give this key's file, which is for a group, the place of the one for all.
     Promote(String),
+    /// To read what an earlier life published.
+    Recall,
+    /// To keep what is published.
+    Keep(String),
 }
 
 /// What was done.
@@ -41,6 +49,9 @@ pub enum Done {
         all: Vec<Written>,
         others: bool,
     },
+    Recalled(Option<Record>),
+    /// And why it cannot be.
+    Kept(io::Result<()>),
 }
 
 /// A change, and why it was not done.
@@ -49,13 +60,16 @@ pub type Written = (Kept, Result<(), Refused>);
 /// Why there are no settings.
 pub struct Empty {
     pub why: String,
-    /// Whether the first one may be published: the folder is there, empty and the agent's own.
+    /// Whether the folder is there, and has none; and whether the first one may be published: it is
+    /// empty and the agent's own.
+    pub has_none: bool,
     pub is_new: bool,
     pub faults: Faults,
 }
 
 struct Place {
     settings: Arc<Path>,
+    keeps: Places,
     notify: Option<Inotify>,
     /// The keys that changed and were not read since; nothing where all are to be read.
     keys: Option<BTreeSet<String>>,
@@ -76,7 +90,8 @@ pub fn start(
     wake: Arc<dyn Fn() + Send + Sync>,
 ) -> io::Result<(Worker<Job, Done>, Option<RawFd>)> {
     let (notify, keys) = (Inotify::init().ok(), Some(BTreeSet::new()));
-    let mut place = Place { settings, notify, keys, read: None };
+    let keeps = Places::new(&settings);
+    let mut place = Place { settings, keeps, notify, keys, read: None };
     let descriptor = place.notify.as_ref().map(AsRawFd::as_raw_fd);
     let worker = Worker::start("disk", move |job| place.work(job), move || wake())?;
     Ok((worker, descriptor))
@@ -91,6 +106,8 @@ impl Place {
                 None => Done::Read(self.read()),
             },
             Job::Write(changes) => self.write(changes),
+            Job::Recall => Done::Recalled(self.keeps.read()),
+            Job::Keep(text) => Done::Kept(self.keeps.write(&text)),
             Job::Promote(key) => match read_plain(&self.file(&key), VALUE_BYTES) {
                 // (the first one first: whoever is ended between them leaves what is right, too)
                 Ok(value) => self.write(vec![(parts(&key).0.into(), Some(value)), (key, None)]),
@@ -112,8 +129,9 @@ impl Place {
                 is_more = true;
                 match (event.name.and_then(|name| name.to_str()), &mut self.keys) {
                     (Some(name), _) if own.remove(name) => (),
-                    // (its own, before they are moved to their places)
-                    (Some(name), _) if name.starts_with(".rignolda") => (),
+                    // (its own, before they are moved to their places, or somebody's: what has a
+                    // dot in front is no setting)
+                    (Some(name), _) if name.starts_with('.') && name != MEANT => (),
                     (Some(name), Some(keys)) => match published_by(name) {
                         Some(key) => drop(keys.insert(key)),
                         None => self.keys = None,
@@ -155,7 +173,13 @@ impl Place {
             true => changes.iter().map(|_| Err("all settings are in one file".into())).collect(),
             false => {
                 let done = write_folder(&self.settings, &changes).into_iter();
-                done.map(|it| it.map_err(|e| e.to_string().into())).collect()
+                let why = |(error, (_, value)): (io::Error, &Kept)| match error.kind() {
+                    ErrorKind::NotFound if value.is_none() && self.settings.is_dir() => {
+                        Refused::NotSet
+                    }
+                    _ => error.to_string().into(),
+                };
+                done.zip(&changes).map(|(it, change)| it.map_err(|e| why((e, change)))).collect()
             }
         };
         let own = changes.iter().zip(&done).filter(|(_, done)| done.is_ok());
@@ -177,7 +201,7 @@ impl Place {
             }
         }
         let why = format!("{}: another folder takes its place each time", self.settings.display());
-        Err(Empty { why, is_new: false, faults: Faults::default() })
+        Err(Empty { why, has_none: false, is_new: false, faults: Faults::default() })
     }
 
     fn read_once(&mut self) -> Result<Found, Empty> {
@@ -193,16 +217,18 @@ impl Place {
             false => read_folder_by(path, published_by),
         };
         let (why, faults) = match read {
-            Ok(it) if it.settings.is_empty() && path.is_dir() && !path.join(".empty").exists() => {
-                (EMPTY.to_string(), it.faults)
+            Ok(it) if it.settings.is_empty() && path.is_dir() && !path.join(MEANT).exists() => {
+                let why = if it.faults.count == 0 { EMPTY } else { NO_SETTING };
+                (why.to_string(), it.faults)
             }
             Ok(found) => return Ok(found),
             Err(error) => (error.to_string(), Faults::default()),
         };
         let owner = |path: &Path| fs::metadata(path).ok().map(|it| it.uid());
         let is_own = || owner(path) == owner(Path::new("/proc/self"));
-        let is_new = why == EMPTY && faults.count == 0 && is_own();
-        Err(Empty { why: format!("{}: {why}", path.display()), is_new, faults })
+        let has_none = [EMPTY, NO_SETTING].contains(&&*why);
+        let is_new = why == EMPTY && is_own();
+        Err(Empty { why: format!("{}: {why}", path.display()), has_none, is_new, faults })
     }
 }
 

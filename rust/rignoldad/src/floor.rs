@@ -9,6 +9,11 @@ use std::path::Path;
 /// How many bytes the file has: all digits that a number may have, and the end of the line.
 const BYTES: usize = 21;
 
+/// What a file has that keeps this number.
+pub fn text(floor: u64) -> String {
+    format!("{:0digits$}\n", floor, digits = BYTES - 1)
+}
+
 /// The number in this file; 0 where there is none.
 pub fn read_floor(path: &Path) -> u64 {
     let text = read_plain(path, BYTES).ok().and_then(|it| String::from_utf8(it).ok());
@@ -48,8 +53,8 @@ impl Marker {
     ///
     /// Where the system refuses it.
     pub fn write(&mut self, folder: &Folder, name: &str, floor: u64) -> io::Result<()> {
-        let path = folder.path().join(name);
-        let text = format!("{:0digits$}\n", floor, digits = BYTES - 1);
+        let path = folder.at().join(name);
+        let text = text(floor);
         let there = fs::symlink_metadata(&path).ok().map(|it| identity(&it));
         let own = self.file.as_ref().filter(|(_, is)| there == Some(*is));
         if own.is_some_and(|(file, _)| file.write_all_at(text.as_bytes(), 0).is_ok()) {
@@ -66,15 +71,29 @@ impl Marker {
     }
 }
 
-/// Opens what is at this place, unless it is no file: then a new one.
+/// Opens what is at this place, where it is such a file and nowhere else; else a new one. (What
+/// somebody moved or linked there may be the only copy, or be in use at another place.)
 fn open(path: &Path) -> io::Result<File> {
     let mut options = OpenOptions::new();
-    options.write(true).custom_flags(AS_IT_IS);
+    options.read(true).write(true).custom_flags(AS_IT_IS);
     match options.clone().create(true).open(path) {
-        Ok(file) if file.metadata().is_ok_and(|it| it.is_file()) => Ok(file),
+        Ok(file) if is_one(&file) => Ok(file),
         _ => {
             remove(path)?;
             options.create_new(true).open(path)
         }
+    }
+}
+
+/// Whether this is a file as [`text`] makes it, or an empty one, and has one name.
+fn is_one(file: &File) -> bool {
+    let mut bytes = [0; BYTES];
+    let is_digit = |it: &u8| it.is_ascii_digit() || *it == b'\n';
+    match file.metadata() {
+        Ok(is) if !is.is_file() || is.nlink() != 1 => false,
+        Ok(is) if is.len() == BYTES as u64 => {
+            file.read_exact_at(&mut bytes, 0).is_ok() && bytes.iter().all(is_digit)
+        }
+        is => is.is_ok_and(|it| it.len() == 0),
     }
 }

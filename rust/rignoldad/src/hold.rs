@@ -1,47 +1,198 @@
 //! What the root holds back of its folder until somebody confirms it, so that a folder of which a
 //! part is missing, as of a mount, does not unset everything.
 use crate::config::Root as Config;
+use openssl::sha::Sha256;
 use rignolda::settings::{shown, Entry};
-use rignoldactl::{digest, Diff, Difference};
+use rignoldactl::{Diff, Difference};
 use std::collections::{BTreeMap, BTreeSet};
+use std::time::{Duration, Instant};
+
+/// For how long a setting counts that went by a change of the folder: so it makes no difference
+/// whether many go at once, or one after the other.
+pub const WINDOW: Duration = Duration::from_secs(3_600);
 
 /// What of the folder is not published yet.
 pub fn diff<'a>(changes: impl IntoIterator<Item = Entry<'a>>, held: String) -> Diff {
-    let mut diff = Diff { held, ..Diff::default() };
-    for (key, value) in changes {
-        // (the same changes have the same digest)
-        diff.digest = diff.digest.wrapping_add(digest(key, value));
+    let changes: Vec<Entry<'a>> = changes.into_iter().collect();
+    let digest = digest_of(&changes);
+    let difference = |(key, value): Entry<'a>| {
         let bytes = value.map(|it| it.len() as u64);
-        diff.changes.push(Difference { key: shown(key).into(), bytes });
+        Difference { key: shown(key).into(), bytes }
+    };
+    Diff { held, digest, changes: changes.into_iter().map(difference).collect() }
+}
+
+/// The digest of changes: the SHA-256 of all of them in the order of their keys, each as the length
+/// of its key in 8 bytes, the key, a byte 1 and the length of its value in 8 bytes and the value;
+/// or a byte 0, where it is unset. So no other changes have it. That of no changes is empty.
+fn digest_of(changes: &[Entry<'_>]) -> String {
+    let mut in_order: Vec<&Entry<'_>> = changes.iter().collect();
+    in_order.sort_unstable_by_key(|it| it.0);
+    let mut sha = Sha256::new();
+    for (key, value) in in_order {
+        sha.update(&(key.len() as u64).to_be_bytes());
+        sha.update(key.as_bytes());
+        sha.update(&[value.is_some().into()]);
+        if let Some(value) = value {
+            sha.update(&(value.len() as u64).to_be_bytes());
+            sha.update(value);
+        }
     }
-    diff
+    match changes {
+        [] => String::new(),
+        _ => sha.finish().iter().map(|byte| format!("{byte:02x}")).collect(),
+    }
 }
 
-/// How many of these settings would be gone, where these are too many to unset them by a change of
-/// the folder alone.
-pub fn gone(
-    config: &Config,
-    had: &BTreeSet<String>,
-    is_there: impl Fn(&str) -> bool,
-) -> Option<usize> {
-    let gone = had.iter().filter(|key| !is_there(key)).count();
-    let may_go = config.unsets.unwrap_or((had.len() / 2).max(1));
-    Some(gone).filter(|gone| *gone > may_go)
+/// The settings that a change of the folder may take but a part of.
+#[derive(Debug, Default)]
+pub struct Guard {
+    /// Those of the last round, and those that went not long before.
+    had: BTreeSet<String>,
+    /// When those went that a change of the folder took, and nobody asked for that.
+    gone: BTreeMap<String, Instant>,
 }
 
-/// These changes of the folder, where they are held: by them too many of the settings that the last
-/// round had would be gone, or each change is to be confirmed.
+impl Guard {
+    /// It counts from these settings, and those that went not long before.
+    pub fn new(
+        had: impl IntoIterator<Item = String>,
+        gone: impl IntoIterator<Item = String>,
+        now: Instant,
+    ) -> Guard {
+        let gone: BTreeMap<_, _> = gone.into_iter().map(|key| (key, now)).collect();
+        Guard { had: had.into_iter().chain(gone.keys().cloned()).collect(), gone }
+    }
+
+    /// Whether there is nothing that could go.
+    pub fn is_empty(&self) -> bool {
+        self.had.is_empty()
+    }
+
+    /// Those that went not long ago.
+    pub fn gone(&self) -> impl Iterator<Item = &String> {
+        self.gone.keys()
+    }
+
+    /// How many settings would be gone, where these are too many to unset them by a change of the
+    /// folder alone: more than this number, or than half of them.
+    pub fn lacks(&self, may_go: Option<usize>, is_there: impl Fn(&str) -> bool) -> Option<usize> {
+        let gone = self.had.iter().filter(|key| !is_there(key)).count();
+        let may_go = may_go.unwrap_or((self.had.len() / 2).max(1));
+        Some(gone).filter(|gone| *gone > may_go)
+    }
+
+    /// A change of the folder is taken, after which these are there.
+    pub fn takes(&mut self, is_there: impl Fn(&str) -> bool, now: Instant) {
+        self.gone.retain(|key, _| !is_there(key));
+        for key in self.had.iter().filter(|key| !is_there(key)) {
+            self.gone.entry(key.clone()).or_insert(now);
+        }
+    }
+
+    /// Somebody asked for this one to be unset.
+    pub fn unset(&mut self, key: &str) {
+        self.had.remove(key);
+        self.gone.remove(key);
+    }
+
+    /// Somebody confirmed that these are all.
+    pub fn confirmed(&mut self, keys: impl IntoIterator<Item = String>) {
+        *self = Guard { had: keys.into_iter().collect(), gone: BTreeMap::new() };
+    }
+
+    /// A round of these ends: what went long ago counts no more.
+    pub fn ends_round(&mut self, keys: impl IntoIterator<Item = String>, now: Instant) {
+        self.had = keys.into_iter().collect();
+        let had = &mut self.had;
+        self.gone.retain(|key, at| {
+            // (the memory may be spoiled)
+            *at = (*at).min(now);
+            now.saturating_duration_since(*at) < WINDOW && !had.contains(key)
+        });
+        had.extend(self.gone.keys().cloned());
+    }
+}
+
+/// These changes of the folder, where they are held: by them too many settings would be gone, or
+/// any where some were too many before; or each change is to be confirmed.
 pub fn held(
     config: &Config,
-    had: &BTreeSet<String>,
+    (guard, was_held): (&Guard, bool),
     found: &BTreeMap<String, Vec<u8>>,
     changes: Vec<Entry<'_>>,
 ) -> Option<Diff> {
-    let why = match gone(config, had, |key| found.contains_key(key)) {
+    let may_go = if was_held { Some(0) } else { config.unsets };
+    let why = match guard.lacks(may_go, |key| found.contains_key(key)) {
         _ if changes.is_empty() => return None,
-        Some(gone) => format!("{gone} of {} settings would be unset", had.len()),
+        Some(gone) => format!("{gone} of {} settings would be unset", guard.had.len()),
         None if config.hold => format!("{} settings would change", changes.len()),
         None => return None,
     };
     Some(diff(changes, format!("{why}: held until `rignoldactl confirm`")))
+}
+
+#[cfg(test)]
+mod tests {
+    use super::*;
+
+    /// The expected one is that of another program, of these bytes.
+    #[test]
+    fn a_digest_is_that_of_all_changes_in_the_order_of_their_keys() {
+        let changes = [("b", Some(&b"2"[..])), ("a", None), ("c..eu", Some(b""))];
+        let one = diff(changes, String::new());
+        let other = diff(changes.into_iter().rev(), String::new());
+        assert_eq!(one.digest, other.digest);
+        let bytes = "0000000000000001 61 00 0000000000000001 62 01 0000000000000001 32 \
+                     0000000000000005 632e2e6575 01 0000000000000000";
+        let bytes: Vec<u8> = bytes
+            .split_whitespace()
+            .flat_map(|it| {
+                (0..it.len()).step_by(2).map(|at| u8::from_str_radix(&it[at..at + 2], 16))
+            })
+            .collect::<Result<_, _>>()
+            .unwrap();
+        let sha = openssl::sha::sha256(&bytes);
+        assert_eq!(one.digest, sha.map(|byte| format!("{byte:02x}")).concat());
+        let keys: Vec<_> = one.changes.iter().map(|it| (&*it.key, it.bytes)).collect();
+        assert_eq!(keys, [("b", Some(1)), ("a", None), ("c@eu", Some(0))]);
+        assert_eq!(diff([], String::new()).digest, "");
+        // (what is moved between a key and its value, or from one to the next, is another change)
+        let ab = |all: &[Entry<'static>]| diff(all.to_vec(), String::new()).digest;
+        let all = [
+            ab(&[("a", Some(b"b"))]),
+            ab(&[("ab", Some(b""))]),
+            ab(&[("ab", None)]),
+            ab(&[("a", None), ("b", None)]),
+            ab(&[("a", Some(b"")), ("b", None)]),
+        ];
+        assert_eq!(all.iter().collect::<BTreeSet<_>>().len(), all.len());
+    }
+
+    #[test]
+    fn what_goes_in_steps_counts_together_for_a_while() {
+        let (begun, keys) = (Instant::now(), ["a", "b", "c", "d", "e", "f"].map(String::from));
+        let mut guard = Guard::new(keys.clone(), [], begun);
+        for most in [5, 4, 3] {
+            let is_there = |key: &str| keys[..most].iter().any(|it| it == key);
+            assert_eq!(guard.lacks(None, is_there), None, "{most}");
+            guard.takes(is_there, begun);
+            guard.ends_round(keys[..most].to_vec(), begun + WINDOW / 2);
+        }
+        let is_there = |key: &str| ["a", "b"].contains(&key);
+        assert_eq!(guard.lacks(None, is_there), Some(4));
+        assert_eq!(guard.gone().collect::<Vec<_>>(), ["d", "e", "f"]);
+        // (one that is there again, or that somebody asked for, counts no more)
+        guard.takes(|key| ["a", "b", "c", "f"].contains(&key), begun);
+        guard.unset("e");
+        assert_eq!(guard.gone().collect::<Vec<_>>(), ["d"]);
+        guard.ends_round(["a", "b", "c"].map(String::from), begun + WINDOW - WINDOW / 9);
+        assert_eq!(guard.lacks(None, |key| key == "a"), Some(3));
+        guard.ends_round(["a", "b", "c"].map(String::from), begun + WINDOW);
+        assert_eq!(guard.lacks(None, |key| key == "a"), Some(2));
+        assert_eq!(guard.lacks(None, |key| key != "a"), None);
+        guard.confirmed(["a".to_string()]);
+        assert_eq!(guard.lacks(None, |_| false), None);
+        assert_eq!(guard.lacks(Some(0), |_| false), Some(1));
+    }
 }

@@ -3,7 +3,7 @@
 //! One is run for each change of a key. Others are each for the keys that some patterns name, with
 //! one run for all of these that changed together.
 use crate::config::Apply;
-use crate::folder::remove;
+use crate::folder::{remove, unlink};
 use rignolda::settings::{older, Change, Waiting};
 use std::collections::BTreeSet;
 use std::fs::{self, File, OpenOptions};
@@ -40,10 +40,32 @@ impl Hook {
     }
 
     /// Runs it to its end for these keys, of which the last change has this number.
-    pub fn run(&self, folder: &Path, keys: &BTreeSet<String>, number: u64) -> Result<(), String> {
+    pub fn run(&self, at: &House, keys: &BTreeSet<String>, number: u64) -> Result<(), String> {
         let names: String = keys.iter().flat_map(|key| [key, "\n"]).collect();
-        let mut command = command(&self.run, self.timeout, folder, number);
-        finished(command.current_dir(folder).stdin(given(folder, names.as_bytes())?))
+        let mut command = command(&self.run, self.timeout, at.folder, number);
+        finished(command.current_dir(at.folder).stdin(at.given(names.as_bytes())?))
+    }
+}
+
+/// Where a hook runs: the folder, as it is named, and a path to it while it is the agent's own.
+#[derive(Debug)]
+pub struct House<'a> {
+    folder: &'a Path,
+    own: Option<&'a Path>,
+}
+
+impl<'a> House<'a> {
+    pub fn new(folder: &'a Path, own: Option<&'a Path>) -> House<'a> {
+        House { folder, own }
+    }
+
+    /// These bytes as an input. (It is a file and not a pipe, since a hook need not read it.)
+    fn given(&self, bytes: &[u8]) -> Result<Stdio, String> {
+        static COUNT: AtomicU64 = AtomicU64::new(0);
+        let own = self.own.ok_or("its input: the folder is gone, or another one")?;
+        let name = format!("{INPUT}{}", COUNT.fetch_add(1, Ordering::Relaxed));
+        let input = input(&own.join(name), bytes);
+        input.map(Stdio::from).map_err(|e| format!("its input: {e}"))
     }
 }
 
@@ -116,13 +138,13 @@ impl Runs {
 }
 
 /// Runs the hook of a change to its end, or until its time is up.
-pub fn run(folder: &Path, config: &Apply, key: &str, change: &Change) -> Result<(), String> {
+pub fn run(at: &House, config: &Apply, key: &str, change: &Change) -> Result<(), String> {
     let Some(hook) = &config.hook else { return Ok(()) };
     let input = match change.value.as_deref() {
         None => Stdio::null(),
-        Some(value) => given(folder, value)?,
+        Some(value) => at.given(value)?,
     };
-    let mut command = command(hook, config.hook_timeout, folder, change.last);
+    let mut command = command(hook, config.hook_timeout, at.folder, change.last);
     command.args([if change.value.is_some() { "set" } else { "unset" }, key]);
     finished(command.stdin(input))
 }
@@ -147,17 +169,9 @@ fn finished(command: &mut Command) -> Result<(), String> {
     }
 }
 
-/// These bytes as an input. (It is a file and not a pipe, since a hook need not read it.)
-fn given(folder: &Path, bytes: &[u8]) -> Result<Stdio, String> {
-    static COUNT: AtomicU64 = AtomicU64::new(0);
-    let name = format!("{INPUT}{}", COUNT.fetch_add(1, Ordering::Relaxed));
-    let input = input(&folder.join(name), bytes);
-    input.map(Stdio::from).map_err(|e| format!("its input: {e}"))
-}
-
 /// A file without a name that has these bytes.
 fn input(path: &Path, bytes: &[u8]) -> io::Result<File> {
-    remove(path)?;
+    unlink(path)?;
     let mut options = OpenOptions::new();
     let mut file = options.read(true).write(true).create_new(true).mode(0o600).open(path)?;
     file.write_all(bytes)?;
@@ -169,21 +183,30 @@ fn input(path: &Path, bytes: &[u8]) -> io::Result<File> {
 /// Says in the folder that hooks of this key are due.
 pub fn announce(folder: &Path, key: &str) -> io::Result<()> {
     let folder = folder.join(PENDING);
-    if !folder.is_dir() {
-        remove(&folder)?;
-        fs::create_dir_all(&folder)?;
+    if !is(&folder, |it| it.is_dir()) {
+        unlink(&folder)?;
+        fs::create_dir(&folder)?;
     }
     let path = folder.join(key);
-    if !path.is_file() {
+    if !is(&path, |it| it.is_file()) {
         remove(&path)?;
-        File::create(&path)?;
+        OpenOptions::new().write(true).create_new(true).open(&path)?;
     }
     Ok(())
 }
 
-/// Takes back that hooks of this key are due.
+/// Takes back that hooks of this key are due. What else has that name stays.
 pub fn settle(folder: &Path, key: &str) {
-    let _ = fs::remove_file(folder.join(PENDING).join(key));
+    let folder = folder.join(PENDING);
+    let path = folder.join(key);
+    if is(&folder, |it| it.is_dir()) && is(&path, |it| it.is_file() && it.len() == 0) {
+        let _ = fs::remove_file(path);
+    }
+}
+
+/// Whether something is there, and this of it; of a link it is said of itself.
+fn is(path: &Path, what: impl Fn(&fs::Metadata) -> bool) -> bool {
+    fs::symlink_metadata(path).is_ok_and(|it| what(&it))
 }
 
 #[cfg(test)]

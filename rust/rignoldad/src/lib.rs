@@ -5,7 +5,10 @@
 #![forbid(unsafe_code)]
 
 pub mod agent;
+pub mod answers;
 pub mod apply;
+pub mod asked;
+pub mod asks;
 pub mod batch;
 pub mod check;
 pub mod config;
@@ -18,9 +21,14 @@ pub mod folder;
 pub mod hold;
 pub mod hooks;
 pub mod journal;
+pub mod kept;
+pub mod label;
 pub mod metrics;
+pub mod newer;
 pub mod page;
+pub mod place;
 pub mod refused;
+pub mod repeats;
 pub mod root;
 pub mod standby;
 pub mod tree;

@@ -64,12 +64,12 @@ fn checked(words: &Words) -> Vec<(usize, Fault)> {
     let id = Command::new("id").args(["-g", "--", &words.user]).output().ok();
     let group = id.filter(|id| is_root && id.status.success()).map(|id| id.stdout);
     let who = match (&group, is_root) {
-        (Some(_), _) => &*words.user,
-        (None, true) => "root, as there is no such user",
-        (None, false) => "who runs this",
+        (Some(_), _) => words.user.clone(),
+        (None, true) => format!("root, as there is no user `{}`", words.user),
+        (None, false) => "who runs this".into(),
     };
     if words.files.len() == 1 {
-        let _ = writeln!(stdout(), "checked for {}", plain(who));
+        let _ = writeln!(stdout(), "checked for {}", plain(&who));
     }
     let act = group.map_or(Vec::new(), |group| {
         let group = format!("--regid={}", String::from_utf8_lossy(&group).trim());

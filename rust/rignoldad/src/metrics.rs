@@ -100,6 +100,10 @@ fn head(text: &mut String, whose: &str, name: &str, kind: &str, help: &str) {
 pub const NOTHING: &str = "HTTP/1.1 404 Not Found\r\nContent-Type: text/plain\r\n\
     Content-Length: 46\r\nConnection: close\r\n\r\nThe counts are at /metrics, the tree is at /.\n";
 
+/// The answer to a request by a name that is none of this machine.
+pub const ELSEWHERE: &str = "HTTP/1.1 421 Misdirected Request\r\nContent-Type: text/plain\r\n\
+    Content-Length: 36\r\nConnection: close\r\n\r\nAsk by localhost or by its address.\n";
+
 /// The answer to a request for the counts.
 pub fn answer(status: &Status) -> String {
     let text = text(status);

@@ -12,6 +12,8 @@ pub enum Refused {
     Drains,
     IsHeld,
     NothingIsHeld,
+    /// There is no such setting.
+    NotSet,
     /// In words that are said here alone.
     Because(String),
 }
@@ -25,6 +27,7 @@ impl fmt::Display for Refused {
             Refused::Drains => "it is draining",
             Refused::IsHeld => "a change of its folder is held: see `diff`",
             Refused::NothingIsHeld => "nothing is held",
+            Refused::NotSet => "it is not set",
             Refused::Because(why) => why,
         })
     }

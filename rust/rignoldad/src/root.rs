@@ -3,18 +3,18 @@
 //! Nothing here waits for the disk: a thread does, and says what it found. A round, and each table,
 //! is of what the folder had when it was asked for; where the disk does not answer in time, it is
 //! of what was known before.
+use crate::asks::{Asks, Cost};
 use crate::batch::Kept;
 use crate::config::{Root as Config, DEEP};
 use crate::disk::{self, Done, Empty, Job, Written};
 use crate::fact;
-use crate::hold;
+use crate::hold::{self, Guard};
+use crate::kept::Record;
 use crate::refused::Refused;
 use rignolda::net::{Worker, BODY_BYTES};
-use rignolda::settings::{
-    differences, entry_bytes, parts, published_by, Published, Publisher, SETTINGS,
-};
+use rignolda::settings::{differences, parts, published_by, shown, Published, Publisher};
 use rignoldactl::source::{no_key, Faults, Found};
-use rignoldactl::Diff;
+use rignoldactl::{is_sha256, Diff};
 use std::collections::{BTreeMap, BTreeSet};
 use std::io;
 use std::os::unix::io::RawFd;
@@ -28,6 +28,11 @@ const SETTLES: Duration = Duration::from_millis(5);
 const PATIENCE: Duration = Duration::from_secs(5);
 /// How old what was read for a table may be.
 const FRESH: Duration = Duration::from_secs(1);
+
+/// How long after what is published was kept on the disk it is again at the earliest, and how much
+/// longer for so many settings.
+const KEEPS: Duration = Duration::from_secs(1);
+const KEEPS_EACH: usize = 1 << 13;
 
 /// How long it drains at most: who forgets that it does must not stop it for ever.
 const DRAINS: Duration = Duration::from_secs(600);
@@ -51,13 +56,26 @@ pub struct Root<W> {
     holds: bool,
     /// Whether the folder is empty, and the first setting may be published.
     is_new: bool,
-    /// What was applied here by an earlier life; it is what is published before the first table.
+    /// What was applied here by an earlier life, and what that published, until all settings were
+    /// read; whether that was kept; and whether there was an earlier life at all, as agents say.
     applied: BTreeMap<String, Vec<u8>>,
-    /// The keys that the last round had, but those that somebody asked to unset.
-    had: BTreeSet<String>,
+    before: Record,
+    was_kept: bool,
+    has_before: bool,
+    /// What may go but a part of.
+    guard: Guard,
+    /// What is published, as it is kept on the disk; when it is, where something is new; and
+    /// whether the disk is asked to, or to recall it.
+    record: Record,
+    keeps: Option<Instant>,
+    kept: Instant,
+    keeping: bool,
+    cannot_keep: bool,
+    /// Why the folder has no settings, where it had none when it was read last.
+    lost: Option<String>,
     /// What of the folder waits until it is confirmed, and the digest of what was confirmed.
     held: Option<Diff>,
-    confirmed: Option<u64>,
+    confirmed: Option<String>,
     /// Who asked for what is not published yet.
     diffing: Vec<W>,
     next_round: Instant,
@@ -79,11 +97,12 @@ pub struct Root<W> {
     asked: Vec<Asked<W>>,
     writing: Option<Writing<W>>,
     written: Vec<(String, W)>,
-    /// Who asked for a look.
+    /// Who asked for a look, and for a round.
     looking: Vec<W>,
+    rounding: Vec<W>,
     answers: Vec<Answer<W>>,
-    /// How many changes are not written yet, and their bytes.
-    waiting: (usize, usize),
+    /// What is not written yet.
+    waiting: Asks,
     /// Whether it was time for a round while one was under way.
     overdue: bool,
     /// How often its numbers went on above others since the last round began.
@@ -94,16 +113,19 @@ pub struct Root<W> {
 /// What was asked for, and by whom.
 enum Asked<W> {
     /// Changes, each of another key.
-    Changes(Vec<(Kept, W)>),
+    Changes(Vec<(Kept, Asker<W>)>),
     /// That the value of this key, for a group, is that for all.
     Promote(String, W),
 }
 
 /// Who asked for what is written.
 enum Writing<W> {
-    Changes(Vec<W>),
+    Changes(Vec<Asker<W>>),
     Promote(W),
 }
+
+/// Who asked for a change, and what that may add.
+type Asker<W> = (W, Cost);
 
 /// To whom, and that all is published, or why something is not.
 pub type Answer<W> = (W, Result<(), Refused>);
@@ -120,6 +142,7 @@ impl<W> Root<W> {
         let clock = SystemTime::now().duration_since(UNIX_EPOCH).unwrap_or_default();
         let place: Arc<Path> = config.settings.clone().into();
         let (disk, changes) = disk::start(place.clone(), wake)?;
+        let before = Record::of(&applied);
         let mut root = Root {
             config: config.clone(),
             disk,
@@ -131,8 +154,17 @@ impl<W> Root<W> {
             known: false,
             holds: false,
             is_new: false,
-            had: applied.keys().cloned().collect(),
+            guard: Guard::new(applied.keys().cloned(), [], now),
             applied,
+            before,
+            was_kept: false,
+            has_before: false,
+            record: Record::default(),
+            keeps: None,
+            kept: now,
+            keeping: true,
+            cannot_keep: false,
+            lost: None,
             held: None,
             confirmed: None,
             diffing: Vec::new(),
@@ -149,34 +181,43 @@ impl<W> Root<W> {
             writing: None,
             written: Vec::new(),
             looking: Vec::new(),
+            rounding: Vec::new(),
             answers: Vec::new(),
-            waiting: (0, 0),
+            waiting: Asks::default(),
             overdue: false,
             went_above: 0,
             faults: Faults::default(),
         };
+        root.disk.begin(Job::Recall);
         root.look(now);
         Ok(root)
     }
 
-    /// Publishes above this number, at which a promoted agent begins.
+    /// Publishes what follows this number, before it publishes anything: it is known, so its clock
+    /// is not needed.
     pub fn begins_above(&mut self, number: u64) {
-        self.went_above += u8::from(self.publisher.go_above(number));
+        self.publisher = Publisher::new(number);
+    }
+
+    /// The number of the next body, where one waits.
+    pub fn next_number(&self, limit: u64) -> u64 {
+        self.publisher.next_number(limit)
     }
 
     /// Ends it: who asked for something and was not answered.
     pub fn ends(self) -> Vec<W> {
         let asked = self.asked.into_iter().flat_map(|asked| match asked {
-            Asked::Changes(changes) => changes.into_iter().map(|(_, who)| who).collect(),
+            Asked::Changes(changes) => changes.into_iter().map(|(_, who)| who.0).collect(),
             Asked::Promote(_, who) => vec![who],
         });
         let writing = self.writing.into_iter().flat_map(|writing| match writing {
-            Writing::Changes(all) => all,
+            Writing::Changes(all) => all.into_iter().map(|who| who.0).collect(),
             Writing::Promote(who) => vec![who],
         });
         let written = self.written.into_iter().map(|(_, who)| who);
         let answered = self.answers.into_iter().map(|(who, _)| who);
-        let looking = self.looking.into_iter().chain(self.diffing).chain(writing);
+        let looking = self.looking.into_iter().chain(self.rounding).chain(self.diffing);
+        let looking = looking.chain(writing);
         asked.chain(written).chain(answered).chain(looking).collect()
     }
 
@@ -240,16 +281,21 @@ impl<W> Root<W> {
     }
 
     /// Publishes what is held, where the folder has it still: `digest` is that of what was seen, or
-    /// 0. It is answered as a look is.
-    pub fn confirm(&mut self, digest: u64, now: Instant, who: W) -> Result<(), Refused> {
+    /// empty. It is answered as a look is.
+    pub fn confirm(&mut self, digest: &str, now: Instant, who: W) -> Result<(), Refused> {
         match &self.held {
+            _ if !digest.is_empty() && !is_sha256(digest) => {
+                let text = "a change is confirmed by 64 hexadecimal digits, as `diff` shows them: \
+                            another one may have fewer of them too";
+                Err(text.into())
+            }
             None => Err(Refused::NothingIsHeld),
             _ if self.draining => Err(Refused::Drains),
-            Some(held) if digest != 0 && digest != held.digest => {
-                Err(format!("another change is held since, {:016x}", held.digest).into())
+            Some(held) if !digest.is_empty() && *digest != *held.digest => {
+                Err(format!("another change is held since, {}", held.digest).into())
             }
             Some(held) => {
-                self.confirmed = Some(held.digest);
+                self.confirmed = Some(held.digest.clone());
                 self.look_again(now, who);
                 Ok(())
             }
@@ -258,7 +304,7 @@ impl<W> Root<W> {
 
     /// What of its state cannot be, where something cannot.
     pub fn fault(&self, config: &Config) -> Option<&'static str> {
-        let jobs = self.reads + u32::from(self.writing.is_some());
+        let jobs = self.reads + u32::from(self.writing.is_some()) + u32::from(self.keeping);
         match () {
             () if self.config != *config || *self.place != *config.settings => {
                 Some("the root's configuration is another one")
@@ -273,6 +319,8 @@ impl<W> Root<W> {
         self.next_round = self.next_round.min(now + self.config.round);
         self.next_scan = self.next_scan.map(|at| at.min(now + SETTLES));
         self.until = self.until.map(|at| at.min(now + PATIENCE));
+        self.keeps = self.keeps.map(|at| at.min(now + PATIENCE * 2));
+        self.kept = self.kept.min(now);
         self.draining = self.drains_until.is_some_and(|at| (now..=now + DRAINS).contains(&at));
     }
 
@@ -300,6 +348,8 @@ impl<W> Root<W> {
         self.mend(now);
         while let Some(done) = self.disk.done() {
             match done {
+                Done::Recalled(record) => self.recalls(record, now),
+                Done::Kept(done) => self.is_kept(done),
                 Done::Written { all, others } => self.is_written(all, others, now),
                 Done::Keys(changes) => self.have_changed(changes, now),
                 Done::Read(read) => self.is_read(read, now),
@@ -309,6 +359,10 @@ impl<W> Root<W> {
             self.next_scan = None;
             self.reads += 1;
             self.disk.begin(Job::Changed);
+        }
+        if !self.keeping && self.keeps.is_some_and(|at| now >= at) {
+            (self.keeps, self.kept, self.keeping) = (None, now, true);
+            self.disk.begin(Job::Keep(self.record.text(self.guard.gone())));
         }
         if self.until.is_some_and(|until| now >= until) {
             if !std::mem::replace(&mut self.is_late, true) {
@@ -327,11 +381,41 @@ impl<W> Root<W> {
         }
     }
 
+    /// What an earlier life published is known, where it was kept.
+    fn recalls(&mut self, record: Option<Record>, now: Instant) {
+        self.keeping = false;
+        if let Some(record) = record {
+            self.guard = Guard::new(record.keys().cloned(), record.gone.iter().cloned(), now);
+            (self.before, self.was_kept) = (record, true);
+        }
+    }
+
+    fn is_kept(&mut self, done: io::Result<()>) {
+        self.keeping = false;
+        if let Err(error) = &done {
+            if !self.cannot_keep {
+                let path = self.config.settings.display();
+                fact!("settings", "{path}: what is published cannot be kept: {error}");
+            }
+        }
+        self.cannot_keep = done.is_err();
+    }
+
     /// A round begins once the folder is read. One that is under way goes on instead.
     pub fn begin_round(&mut self, now: Instant) {
         self.next_round = now + self.config.round;
         self.begins = true;
         self.look(now);
+    }
+
+    /// Begins a round for somebody who asks for it: the answer comes when its table is published.
+    pub fn ask_round(&mut self, now: Instant, who: W) -> Result<(), Refused> {
+        if self.draining {
+            return Err(Refused::Drains);
+        }
+        self.rounding.push(who);
+        self.begin_round(now);
+        Ok(())
     }
 
     /// Has the whole folder read, before anything more is published.
@@ -389,6 +473,7 @@ impl<W> Root<W> {
     /// table of the first one is published, so that nobody is passed.
     pub fn hears(&mut self, numbers: impl IntoIterator<Item = u64>) {
         for number in numbers {
+            self.has_before |= !self.known && number != 0;
             let may = match self.went_above {
                 0 => true,
                 1 => !self.publisher.is_table_first(),
@@ -403,7 +488,9 @@ impl<W> Root<W> {
 
     /// Whether something waits to be published.
     pub fn waits(&self) -> bool {
-        self.known && !self.draining && self.until.is_none() && self.publisher.waits()
+        // (of what is held at a start, those keys are published that somebody names)
+        let is_known = self.known || self.held.is_some();
+        is_known && !self.draining && self.until.is_none() && self.publisher.waits()
     }
 
     /// The next body to publish. `limit`: how many items may follow a table at most.
@@ -416,9 +503,15 @@ impl<W> Root<W> {
         }
         let was_in_a_round = self.publisher.is_in_a_round();
         let next = self.waits().then(|| self.publisher.next(limit))??;
-        if was_in_a_round && !self.publisher.is_in_a_round() {
-            self.had = self.publisher.settings().keys().cloned().collect();
+        let ends = was_in_a_round && !self.publisher.is_in_a_round();
+        // (what is held is counted from what there was before)
+        if ends && self.held.is_none() {
+            self.guard.ends_round(self.publisher.settings().keys().cloned(), now);
         }
+        if ends {
+            self.answers.extend(self.rounding.drain(..).map(|who| (who, Ok(()))));
+        }
+        self.records(&next.keys, now);
         self.fresh = self.fresh.filter(|_| !next.is_table);
         for (key, who) in std::mem::take(&mut self.written) {
             match next.keys.contains(&key) {
@@ -431,6 +524,19 @@ impl<W> Root<W> {
             self.publisher.begin_round(self.harmless());
         }
         Some(next)
+    }
+
+    /// These keys are published.
+    fn records(&mut self, keys: &BTreeSet<String>, now: Instant) {
+        let settings = self.publisher.settings();
+        for key in keys {
+            self.record.put(key, settings.get(key).map(Vec::as_slice));
+        }
+        // (as long as not all is known, what was kept says more)
+        if self.known && !keys.is_empty() {
+            let after = KEEPS + KEEPS * (settings.len() / KEEPS_EACH) as u32;
+            self.keeps.get_or_insert(now.max(self.kept + after));
+        }
     }
 
     /// Those who can be answered now.
@@ -447,14 +553,17 @@ impl<W> Root<W> {
     /// removes it.
     pub fn ask(&mut self, name: &str, value: Option<Vec<u8>>, who: W) -> Result<(), Refused> {
         let key = self.may_change(name)?;
-        let bytes = entry_bytes(&(&key, value.as_deref()));
+        let settings = self.publisher.settings();
+        let cost = Cost::of(settings, &key, value.as_deref());
         match &value {
             Some(value) if !self.publisher.has_room(&key, value) => Err("it is too long"),
-            _ if !self.has_room_beside(bytes) => Err("too much waits for the disk: try again"),
+            _ if !self.waiting.has_room(settings, cost) => {
+                Err("too much waits for the disk: try again")
+            }
             _ => Ok(()),
         }?;
-        self.waiting = (self.waiting.0 + 1, self.waiting.1 + bytes);
-        let change = ((key, value), who);
+        self.waiting.add(cost);
+        let change = ((key, value), (who, cost));
         match self.asked.last_mut() {
             Some(Asked::Changes(batch)) if batch.iter().all(|it| it.0 .0 != change.0 .0) => {
                 batch.push(change);
@@ -471,6 +580,8 @@ impl<W> Root<W> {
         let settings = self.publisher.settings();
         let value = settings.get(&key);
         match parts(&key) {
+            // (what the folder has of it may be what is held)
+            _ if self.held.is_some() => Err(Refused::IsHeld),
             (_, None) => Err(format!("`{name}` is for no group: KEY@GROUP is expected").into()),
             _ if value.is_none() => Err(format!("`{name}` is not set").into()),
             (file, _) if value.is_some_and(|it| !self.publisher.has_room(file, it)) => {
@@ -483,25 +594,40 @@ impl<W> Root<W> {
         }
     }
 
-    /// The key of a setting that is to be changed, or why it cannot be now.
+    /// The key of a setting that is to be changed, or why it cannot be now. What is held stays so,
+    /// but for a key that somebody names.
     fn may_change(&self, name: &str) -> Result<String, Refused> {
+        let is_readable = self.lost.is_none() && (self.known || self.held.is_some());
         match published_by(name) {
             _ if self.draining => Err(Refused::Drains),
-            _ if self.held.is_some() => Err(Refused::IsHeld),
-            _ if !self.known && !self.is_new => {
+            _ if !is_readable && !self.is_first() => {
                 let first = self.faults.texts.first().map_or("it is not read yet", |it| it);
-                Err(format!("{} is not known: {first}", self.config.settings.display()).into())
+                let why = self.lost.as_deref().unwrap_or(first);
+                Err(format!("{} is not known: {why}", self.config.settings.display()).into())
             }
+            // (a body has all values of a key, and of this one there are some that are not known)
+            Some(key) if !self.known && self.lacks_beside(&key) => Err(Refused::IsHeld),
             key => key.ok_or_else(|| no_key(name).into()),
         }
     }
 
-    /// Whether there is room beside what waits, as if each of it were a new setting.
-    fn has_room_beside(&self, bytes: usize) -> bool {
-        let (count, all) = self.waiting;
-        let settings = self.publisher.settings();
-        let has_room = || Publisher::bytes_of(settings) + all + bytes <= BODY_BYTES;
-        count == 0 || settings.len() + count < SETTINGS && has_room()
+    /// Whether an earlier life published a value of this key, for all or for another group, that is
+    /// not known.
+    fn lacks_beside(&self, key: &str) -> bool {
+        let (file, settings) = (parts(key).0, self.publisher.settings());
+        let is_beside = |it: &str| it != key && parts(it).0 == file;
+        self.before.keys().any(|it| is_beside(it) && !settings.contains_key(it))
+    }
+
+    /// Whether the folder is empty, and may be: nothing was ever published of it, or all of that is
+    /// unset. What agents have of an earlier life was published.
+    fn is_first(&self) -> bool {
+        let is_before = self.has_before && !self.was_kept;
+        let has_none = match self.known {
+            true => self.publisher.settings().is_empty(),
+            false => self.guard.is_empty() && !is_before,
+        };
+        self.is_new && has_none
     }
 
     /// Has what was asked for written, one batch after the other.
@@ -524,9 +650,14 @@ impl<W> Root<W> {
         others.then(|| self.notified(now));
         match self.writing.take() {
             Some(Writing::Changes(writing)) => {
-                for (((key, value), done), who) in all.into_iter().zip(writing) {
-                    let bytes = entry_bytes(&(&key, value.as_deref()));
-                    self.waiting = (self.waiting.0 - 1, self.waiting.1 - bytes);
+                for (((key, value), done), (who, cost)) in all.into_iter().zip(writing) {
+                    self.waiting.remove(cost);
+                    let done = match done {
+                        // (the folder lacks it, and that is held)
+                        Err(Refused::NotSet) if self.is_published_before(&key) => Ok(()),
+                        Err(Refused::NotSet) => Err(format!("`{}` is not set", shown(&key)).into()),
+                        done => done,
+                    };
                     // (also where it is as it was: whoever asked for it is told a number)
                     match done.map(|()| self.takes_written(&key, value)) {
                         Ok(()) => self.written.push((key, who)),
@@ -558,10 +689,19 @@ impl<W> Root<W> {
         self.commit();
     }
 
+    /// Whether agents have this key.
+    fn is_published_before(&self, key: &str) -> bool {
+        let is_before = || self.before.keys().any(|it| it == key);
+        self.publisher.settings().contains_key(key) || !self.known && is_before()
+    }
+
     /// Takes up what a file is now by request.
     fn takes_written(&mut self, key: &str, value: Option<Vec<u8>>) {
         if value.is_none() {
-            self.had.remove(key);
+            self.guard.unset(key);
+        }
+        if !self.known {
+            self.before.put(key, value.as_deref());
         }
         self.publisher.put(key, value);
     }
@@ -573,10 +713,13 @@ impl<W> Root<W> {
         let unset: BTreeSet<&str> =
             changes.iter().filter(|it| it.1.is_none()).map(|it| &*it.0).collect();
         let stays = |key: &str| settings.contains_key(key) && !unset.contains(key);
-        let gone = || hold::gone(&self.config, &self.had, stays).is_some();
+        let gone = || self.guard.lacks(self.config.unsets, stays).is_some();
         // (then it is looked at as a whole)
         let may_hold = self.config.hold && !changes.is_empty() || !unset.is_empty() && gone();
         let mut again = !self.known || self.held.is_some() || may_hold;
+        if !again && !unset.is_empty() {
+            self.guard.takes(stays, now);
+        }
         let changes = if again { Vec::new() } else { changes };
         for (key, value) in changes {
             match value.as_ref().is_none_or(|value| self.publisher.has_room(&key, value)) {
@@ -598,10 +741,12 @@ impl<W> Root<W> {
         match read {
             Err(empty) => {
                 faults = empty.faults;
+                self.lost = empty.has_none.then(|| empty.why.clone());
                 faults.add(empty.why);
             }
             Ok(mut found) => {
                 faults = found.faults;
+                self.lost = None;
                 // (of one that came since the last table, no agent knows)
                 let (may_hold, mut holds) = (self.holds || !self.known, false);
                 for (key, may_be) in found.unread {
@@ -613,24 +758,8 @@ impl<W> Root<W> {
                 if Publisher::bytes_of(&found.settings) > BODY_BYTES {
                     faults.add(format!("all settings have more than {BODY_BYTES} bytes"));
                 } else {
-                    let old = self.publisher.settings();
-                    let old = if self.known { old } else { &self.applied };
-                    let changes = differences(old, &found.settings);
-                    let held = hold::held(&self.config, &self.had, &found.settings, changes);
-                    let confirmed = self.confirmed.take();
-                    self.held = held.filter(|it| Some(it.digest) != confirmed);
-                    if let Some(held) = &self.held {
-                        faults.add(held.held.clone());
-                        self.publisher.hold(true);
-                    } else {
-                        if confirmed.is_some() {
-                            self.had = found.settings.keys().cloned().collect();
-                        }
-                        (self.known, self.holds) = (true, holds);
-                        self.applied = BTreeMap::new();
-                        self.publisher.replace(found.settings);
-                        self.publisher.hold(holds);
-                    }
+                    let held = self.takes(found.settings, holds, now);
+                    held.into_iter().for_each(|why| faults.add(why));
                 }
             }
         }
@@ -639,6 +768,45 @@ impl<W> Root<W> {
         }
         self.faults = faults;
         self.has_answered(now);
+    }
+
+    /// Takes these settings of the folder, where they are not held: why they are. Where that is a
+    /// change of what is known, all goes on with what is known; it may be that of an earlier life.
+    fn takes(
+        &mut self,
+        found: BTreeMap<String, Vec<u8>>,
+        holds: bool,
+        now: Instant,
+    ) -> Option<String> {
+        let changes = match self.known {
+            true => differences(self.publisher.settings(), &found),
+            false => self.before.changes(&found, &self.applied),
+        };
+        let guard = (&self.guard, self.held.is_some());
+        let held = hold::held(&self.config, guard, &found, changes);
+        let confirmed = self.confirmed.take();
+        self.held = held.filter(|it| Some(&it.digest) != confirmed.as_ref());
+        if let Some(held) = &self.held {
+            if !self.known {
+                let (values, are_all) = self.before.values([&found, &self.applied]);
+                // (what was applied here is no proof that it was all that was published)
+                self.known = self.was_kept && are_all;
+                if self.was_kept {
+                    self.publisher.replace(values);
+                }
+                self.publisher.hold(!self.known);
+            }
+            return Some(held.held.clone());
+        }
+        match confirmed {
+            Some(_) => self.guard.confirmed(found.keys().cloned()),
+            None => self.guard.takes(|key| found.contains_key(key), now),
+        }
+        (self.known, self.holds) = (true, holds);
+        (self.applied, self.before) = (BTreeMap::new(), Record::default());
+        self.publisher.replace(found);
+        self.publisher.hold(holds);
+        None
     }
 
     fn has_answered(&mut self, now: Instant) {

@@ -4,22 +4,27 @@
 //! With a file `.root` it is the root; that has its rank, a number above all that it had seen when
 //! it was promoted. With a file `.stands-by` it was the root, and has found another one: it is an
 //! agent until somebody says more. Else it is an agent as any other one. `.applied` has the digest
-//! of the last whole table that it applied, so that nothing less is ever promoted.
+//! of the last whole table that it applied, so that nothing less is ever promoted. `.published` has
+//! the number up to which the root may have published: what its children have above it at a start,
+//! [another root](crate::newer) published.
 use crate::apply::GROUPS;
 use crate::batch::{write_folder, Batch, Kept};
 use crate::config::{Apply, Config, Root};
 use crate::digest::Digest;
 use crate::fact;
 use crate::floor::read_floor;
+use crate::kept::Places;
+use crate::newer::{says, Says};
 use crate::refused::Refused;
 use rignolda::net::parents::NONE;
 use rignolda::net::{Way, Worker};
 use rignolda::settings::{differences, furthest, is_newer, parts, published_by};
-use rignoldactl::source::{read_folder, read_folder_by, read_plain, Found};
-use rignoldactl::{at, ErrorAt, Standby as Role};
+use rignoldactl::source::{read_folder, read_folder_by, read_plain, Found, AS_IT_IS};
+use rignoldactl::{at, is_sha256, ErrorAt, Standby as Role};
 use std::collections::BTreeMap;
-use std::fs::{self, File};
+use std::fs::{self, File, Metadata, OpenOptions};
 use std::io::{self, ErrorKind};
+use std::os::unix::fs::{FileExt, MetadataExt, OpenOptionsExt};
 use std::path::{Path, PathBuf};
 use std::sync::Arc;
 use std::time::{Duration, Instant, SystemTime, UNIX_EPOCH};
@@ -27,16 +32,22 @@ use std::time::{Duration, Instant, SystemTime, UNIX_EPOCH};
 const ROOT: &str = ".root";
 const STANDS_BY: &str = ".stands-by";
 const APPLIED: &str = ".applied";
+const PUBLISHED: &str = ".published";
 /// The file by which an empty folder is meant.
 const EMPTY: &str = ".empty";
 /// How far above all that it has seen a promoted agent begins: whoever was the root till then may
 /// have published more, and be cut off, and publish still.
 const AHEAD: u64 = 1 << 32;
+/// For how many numbers a root may publish before it notes that again: so few that its numbers stay
+/// below those of who is promoted after it.
+const ROOM: u64 = 1 << 20;
 /// For how long a root looks at its parents at most before it publishes.
 const LOOKS: Duration = Duration::from_secs(30);
 /// How often a parent is looked at in vain before it counts as away. (It is given more time at each
 /// try.)
 const TRIES: u32 = 4;
+/// What is noted of one that answered.
+const ANSWERED: u32 = u32::MAX;
 /// How many files are written at once.
 const FILES: usize = 64;
 /// How often in turn it has to find another root once it publishes.
@@ -46,13 +57,15 @@ const TWICE: u32 = 2;
 enum Job {
     /// To say that it is the root of this rank, after a copy of what it applied, where one is
     /// wanted, with this digest, or the one that is noted.
-    Promote { rank: u64, copies: bool, digest: Option<u64> },
+    Promote { rank: u64, copies: bool, digest: Option<String> },
     /// To say that it is none, and does not stand by.
     Demote,
     /// To say that it stands by.
     StandBy,
     /// To note the digest of what it applied.
-    Note(u64),
+    Note(String),
+    /// To note up to which number it may publish.
+    Reserve(u64),
 }
 
 enum Done {
@@ -61,6 +74,7 @@ enum Done {
     Demoted(Result<(), ErrorAt>),
     StandsBy(Result<(), ErrorAt>),
     Noted,
+    Reserved(u64),
 }
 
 /// What the agent has to become now.
@@ -97,10 +111,16 @@ pub struct Standby<W> {
     others: BTreeMap<usize, Other>,
     /// The other root for which it stands by, where that is known, or that it sees.
     found: String,
-    noted: Option<u64>,
-    asked: Option<W>,
-    answers: Vec<(W, Result<(), Refused>)>,
+    noted: Option<String>,
+    /// Up to which number it may publish, or may have published in earlier lives, if it knows that.
+    may: Option<u64>,
+    /// Who asked for something, and what is to be said where it is done.
+    asked: Option<(W, String)>,
+    answers: Vec<Answer<W>>,
 }
+
+/// To whom, and what is to be said of what was done, or why it was not.
+pub type Answer<W> = (W, Result<String, Refused>);
 
 impl<W> Standby<W> {
     /// One that begins as its folder says. Nothing where the configuration has none.
@@ -126,6 +146,7 @@ impl<W> Standby<W> {
             others: BTreeMap::new(),
             found: String::new(),
             noted: folders.noted(),
+            may: folders.may_have_published(rank),
             folders,
             asked: None,
             answers: Vec::new(),
@@ -177,19 +198,34 @@ impl<W> Standby<W> {
     // ---- What is asked for
 
     /// Is to be the root: after all these numbers, and with the digest of what it applied, where it
-    /// knows that.
+    /// knows that. `newer`: who below it has a change that it has not, where somebody has.
     pub fn promote(
         &mut self,
         copies: bool,
+        newer: Option<String>,
         seen: u64,
-        digest: Option<u64>,
+        digest: Option<String>,
         who: W,
     ) -> Result<(), Refused> {
-        match self.role {
-            Role::Root => return Err("it is the root".into()),
-            Role::Looks => return Err("it will be the root: it looks for another one first".into()),
+        match (self.role, newer) {
+            (Role::Root, _) => return Err("it is the root".into()),
+            (Role::Looks, _) => {
+                return Err("it will be the root: it looks for another one first".into());
+            }
             _ if self.asked.is_some() => return Err(Refused::IsAsked),
-            _ => self.asked = Some(who),
+            (_, Some(newer)) if copies => {
+                let root = self.folders.root.display();
+                return Err(format!(
+                    "{newer}: it would be lost. Promote an agent that has it; or put what is \
+                     right into {root}, and `promote --as-is`"
+                )
+                .into());
+            }
+            (_, Some(newer)) => {
+                fact!("root", "promoted as it is: {newer}");
+                self.asked = Some((who, format!("it is the root, as it is: {newer}")));
+            }
+            (_, None) => self.asked = Some((who, String::new())),
         }
         let clock = SystemTime::now().duration_since(UNIX_EPOCH).unwrap_or_default();
         let rank = furthest(seen, [clock.as_micros() as u64]).wrapping_add(AHEAD);
@@ -202,22 +238,34 @@ impl<W> Standby<W> {
         match self.role {
             Role::Below => return Err("it is not the root, and does not stand by".into()),
             _ if self.asked.is_some() => return Err(Refused::IsAsked),
-            _ => self.asked = Some(who),
+            _ => self.asked = Some((who, String::new())),
         }
         self.begin(Job::Demote);
         Ok(())
     }
 
     /// Those who can be answered now.
-    pub fn answers(&mut self) -> Vec<(W, Result<(), Refused>)> {
+    pub fn answers(&mut self) -> Vec<Answer<W>> {
         std::mem::take(&mut self.answers)
     }
 
     /// Its files are those of a whole table, with this digest.
-    pub fn notes(&mut self, digest: u64) {
-        if self.rank().is_none() && self.jobs == 0 && self.noted != Some(digest) {
-            self.noted = Some(digest);
+    pub fn notes(&mut self, digest: String) {
+        if self.rank().is_none() && self.jobs == 0 && self.noted.as_ref() != Some(&digest) {
+            self.noted = Some(digest.clone());
             self.begin(Job::Note(digest));
+        }
+    }
+
+    /// Whether it is on the disk that it may publish this number.
+    pub fn may_publish(&self, number: u64) -> bool {
+        self.may.is_some_and(|may| !is_newer(number, may))
+    }
+
+    /// It is to publish this number: that it may is noted before, and mostly long before.
+    pub fn reserves(&mut self, number: u64) {
+        if self.jobs == 0 && !self.may_publish(number.wrapping_add(ROOM / 2)) {
+            self.begin(Job::Reserve(number.wrapping_add(ROOM)));
         }
     }
 
@@ -231,7 +279,7 @@ impl<W> Standby<W> {
     /// The parent at this place was looked at, as [`rignolda::net::Handler::on_looked`] says.
     pub fn looked(&mut self, at: usize, said: Option<(&Way, u64)>) {
         let tries = self.looked.entry(at).or_default();
-        *tries = if said.is_some() { TRIES } else { tries.saturating_add(1) };
+        *tries = if said.is_some() { ANSWERED } else { tries.saturating_add(1) };
         if said.is_none() && self.role == Role::Looks {
             return;
         }
@@ -268,8 +316,15 @@ impl<W> Standby<W> {
 
     // ---- What it becomes
 
-    /// Takes up what was done, and what was seen at so many parents: what the agent becomes now.
-    pub fn tick(&mut self, parents: usize, now: Instant) -> Option<Change> {
+    /// Takes up what was done, what was seen at so many parents, and [what so many children
+    /// said](says): what the agent becomes now.
+    pub fn tick(
+        &mut self,
+        parents: usize,
+        said: &[u64],
+        children: usize,
+        now: Instant,
+    ) -> Option<Change> {
         self.until = self.until.min(now + LOOKS);
         while let Some(done) = self.disk.done() {
             self.jobs = self.jobs.saturating_sub(1);
@@ -279,8 +334,9 @@ impl<W> Standby<W> {
             }
         }
         self.rank()?;
-        let looked = self.looked.values().filter(|tries| **tries >= TRIES).count();
-        if self.role == Role::Looks && looked < parents && now < self.until {
+        let looked = |least| self.looked.values().filter(|tries| **tries >= least).count();
+        let (is_early, has_all) = (now < self.until, looked(ANSWERED) >= parents);
+        if self.role == Role::Looks && looked(TRIES) < parents && is_early {
             return None;
         }
         if let Some(other) = self.goes_on().map(String::from) {
@@ -289,14 +345,38 @@ impl<W> Standby<W> {
             self.begin(Job::StandBy);
             return Some(self.is_below(Role::StandsBy));
         }
-        let begins = self.role == Role::Looks;
-        begins.then(|| self.is_root(self.rank))
+        if self.role != Role::Looks {
+            return None;
+        }
+        // (where all that may be another root answered, nobody's word is waited for)
+        match says(self.may, said, children, is_early && !has_all) {
+            Says::TooLittle => None,
+            Says::Nothing => Some(self.is_root(self.rank)),
+            Says::Newer(count) => {
+                let may = self.may.unwrap_or(0);
+                fact!(
+                    "root",
+                    "{count} of its children have more than {may}, and this root never published \
+                     that: another one did, and this one stands by"
+                );
+                self.found.clear();
+                self.begin(Job::StandBy);
+                Some(self.is_below(Role::StandsBy))
+            }
+        }
+    }
+
+    /// Above which number it publishes: without a clock where it knows up to which it may have
+    /// published in earlier lives.
+    fn above(&self) -> u64 {
+        let clock = SystemTime::now().duration_since(UNIX_EPOCH).unwrap_or_default();
+        furthest(self.rank, [self.may.unwrap_or(clock.as_micros() as u64)])
     }
 
     fn is_root(&mut self, rank: u64) -> Change {
         (self.role, self.rank) = (Role::Root, rank);
         fact!("root", "this is the root now, of rank {rank}");
-        Change::Root(rank, std::mem::take(&mut self.applied))
+        Change::Root(self.above(), std::mem::take(&mut self.applied))
     }
 
     fn is_below(&mut self, role: Role) -> Change {
@@ -308,6 +388,10 @@ impl<W> Standby<W> {
     fn is_done(&mut self, done: Done) -> Option<Change> {
         let said = match done {
             Done::Noted => return None,
+            Done::Reserved(number) => {
+                self.may = Some(number);
+                return None;
+            }
             Done::StandsBy(said) => {
                 said.unwrap_or_else(|why| fact!("root", "its folder does not know: {why}"));
                 return None;
@@ -315,6 +399,7 @@ impl<W> Standby<W> {
             Done::Promoted(rank, Ok(applied)) => {
                 self.answer(Ok(()));
                 (self.applied, self.found) = (applied, String::new());
+                self.may = Some(rank);
                 return Some(self.is_root(rank));
             }
             Done::Promoted(_, Err(why)) => Err(why),
@@ -332,8 +417,14 @@ impl<W> Standby<W> {
     }
 
     fn answer(&mut self, said: Result<(), Refused>) {
-        self.answers.extend(self.asked.take().map(|who| (who, said)));
+        self.answers.extend(self.asked.take().map(|(who, words)| (who, said.map(|()| words))));
     }
+}
+
+/// Whether a file belongs to the user of the process, or root, and nobody else may write to it.
+fn is_own(file: &Metadata) -> bool {
+    let user = fs::metadata("/proc/self").map_or(0, |it| it.uid());
+    [user, 0].contains(&file.uid()) && file.mode() & 0o022 == 0 && file.nlink() == 1
 }
 
 fn read(folder: &Path) -> Result<Found, ErrorAt> {
@@ -357,13 +448,19 @@ impl Folders {
         Folders { root: root.settings.clone(), applied: apply.folder.clone() }
     }
 
-    /// What it is at a start, and its rank.
+    /// What it is at a start, and its rank. Whoever writes to the folder makes nobody the root: a
+    /// file that says so is the agent's own, or the administrator's.
     fn role(&self) -> (Role, u64) {
         let is_there = |name: &str| fs::symlink_metadata(self.root.join(name)).ok();
         let (root, path) = (is_there(ROOT), self.root.join(ROOT));
         match root {
             _ if is_there(STANDS_BY).is_some() => (Role::StandsBy, 0),
             None => (Role::Below, 0),
+            Some(it) if it.is_file() && !is_own(&it) => {
+                let path = path.display();
+                fact!("root", "{path} does not belong to the user of the agent alone: left out");
+                (Role::Below, 0)
+            }
             Some(it) if !it.is_file() => {
                 fact!("root", "{} is no plain file: it stands by", path.display());
                 (Role::StandsBy, 0)
@@ -378,10 +475,17 @@ impl Folders {
         }
     }
 
+    /// Up to which number a root of this rank may have published. What is below its rank is
+    /// spoiled.
+    fn may_have_published(&self, rank: u64) -> Option<u64> {
+        let may = read_floor(&self.root.join(PUBLISHED));
+        Some(may).filter(|may| *may > 0 && !is_newer(rank, *may))
+    }
+
     /// The digest of the last whole table that was applied.
-    fn noted(&self) -> Option<u64> {
-        let text = String::from_utf8(read_plain(&self.root.join(APPLIED), 64).ok()?).ok()?;
-        u64::from_str_radix(text.trim_end(), 16).ok()
+    fn noted(&self) -> Option<String> {
+        let text = String::from_utf8(read_plain(&self.root.join(APPLIED), 80).ok()?).ok()?;
+        Some(text.trim_end().to_owned()).filter(|it| is_sha256(it))
     }
 
     fn work(&self, job: Job) -> Done {
@@ -391,9 +495,16 @@ impl Folders {
             }
             Job::Demote => Done::Demoted(self.demote()),
             Job::StandBy => Done::StandsBy(self.stand_by()),
+            Job::Reserve(number) => {
+                // (where that fails, nothing at all is known at the next start)
+                if self.reserve(number).is_err() {
+                    let _ = fs::remove_file(self.root.join(PUBLISHED));
+                }
+                Done::Reserved(number)
+            }
             Job::Note(digest) => {
                 // (one that cannot be written is one that is not there)
-                let _ = self.put(APPLIED, &format!("{digest:016x}\n"));
+                let _ = self.put(APPLIED, &format!("{digest}\n"));
                 Done::Noted
             }
         }
@@ -405,6 +516,24 @@ impl Folders {
         batch.write(path.clone(), text.as_bytes()).map_err(at(path.display()))?;
         let failed = batch.commit().into_iter().next();
         failed.map_or(Ok(()), |(path, error)| Err(at(path.display())(error)))
+    }
+
+    /// Notes up to which number it may publish. Settings may be written there at the same time.
+    fn reserve(&self, number: u64) -> io::Result<()> {
+        let path = self.root.join(PUBLISHED);
+        let is_new = fs::symlink_metadata(&path).is_err();
+        let mut options = OpenOptions::new();
+        options.write(true).create(true).mode(0o640).custom_flags(AS_IT_IS);
+        let file = options.open(&path)?;
+        let text = format!("{number:020}\n");
+        file.write_all_at(text.as_bytes(), 0)?;
+        file.set_len(text.len() as u64)?;
+        file.sync_all()?;
+        if is_new {
+            File::open(&self.root)?.sync_all()
+        } else {
+            Ok(())
+        }
     }
 
     /// Removes a file from there, if it is there.
@@ -423,7 +552,7 @@ impl Folders {
         &self,
         rank: u64,
         copies: bool,
-        digest: Option<u64>,
+        digest: Option<String>,
     ) -> Result<BTreeMap<String, Vec<u8>>, Refused> {
         let root = self.root.display();
         if !self.root.is_dir() {
@@ -434,6 +563,9 @@ impl Folders {
             true => self.copy(applied?, digest)?,
             false => self.published(applied.unwrap_or_default())?,
         };
+        self.put(PUBLISHED, &format!("{rank:020}\n"))?;
+        // (what it published when it was the root last is older than this)
+        Places::new(&self.root).forget();
         self.put(ROOT, &format!("{rank:020}\n"))?;
         self.remove(STANDS_BY)?;
         Ok(applied)
@@ -443,12 +575,12 @@ impl Folders {
     fn copy(
         &self,
         found: Found,
-        digest: Option<u64>,
+        digest: Option<String>,
     ) -> Result<BTreeMap<String, Vec<u8>>, Refused> {
         let mut own = Digest::default();
         found.settings.iter().for_each(|(key, value)| own.set(key, Some(value)));
         found.unread.keys().for_each(|key| own.set(key, None));
-        if digest.or_else(|| self.noted()) != Some(own.sum) || !found.unread.is_empty() {
+        if digest.or_else(|| self.noted()) != Some(own.whole()) || !found.unread.is_empty() {
             let (from, to) = (self.applied.display(), self.root.display());
             return Err(format!(
                 "{from} is not a whole table as it was applied: put what is right into {to}, and \

@@ -2,11 +2,13 @@
 use rignolda::settings::{Heard, Meaning, Table};
 use rignoldad::apply::{refusal, Applied, Applier, Outcome};
 use rignoldad::config::Apply;
+use rignoldad::hooks::Hook;
 use std::collections::BTreeMap;
 use std::fs::{self, Permissions};
 use std::io;
 use std::os::unix::fs::{symlink, PermissionsExt};
 use std::path::{Path, PathBuf};
+use std::process::{Command, Stdio};
 use std::sync::atomic::{AtomicU64, Ordering};
 use std::sync::Arc;
 use std::time::{Duration, Instant};
@@ -453,6 +455,241 @@ fn a_folder_that_may_be_somebody_elses_is_not_taken() {
     assert!(refusal(&config).is_none());
 }
 
+/// A bind mount, until the end of a test.
+struct Mounted(PathBuf);
+
+impl Mounted {
+    /// Nothing where this machine does not let it.
+    fn new(from: &Path, to: &Path) -> Option<Mounted> {
+        let done = Command::new("mount").arg("--bind").args([from, to]).output();
+        done.is_ok_and(|it| it.status.success()).then(|| Mounted(to.into()))
+    }
+}
+
+impl Drop for Mounted {
+    fn drop(&mut self) {
+        let _ = Command::new("umount").arg(&self.0).status();
+    }
+}
+
+/// What agents apply, and another table.
+const TABLE: [(&str, &[u8]); 2] = [("a", b"1"), ("b", b"2")];
+
+/// Consent is that of one folder, and not of what comes to its place while the agent runs.
+#[test]
+fn nothing_goes_of_a_folder_that_comes_to_the_place_of_its_own() {
+    for (how, name) in ["rename", "link", "mount"].into_iter().zip(["precious", "a", "precious"]) {
+        let place = Place::new();
+        let (folder, away) = (place.folder(), place.0.join("away"));
+        let other = place.0.join("other");
+        let mut applier = start(&place.config());
+        applier.table(TABLE, 1);
+        applied(&mut applier, 1);
+        fs::create_dir(&other).unwrap();
+        fs::write(other.join(name), "mine").unwrap();
+        let mut mounted = None;
+        match how {
+            "mount" => {
+                mounted = Mounted::new(&other, &folder);
+                if mounted.is_none() {
+                    continue;
+                }
+            }
+            "link" => {
+                fs::rename(&folder, &away).unwrap();
+                symlink(&other, &folder).unwrap();
+            }
+            _ => {
+                fs::rename(&folder, &away).unwrap();
+                fs::rename(&other, &folder).unwrap();
+            }
+        }
+        applier.table(TABLE, 2);
+        applied(&mut applier, 2);
+        applier.set("a", b"3", 3);
+        applier.unset(name, 4);
+        applied(&mut applier, 4);
+        assert_eq!((place.files(), applier.failing()), (map([(name, "mine")]), 1), "{how}");
+        // (its own is its own again)
+        drop(mounted);
+        if folder.is_symlink() {
+            fs::remove_file(&folder).unwrap();
+        }
+        if away.exists() {
+            let _ = fs::rename(&folder, &other);
+            fs::rename(&away, &folder).unwrap();
+        }
+        applier.table([("a", b"3"), ("b", b"2")], 5);
+        applied(&mut applier, 5);
+        assert_eq!(place.files(), map([("a", "3"), ("b", "2")]), "{how}");
+        assert_eq!(applier.failing(), 0, "{how}");
+        assert_eq!(fs::read_to_string(other.join(name)).unwrap(), "mine", "{how}");
+    }
+}
+
+#[test]
+fn a_folder_that_comes_to_its_place_is_taken_where_all_of_it_is_the_agents() {
+    let place = Place::new();
+    let (folder, away) = (place.folder(), place.0.join("away"));
+    let mut applier = start(&place.config());
+    applier.table([("a", b"1"), ("b", b"2"), ("c", b"3")], 1);
+    let had = applied(&mut applier, 1).len();
+    assert_eq!(had, 3);
+    // (a copy without the marker, a part of one, and an empty one; the table is a later one)
+    for (at, copied) in (2..).zip([&["a", "b", "c"][..], &["b"], &[]]) {
+        let _ = fs::remove_dir_all(&away);
+        fs::rename(&folder, &away).unwrap();
+        fs::create_dir(&folder).unwrap();
+        for name in copied {
+            fs::copy(away.join(name), folder.join(name)).unwrap();
+        }
+        applier.table([("a", b"1"), ("b", b"4"), ("c", b"3")], at);
+        applied(&mut applier, at);
+        assert_eq!(applier.failing(), 0, "{copied:?}");
+        assert_eq!(place.files(), map([("a", "1"), ("b", "4"), ("c", "3")]), "{copied:?}");
+        assert!(folder.join(".rignolda").exists());
+        applier.table([("a", b"1"), ("b", b"2"), ("c", b"3")], at);
+        applied(&mut applier, at);
+    }
+    // (a change alone does not make it right, and the next table between rounds does)
+    fs::remove_dir_all(&folder).unwrap();
+    applier.set("a", b"1", 9);
+    applied(&mut applier, 9);
+    assert!(applier.files(9).is_none(), "its files are not all there");
+    let entries = TABLE.map(|(key, value)| (key, Some(value)));
+    applier.says(Meaning::Table(entries.into()), 10, false, false);
+    applied(&mut applier, 10);
+    assert_eq!(place.files(), map([("a", "1"), ("b", "2")]));
+    assert!(applier.files(10).is_some());
+}
+
+/// An old copy has values for groups of long ago, which go as its other files do.
+#[test]
+fn an_old_copy_of_its_folder_is_right_after_a_table() {
+    let place = Place::new();
+    let (folder, old) = (place.folder(), place.0.join("old"));
+    let mut applier = start(&place.config());
+    applier.table([("a", b"1"), ("a..canary", b"2"), ("b..canary", b"3")], 1);
+    applied(&mut applier, 1);
+    let copied = Command::new("cp").args(["-a"]).args([&folder, &old]).status();
+    assert!(copied.unwrap().success());
+    applier.table([("a", b"4"), ("c..canary", b"5")], 2);
+    applied(&mut applier, 2);
+    fs::remove_dir_all(&folder).unwrap();
+    fs::rename(&old, &folder).unwrap();
+    applier.table([("a", b"4"), ("c..canary", b"5")], 3);
+    applied(&mut applier, 3);
+    assert_eq!((applier.failing(), place.files()), (0, map([("a", "4")])));
+    let grouped = || {
+        let there = fs::read_dir(folder.join(".groups")).unwrap();
+        let names = there.map(|it| it.unwrap().file_name().into_string().unwrap());
+        names.filter(|it| !it.starts_with('.')).collect::<Vec<_>>()
+    };
+    assert_eq!(grouped(), ["c..canary"]);
+    // (also one of that folder alone)
+    let copied = Command::new("cp").args(["-a"]).args([&folder.join(".groups"), &old]).status();
+    assert!(copied.unwrap().success());
+    applier.table([("a", b"4"), ("d..canary", b"6")], 4);
+    applied(&mut applier, 4);
+    fs::remove_dir_all(folder.join(".groups")).unwrap();
+    fs::rename(&old, folder.join(".groups")).unwrap();
+    applier.table([("a", b"4"), ("d..canary", b"6")], 5);
+    applied(&mut applier, 5);
+    assert_eq!((applier.failing(), grouped()), (0, vec!["d..canary".to_string()]));
+}
+
+/// What has another name elsewhere, or is a folder of somebody, is not written to or emptied.
+#[test]
+fn what_comes_to_the_place_of_the_agents_own_names_is_not_changed() {
+    let place = Place::new();
+    let (folder, other) = (place.folder(), place.0.join("other"));
+    let config = place.with_hook("true");
+    let mut applier = start(&config);
+    let table: [(&str, &[u8]); 2] = [("a", b"1"), ("a..canary", b"2")];
+    applier.table(table, 1);
+    applied(&mut applier, 1);
+    fs::create_dir(&other).unwrap();
+    let names = ["a", "a..canary", "b..canary", "number"];
+    let all = names.map(|name| (name, other.join(name)));
+    all.iter().for_each(|(name, path)| fs::write(path, name).unwrap());
+    // the marker is another name of a file, the other folders are links
+    fs::remove_file(folder.join(".rignolda")).unwrap();
+    fs::hard_link(other.join("number"), folder.join(".rignolda")).unwrap();
+    for name in [".pending", ".groups"] {
+        fs::remove_dir_all(folder.join(name)).unwrap();
+        symlink(&other, folder.join(name)).unwrap();
+    }
+    for number in 2..4 {
+        applier.table([("a", &b"3"[..]), ("a..canary", b"4")], number);
+        applied(&mut applier, number);
+        applier.set("a", b"5", number);
+        applier.unset("b..canary", number);
+        applied(&mut applier, number);
+    }
+    let untouched = || all.iter().all(|(name, path)| fs::read(path).unwrap() == name.as_bytes());
+    assert!(untouched() && fs::read_dir(&other).unwrap().count() == names.len());
+    assert_eq!((applier.floor(), applier.failing()), (3, 0));
+    // another folder, moved there
+    fs::rename(folder.join(".groups"), place.0.join("away")).unwrap();
+    fs::rename(&other, folder.join(".groups")).unwrap();
+    applier.table(table, 4);
+    applied(&mut applier, 4);
+    assert_eq!(applier.failing(), 1);
+    fs::rename(folder.join(".groups"), &other).unwrap();
+    applier.table(table, 5);
+    applied(&mut applier, 5);
+    assert_eq!(applier.failing(), 0);
+    assert!(untouched());
+}
+
+/// A folder in the place of a file that is set goes, unless it is a mount; one that has the name of
+/// a setting that is not there is somebody's.
+#[test]
+fn no_folder_goes_that_is_in_nobodys_way_and_no_mount_is_emptied() {
+    let place = Place::new();
+    let (folder, other) = (place.folder(), place.0.join("other"));
+    let mut applier = start(&place.config());
+    applier.table(TABLE, 1);
+    applied(&mut applier, 1);
+    fs::create_dir_all(folder.join("c/inner")).unwrap();
+    applier.unset("c", 2);
+    applied(&mut applier, 2);
+    applier.table(TABLE, 3);
+    applied(&mut applier, 3);
+    assert!(folder.join("c/inner").is_dir() && applier.failing() == 0);
+    fs::create_dir(&other).unwrap();
+    fs::write(other.join("file"), "mine").unwrap();
+    for name in ["a", ".rignolda", ".pending"] {
+        let _ = fs::remove_file(folder.join(name));
+        fs::create_dir_all(folder.join(name).join("in it")).unwrap();
+        let Some(_mounted) = Mounted::new(&other, &folder.join(name).join("in it")) else { return };
+        applier.table([("a", b"2")], 4);
+        applied(&mut applier, 4);
+        assert_eq!(fs::read_to_string(other.join("file")).unwrap(), "mine", "{name}");
+    }
+}
+
+/// It is deleted while files are written; whoever is ended then leaves what is known again.
+#[test]
+fn there_is_no_moment_with_files_and_no_marker() {
+    let place = Place::new();
+    let folder = place.folder();
+    let mut applier = start(&place.config());
+    let keys: Vec<String> = (0..400).map(|at| format!("k{at}")).collect();
+    for number in 1..4 {
+        let value = number.to_string();
+        let entries = keys.iter().map(|key| (&**key, Some(value.as_bytes()))).collect();
+        applier.says(Meaning::Table(entries), number, true, false);
+        let first = (number * 20).to_string();
+        until(|| fs::read(folder.join(format!("k{first}"))).is_ok_and(|it| it == value.as_bytes()));
+        let _ = Command::new("rm").arg("-rf").arg(&folder).stderr(Stdio::null()).status();
+        applied(&mut applier, number);
+        // (as long as it goes on, it may take away the marker after the last file)
+        let there = || fs::read_dir(&folder).into_iter().flatten().count();
+        until(|| there() == 0 || folder.join(".rignolda").exists());
+    }
+}
+
 #[test]
 fn what_is_wrong_with_the_folder_itself_is_mended() {
     let place = Place::new();
@@ -467,7 +704,8 @@ fn what_is_wrong_with_the_folder_itself_is_mended() {
     applier.table([("a", b"1")], 2);
     applied(&mut applier, 2);
     let mode = fs::metadata(place.folder()).unwrap().permissions().mode();
-    assert_eq!(mode & 0o777, 0o700);
+    // (whoever may read its files may list it)
+    assert_eq!(mode & 0o777, 0o750);
     assert!(fs::symlink_metadata(place.folder().join("linked")).is_err());
     assert!(place.0.join("elsewhere/file").exists() && place.folder().join("inner").is_dir());
 }
@@ -501,6 +739,56 @@ fn a_hook_that_fails_is_run_again_by_the_next_table() {
     applier.table([("a", &b"1"[..])], 3);
     applied(&mut applier, 3);
     assert_eq!(place.calls(), ["set a 1 1", "set a 1 2"]);
+}
+
+#[test]
+fn what_fails_by_a_hook_alone_ends_with_the_hook() {
+    for (is_many, is_replaced) in [(true, true), (true, false), (false, true), (false, false)] {
+        let place = Place::new();
+        let config = |lines: &str| {
+            let config = place.with_hook(lines);
+            let run = config.hook.clone().unwrap();
+            let hook = Hook { keys: vec!["a".into()], run, timeout: config.hook_timeout };
+            if is_many {
+                Apply { hook: None, hooks: vec![hook], ..config }
+            } else {
+                config
+            }
+        };
+        let mut applier = start(&config("[ -e good ]"));
+        applier.set("a", b"1", 1);
+        applied(&mut applier, 1);
+        assert_eq!(applier.failing(), 1);
+        fs::write(place.0.join("good"), "").unwrap();
+        let timeout = Duration::from_secs(500);
+        applier.reload(&match (is_many, is_replaced) {
+            (_, false) => place.config(),
+            (false, true) => config("true"),
+            (true, true) => {
+                let all = config("[ -e good ]");
+                let hooks = all.hooks.iter().map(|it| Hook { timeout, ..it.clone() }).collect();
+                Apply { hooks, ..all }
+            }
+        });
+        assert!(!is_many || applier.failing() == 0, "the hook is another one, or none");
+        applier.table([("a", &b"1"[..])], 2);
+        applied(&mut applier, 2);
+        assert_eq!(applier.failing(), 0, "{is_many} {is_replaced}");
+    }
+    // (one that is gone, and runs to its end)
+    let place = Place::new();
+    let config = place.with_hook("echo >>calls; while [ ! -e go ]; do sleep 0.01; done; exit 1");
+    let run = config.hook.clone().unwrap();
+    let hook = Hook { keys: vec!["*".into()], run, timeout: config.hook_timeout };
+    let mut applier = start(&Apply { hook: None, hooks: vec![hook], ..config });
+    applier.set("a", b"1", 1);
+    until(|| !place.calls().is_empty());
+    applier.reload(&place.config());
+    fs::write(place.0.join("go"), "").unwrap();
+    until(|| applier.hook_failures() == 1);
+    applier.table([("a", &b"1"[..])], 2);
+    applied(&mut applier, 2);
+    assert_eq!(applier.failing(), 0);
 }
 
 #[test]
@@ -650,6 +938,28 @@ fn an_agent_that_begins_anew_applies_nothing_older_than_its_files() {
         place.calls(),
         ["set colour red 100", "set colour blue 101", "set colour green 102"]
     );
+}
+
+/// After a loss of power the marker may be older than the files, since neither is synced: what is
+/// newer than the marker is applied, and the next table makes all right.
+#[test]
+fn a_marker_older_than_the_files_lets_older_ones_come_until_the_next_table() {
+    let place = Place::new();
+    let config = place.config();
+    let mut life = Life::begins(&config);
+    life.table(100, "colour", "red");
+    let marker = fs::read(place.folder().join(".rignolda")).unwrap();
+    life.changes(101, "colour", "blue");
+    life.changes(102, "colour", "green");
+    drop(life);
+    fs::write(place.folder().join(".rignolda"), marker).unwrap();
+    let mut life = Life::begins(&config);
+    assert_eq!(life.0.taker.floor, 100);
+    life.table(100, "colour", "red");
+    life.changes(101, "colour", "blue");
+    assert_eq!(place.files(), map([("colour", "blue")]));
+    life.table(103, "colour", "green");
+    assert_eq!((place.files(), life.1.floor()), (map([("colour", "green")]), 103));
 }
 
 #[test]

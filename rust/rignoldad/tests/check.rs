@@ -11,7 +11,8 @@ use openssl::x509::{X509Builder, X509NameBuilder, X509};
 use rignolda_tls::{Maker, Tls};
 use rignoldad::check::check;
 use std::fs::{self, Permissions};
-use std::os::unix::fs::{MetadataExt, PermissionsExt};
+use std::io::Write;
+use std::os::unix::fs::{symlink, MetadataExt, PermissionsExt};
 use std::os::unix::net::UnixListener;
 use std::path::{Path, PathBuf};
 use std::time::{Duration, SystemTime, UNIX_EPOCH};
@@ -227,6 +228,37 @@ fn says_what_cannot_work_on_this_machine() {
             &[(7, "tls.certificate", "did not sign it", false)],
         ),
         (
+            "an authority that has expired",
+            |at| {
+                let other = certificate(["", "authority"], None, [-9, -1]).0;
+                fs::write(at.join("authority"), other.to_pem().unwrap()).unwrap();
+            },
+            &[
+                (9, "tls.authority", "has expired", false),
+                (7, "tls.certificate", "did not sign it", false),
+            ],
+        ),
+        (
+            "an authority that expires soon, beside its next one",
+            |at| {
+                let [old, new] =
+                    [20, 900].map(|days| certificate(["", "authority"], None, [-9, days]).0);
+                let own = fs::read(at.join("authority")).unwrap();
+                let all = [own, old.to_pem().unwrap(), new.to_pem().unwrap()].concat();
+                fs::write(at.join("authority"), all).unwrap();
+            },
+            &[],
+        ),
+        (
+            "a list of revoked certificates",
+            |at| {
+                let file = fs::OpenOptions::new().append(true).open(at.join("authority"));
+                let list = "-----BEGIN X509 CRL-----\nMAA=\n-----END X509 CRL-----\n";
+                file.unwrap().write_all(list.as_bytes()).unwrap();
+            },
+            &[(9, "tls.authority", "revoked certificates, which do not count", false)],
+        ),
+        (
             "a missing hook",
             |at| fs::remove_file(at.join("hook")).unwrap(),
             &[(12, "apply.hook", "is not there", false)],
@@ -304,6 +336,17 @@ fn says_what_cannot_work_on_this_machine() {
             "a folder of settings where nothing is published",
             |at| mode(at, "truth", 0o755),
             &[(4, "root.settings", "`publish`", true)],
+        ),
+        (
+            "a folder of settings that are links, as of a ConfigMap",
+            |at| {
+                let truth = at.join("truth");
+                fs::create_dir(truth.join("..1")).unwrap();
+                fs::write(truth.join("..1/app.conf"), "1").unwrap();
+                symlink("..1", truth.join("..data")).unwrap();
+                symlink("..data/app.conf", truth.join("app.conf")).unwrap();
+            },
+            &[(4, "root.settings", "1 in it are links, as `app.conf`", true)],
         ),
     ];
     let mut wrong = Vec::new();
@@ -553,7 +596,7 @@ fn no_way_is_too_long() {
     let folder = Folder::new("deep");
     let paths: Vec<PathBuf> = (0..130).map(|at| folder.0.join(format!("{at}.toml"))).collect();
     for (at, path) in paths.iter().enumerate() {
-        let ends = "[root]\nsettings = \"/s\"\n[link]\nbacklog = 1036\n";
+        let ends = "[root]\nsettings = \"/s\"\nharmless = 257\n[link]\nbacklog = 1036\n";
         let parents = |up: usize| format!("parents = [\"a{up}@unix:/{up}\"]\n");
         let above = at.checked_sub(1).map_or(ends.into(), parents);
         let (name, child) = (format!("name = \"a{at}\"\n"), at + 1);
@@ -562,11 +605,15 @@ fn no_way_is_too_long() {
     }
     let said = |line| (line, "parents", "no way leads to the root", false);
     found(&paths, &[(128, said(4)), (129, said(2))]).unwrap();
-    // (the deepest one needs 257 harmless items, for which four rounds have room there)
-    let text = fs::read_to_string(&paths[0]).unwrap().replace("1036", "1035");
-    fs::write(&paths[0], text).unwrap();
-    let few = (7, "link.backlog", "at least 1036", false);
-    found(&paths, &[(0, few), (128, said(4)), (129, said(2))]).unwrap();
+    // (so many the deepest one needs; and what is not set counts for a depth of 10)
+    for text in ["harmless = 256\n", ""] {
+        let old = fs::read_to_string(&paths[0]).unwrap();
+        let at = if text.is_empty() { (4, "root.harmless") } else { (6, "root.harmless") };
+        let line = old.lines().find(|line| line.starts_with("harmless")).unwrap();
+        fs::write(&paths[0], old.replace(&format!("{line}\n"), text)).unwrap();
+        let few = (at.0, at.1, "at least 257", false);
+        found(&paths, &[(0, few), (128, said(4)), (129, said(2))]).unwrap();
+    }
 }
 
 /// The status that it ends with, what it writes to its output, and to its errors.
@@ -617,6 +664,6 @@ fn the_status_says_whether_it_works() {
     if fs::metadata("/proc/self").unwrap().uid() == 0 {
         let whose = |user: &str| run(&["--check", "--user", user, file]).1;
         assert_eq!(whose("root"), "checked for root\n");
-        assert_eq!(whose("no-such"), "checked for root, as there is no such user\n");
+        assert_eq!(whose("no-such"), "checked for root, as there is no user `no-such`\n");
     }
 }

@@ -75,7 +75,8 @@ fn reads_every_key() {
         Config::parse(&text).unwrap().root.unwrap().harmless(depth)
     };
     assert_eq!(["", "harmless = 7"].map(|it| harmless(it, 10)), [23, 7]);
-    assert_eq!(["", "[link]\nbacklog = 103"].map(|it| harmless(it, u32::MAX)), [254, 23]);
+    // (however deep it is said to be, a round has no more than after a start)
+    assert_eq!([1, 9, 11, 64, u32::MAX].map(|depth| harmless("", depth)), [5, 21, 23, 23, 23]);
 }
 
 #[test]
@@ -246,16 +247,16 @@ fn says_each_fault_with_its_line_and_key() {
     ] {
         assert!(Config::parse(&clash(two, 0, "", "").0).is_ok(), "{two:?}");
     }
-    let own = "of the agent's own";
     let folders = [
-        ("name = \"a\"\nparents = [\"127.0.0.1:1\"]\n[apply]\nfolder = \"/etc\"", 4),
         ("name = \"a\"\n[root]\nsettings = \"/s/t\"\n[apply]\nfolder = \"/s/t\"", 5),
         // (a file of the truth would be removed, or be in the place of the folder)
         ("name = \"a\"\n[root]\nsettings = \"/s/t/u.toml\"\n[apply]\nfolder = \"/s/t\"", 5),
         ("name = \"a\"\n[root]\nsettings = \"/s/t\"\n[apply]\nfolder = \"/s/t/u\"", 5),
     ];
-    let folders = folders.map(|(text, line)| (text, line, "apply.folder", own));
-    for (text, line, key, said) in cases.iter().chain(&folders) {
+    let folders = folders.map(|(text, line)| (text, line, "apply.folder", "`root.settings`"));
+    let shallow = "name = \"a\"\nparents = [\"127.0.0.1:1\"]\n[apply]\nfolder = \"/etc\"";
+    let shallow = [(shallow, 4, "apply.folder", "of the agent's own")];
+    for (text, line, key, said) in cases.iter().chain(&folders).chain(&shallow) {
         let faults = Config::parse(text).expect_err(text);
         let found =
             faults.iter().any(|f| (f.line, &f.key[..]) == (*line, *key) && f.text.contains(said));
@@ -338,6 +339,41 @@ fn knows_which_keys_need_a_start() {
         WHOLE.replace("rack3", "rack4").replace("/settings", "/other").replace("9464", "9465");
     let cold = Config::parse(&cold).unwrap();
     assert_eq!(old.clone().take(cold), ["name", "apply.folder", "metrics"]);
+}
+
+/// What is gone from the file is gone, or the agent says that it is not.
+#[test]
+fn a_table_that_came_or_went_is_taken_or_refused() {
+    let agent = "name = \"a\"\nparents = \"b@127.0.0.1:1\"\n";
+    let root = "name = \"a\"\n[root]\nsettings = \"/s\"\n";
+    let apply = &*format!("{agent}[apply]\nfolder = \"/a/b\"\n");
+    let with = |text: &str, more: &str| format!("{text}{more}\n");
+    let tls = "[tls]\ncertificate = \"/c\"\nkey = \"/k\"\nauthority = \"/a\"";
+    for (less, more, expected) in [
+        (agent, apply.into(), Err("[apply] is gone")),
+        (agent, root.into(), Err("a root is one")),
+        (apply, with(apply, "[[hook]]\nkeys = \"*\"\nrun = \"/h\""), Ok("")),
+        (apply, with(apply, "hook = \"/h\""), Ok("")),
+        (apply, format!("groups = \"eu\"\n{apply}"), Ok("")),
+        (agent, with(agent, tls), Ok("")),
+        (agent, with(agent, "[link]\nevict = \"5m\""), Ok("")),
+        (agent, with(agent, "[link]\nbacklog = 99"), Ok("link.backlog")),
+        (agent, with(agent, "[store]\ndatabase = 1"), Ok("store")),
+        (agent, with(agent, "control = \"/a\""), Ok("control")),
+    ] {
+        let [less, more] = [less, &more].map(|text| Config::parse(text).expect(text));
+        for (old, new) in [(&more, &less), (&less, &more)] {
+            let (mut now, refused) = (old.clone(), old.refuses(new));
+            let late = refused.map_or_else(|| now.take(new.clone()).join(" "), String::from);
+            let is_less = std::ptr::eq(old, &less);
+            let now_new = |it: String| if is_less { it.replace("gone", "new") } else { it };
+            match expected.map_err(|it| now_new(it.into())) {
+                Ok(key) => assert_eq!((refused, &*late), (None, key)),
+                Err(why) => assert!(refused.is_some() && late.contains(&why), "{late}"),
+            }
+            assert_eq!(now == *new, late.is_empty(), "{late}");
+        }
+    }
 }
 
 #[test]

@@ -85,24 +85,33 @@ fn a_file_has_its_mode_whatever_the_mask_of_the_process_is() {
 }
 
 #[test]
-fn a_batch_keeps_the_modes_of_the_files_that_it_replaces() {
+fn what_a_batch_writes_is_for_its_owner_and_group_at_most() {
     let place = Place::new("private");
-    let [secret, open, new] = ["secret", "open", "new"].map(|key| place.0.join(key));
-    let beside = [0, 1, 2].map(|at| place.0.join(format!(".rignolda{at}.new")));
-    for (path, is) in [(&secret, 0o600), (&open, 0o666), (&beside[0], 0o666)] {
-        // (the last one was left by a process that was killed)
+    let path = |name: &str| place.0.join(name);
+    let [secret, linked, other] = ["secret", "linked", "other"].map(path);
+    let beside = [0, 2, 3, 4, 5, 6].map(|at| path(&format!(".rignolda{at}.new")));
+    let all: Vec<PathBuf> =
+        ["secret", "open", "run-by-all", "closed", "new", "linked"].map(path).into();
+    let modes = [0o600, 0o666, 0o6777, 0o444];
+    for (path, is) in all.iter().zip(modes).chain([(&beside[0], 0o666), (&other, 0o4755)]) {
+        // (one was left by a process that was killed)
         fs::write(path, "old").unwrap();
         set_mode(path, is);
     }
+    symlink(&other, &linked).unwrap();
+    // (a folder of such a name is somebody's)
+    fs::create_dir_all(path(".rignolda1.new/inner")).unwrap();
     let mut batch = Batch::default();
-    for path in [&secret, &open, &new] {
+    for path in &all {
         batch.write(path.clone(), b"1").unwrap();
     }
-    assert_eq!(beside.each_ref().map(mode), [0o600, 0o666, 0o640]);
+    let expected = [0o600, 0o640, 0o640, 0o640, 0o640, 0o640];
+    assert_eq!(beside.each_ref().map(mode), expected);
     assert!(batch.commit().is_empty());
-    // (without one before, it is not for everybody)
-    assert_eq!([&secret, &open, &new].map(mode), [0o600, 0o666, 0o640]);
-    assert_eq!(text(&secret), "1");
+    assert_eq!(all.iter().map(mode).collect::<Vec<_>>(), expected);
+    assert_eq!((&*text(&secret), &*text(&linked), linked.is_symlink()), ("1", "1", false));
+    assert_eq!((&*text(&other), mode(&other)), ("old", 0o4755));
+    assert!(path(".rignolda1.new/inner").is_dir() && !beside[0].exists());
 }
 
 #[test]
@@ -263,4 +272,54 @@ fn what_is_none_of_settings_is_named_and_a_link_to_a_folder_is_no_folder() {
     set_mode(place.0.clone(), 0o040);
     folder.mend().unwrap();
     assert_eq!(mode(&place.0), 0o740);
+}
+
+#[test]
+fn whoever_may_read_the_files_may_list_the_folder() {
+    let place = Place::new("listed");
+    fs::create_dir_all(&place.0).unwrap();
+    let folder = Folder::new(place.0.clone());
+    for (was, of_files, is) in [
+        (0o750, 0o640, 0o750),
+        (0o700, 0o640, 0o750),
+        (0o750, 0o644, 0o755),
+        (0o700, 0o600, 0o700),
+        (0o755, 0o640, 0o755),
+    ] {
+        set_mode(place.0.clone(), was);
+        folder.is_listed_by_readers(of_files).unwrap();
+        assert_eq!(mode(&place.0), is, "{was:o} {of_files:o}");
+    }
+}
+
+#[test]
+fn the_first_file_is_there_before_any_other_one() {
+    let top = std::env::temp_dir().join(format!("rignolda-first-{}", std::process::id()));
+    let (path, first) = (top.join("files"), top.join("files/.first"));
+    let _ = fs::remove_dir_all(&top);
+    let mut folder = Folder::new(path.clone());
+    folder.begins_with(".first", b"1".to_vec());
+    assert!(folder.open().unwrap() && !folder.open().unwrap());
+    let put = |folder: &mut Folder, key| {
+        let _ = fs::remove_file(&first);
+        let done = folder.put(key, Some(b"value"), 0o640);
+        (done.is_ok(), path.join(key).exists(), fs::read(&first).ok())
+    };
+    let well = (true, true, Some(b"1".to_vec()));
+    assert_eq!(put(&mut folder, "a"), well);
+    assert_eq!(put(&mut folder, "a"), well);
+    // (it was removed, and what was put there is not known any more)
+    fs::remove_dir_all(&top).unwrap();
+    assert_eq!(put(&mut folder, "b"), well);
+    assert!(!folder.knows("a") && folder.knows("b"));
+    // another one is in its place: nothing comes into that, also where its own is gone
+    fs::rename(&path, top.join("away")).unwrap();
+    fs::create_dir(&path).unwrap();
+    folder.put("c", Some(b"value"), 0o640).unwrap();
+    assert!(top.join("away/c").exists());
+    fs::remove_dir_all(top.join("away")).unwrap();
+    assert_eq!(put(&mut folder, "d"), (false, false, None));
+    folder.begins_again();
+    assert_eq!(fs::read_dir(&path).unwrap().count(), 0);
+    fs::remove_dir_all(&top).unwrap();
 }

@@ -112,15 +112,7 @@ fn root(settings: &Path, settled: bool) -> (Tried, Instant) {
 
 fn config(settings: &Path) -> config::Root {
     let (round, settings) = (ROUND, settings.into());
-    config::Root {
-        settings,
-        standby: false,
-        round,
-        harmless: Some(3),
-        most_harmless: 20,
-        hold: false,
-        unsets: None,
-    }
+    config::Root { settings, standby: false, round, harmless: Some(3), hold: false, unsets: None }
 }
 
 /// One with settings that an earlier life applied.
@@ -189,8 +181,8 @@ fn a_round_has_what_the_deepest_agent_of_four_rounds_needs() {
     let folder = Folder::new("deep");
     let unset = config::Root { harmless: None, ..config(&folder.0) };
     let (mut root, now) = root_of(unset, BTreeMap::new(), true);
-    // (the tree may be of a depth of 10 at the start, and the backlogs have room for 20 a round)
-    let rounds = [(3, 20), (1, 20), (1, 9), (1, 9), (1, 5), (0, 5), (64, 20), (0, 20)];
+    // (the tree may be of a depth of 10 at the start, and by itself counts for no deeper one)
+    let rounds = [(3, 23), (1, 23), (1, 9), (1, 9), (1, 5), (0, 5), (64, 23), (0, 23)];
     for (at, (depth, items)) in (1..).zip(rounds) {
         root.depth = depth;
         root.tick(now + at * ROUND);
@@ -558,6 +550,16 @@ fn no_link_is_followed_and_nothing_but_a_plain_file_is_read() {
     root.tick(root.deadline());
     assert_eq!((next(&mut root), root.settings()), (None, 1));
     fs::remove_file(folder.0.with_extension("secret")).unwrap();
+    // (one with nothing else is no empty one; and no name makes a line of its own)
+    fs::remove_file(folder.0.join(".empty")).unwrap();
+    fs::write(folder.0.join("x\nparent  evil"), "1").unwrap();
+    let (root, _) = self::root(&folder.0, true);
+    let faults = root.faults();
+    let all: Vec<&str> = faults.iter().map(|it| it.split(": ").last().unwrap()).collect();
+    assert_eq!(all[0], "nothing in it can be published", "{faults:?}");
+    assert_eq!(all.iter().filter(|it| **it == why).count(), 4, "{faults:?}");
+    let key = faults.iter().find(|it| it.contains("evil")).unwrap();
+    assert!(key.starts_with("`x\\u000aparent  evil` is no key") && !key.contains('\n'), "{key}");
 }
 
 #[test]
@@ -706,7 +708,7 @@ fn what_is_asked_for_while_the_disk_is_busy_is_bounded() {
 fn put(folder: &Folder, keys: &[&str]) {
     for entry in fs::read_dir(&folder.0).unwrap().flatten() {
         let name = entry.file_name().into_string().unwrap();
-        if name != ".empty" && !keys.contains(&&*name) {
+        if !name.starts_with('.') && !keys.contains(&&*name) {
             fs::remove_file(entry.path()).unwrap();
         }
     }
@@ -756,17 +758,35 @@ fn what_unsets_more_than_half_is_held_until_it_is_confirmed() {
     assert_eq!((root.held(), all(&mut root)), (1, vec![]));
     assert_eq!(diff(&mut root), said_of(why, "-c"));
     assert_eq!(root.faults(), [format!("{why}: held until `rignoldactl confirm`")]);
-    // nothing is published of it, nor anything that is asked for, and no round's table
-    assert_eq!(root.change("g", Some(b"g")), Err(Refused::IsHeld));
+    // nothing is published of it; rounds are of what was published before
     root.tick(now + ROUND);
-    assert_eq!(all(&mut root), [] as [Said; 0]);
+    let table = |more: &[(&str, &str)]| {
+        let all = [("a", "a"), ("b", "b"), ("c", "c"), ("f", "f")];
+        let all: BTreeMap<_, _> = all.into_iter().chain(more.iter().copied()).collect();
+        all.into_iter().map(|(key, value)| entry(key, Some(value))).collect::<Said>()
+    };
+    assert_eq!(all(&mut root), [table(&[])]);
+    // and what is asked for by name, which is one of those then
+    root.change("g", Some(b"g")).unwrap();
+    assert_eq!(all(&mut root), [vec![entry("g", Some("g"))]]);
+    assert_eq!(root.answers(), [("g".into(), Ok(()))]);
+    assert_eq!(diff(&mut root), said_of(why, "-c"));
+    assert_eq!(root.promote("a@eu", "who".into()), Err(Refused::IsHeld));
+    root.tick(now + 2 * ROUND);
+    assert_eq!(all(&mut root), [table(&[("g", "g")])]);
+    fs::remove_file(folder.0.join("g")).unwrap();
+    root.change("g", None).unwrap();
+    assert_eq!(all(&mut root), [vec![entry("g", None)]]);
+    assert_eq!(root.change("g", None).unwrap_err().to_string(), "`g` is not set");
     // what is confirmed is what was seen, and nothing that came since
     assert_eq!(
-        root.confirm(1, now, "who".into()).unwrap_err().to_string()[..26],
+        root.confirm(&"1".repeat(64), now, "who".into()).unwrap_err().to_string()[..26],
         *"another change is held sin"
     );
+    let why = root.confirm("0123456789abcdef", now, "who".into()).unwrap_err().to_string();
+    assert!(why.contains("64 hexadecimal digits"), "{why}");
     put(&folder, &["a"]);
-    root.confirm(0, now, "who".into()).unwrap();
+    root.confirm("", now, "who".into()).unwrap();
     root.wait();
     let answers = root.answers();
     assert!(
@@ -774,18 +794,44 @@ fn what_unsets_more_than_half_is_held_until_it_is_confirmed() {
         "{answers:?}"
     );
     assert_eq!(diff(&mut root), said_of("4 of 5 settings would be unset", "-b, -c, -f"));
-    root.confirm(0, now, "who".into()).unwrap();
+    root.confirm("", now, "who".into()).unwrap();
     root.wait();
     let table = vec![entry("a", Some("a"))];
     assert_eq!(all(&mut root).last(), Some(&table));
     assert_eq!(root.answers(), [("who".into(), Ok(()))]);
     assert_eq!((root.held(), root.faults().len()), (0, 0));
-    assert_eq!(root.confirm(0, now, "who".into()), Err(Refused::NothingIsHeld));
+    assert_eq!(root.confirm("", now, "who".into()), Err(Refused::NothingIsHeld));
     // one setting alone may always go
     put(&folder, &[]);
     root.notified(now);
     root.tick(root.deadline());
     assert_eq!(all(&mut root), [vec![entry("a", None)]]);
+}
+
+#[test]
+fn a_digest_confirms_what_was_seen_alone() {
+    let folder = Folder::new("digest");
+    let (mut root, now) =
+        root_of(config::Root { hold: true, ..config(&folder.0) }, BTreeMap::new(), true);
+    fs::write(folder.0.join("a"), "yes").unwrap();
+    let digest = |root: &mut Tried| {
+        root.ask_diff(now, "who".into());
+        root.wait();
+        root.diffs().unwrap().1.digest
+    };
+    let seen = digest(&mut root);
+    fs::write(folder.0.join("a"), "any").unwrap();
+    root.confirm(&seen, now, "who".into()).unwrap();
+    root.wait();
+    assert!(matches!(&root.answers()[..], [(_, Err(_))]));
+    assert_eq!((all(&mut root), root.held()), (vec![], 1));
+    assert_ne!(digest(&mut root), seen);
+    assert!(root.confirm(&seen, now, "who".into()).is_err());
+    fs::write(folder.0.join("a"), "yes").unwrap();
+    assert_eq!(digest(&mut root), seen);
+    root.confirm(&seen, now, "who".into()).unwrap();
+    root.wait();
+    assert_eq!((all(&mut root), root.held()), (vec![vec![entry("a", Some("yes"))]], 0));
 }
 
 #[test]
@@ -821,11 +867,16 @@ fn a_root_that_begins_anew_holds_what_its_own_files_lack() {
     let why = "2 of 3 settings would be unset";
     assert_eq!((root.held(), all(&mut root)), (2, vec![]));
     assert_eq!(diff(&mut root), said_of(why, "-b, -c"));
-    assert_eq!(root.change("a", Some(b"2")), Err(Refused::IsHeld));
-    root.confirm(0, now, "who".into()).unwrap();
+    // (of what an earlier life published nothing was kept: so no table is)
+    root.change("a", Some(b"2")).unwrap();
+    assert_eq!(all(&mut root), [vec![entry("a", Some("2"))]]);
+    root.begin_round(now);
+    assert_eq!((root.held(), all(&mut root)), (2, vec![]));
+    root.confirm("", now, "who".into()).unwrap();
     root.wait();
-    assert_eq!(all(&mut root).last(), Some(&vec![entry("a", Some("a"))]));
+    assert_eq!(all(&mut root).last(), Some(&vec![entry("a", Some("2"))]));
     // one that holds each change has what it applied confirmed
+    put(&folder, &["a"]);
     let hold = config::Root { hold: true, ..config(&folder.0) };
     let (mut root, now) = root_of(hold, applied(&["a"]), true);
     assert_eq!((root.held(), all(&mut root)), (0, vec![]));
@@ -859,7 +910,187 @@ fn what_waits_for_the_end_of_a_drain_is_shown() {
     root.drain(now);
     put(&folder, &["a", "c"]);
     assert_eq!(diff(&mut root), said_of("", "-b, 1 c"));
-    assert!(root.confirm(0, now, "who".into()).is_err());
+    assert!(root.confirm("", now, "who".into()).is_err());
     root.resume();
     assert_eq!(all(&mut root), [vec![entry("b", None), entry("c", Some("c"))]]);
+}
+
+/// Ends a root once what it published is kept, and begins another one, of an agent that applied
+/// this.
+fn begins_again(
+    config: &config::Root,
+    root: Tried,
+    now: Instant,
+    applied: &[&str],
+) -> (Tried, Instant) {
+    let kept = config.settings.join(".rignolda/published");
+    let is_kept = |root: &Tried| {
+        let text = fs::read_to_string(&kept).ok();
+        text.map(|it| it.lines().filter(|line| !line.ends_with(" -")).count() as u64)
+            == Some(root.settings())
+    };
+    let mut root = root;
+    let until = Instant::now() + Duration::from_secs(60);
+    while !is_kept(&root) && Instant::now() < until {
+        root.tick(now + Duration::from_secs(30));
+        std::thread::sleep(Duration::from_millis(1));
+    }
+    drop(root);
+    let applied = applied.iter().map(|key| (key.to_string(), (*key).into())).collect();
+    root_of(config.clone(), applied, false)
+}
+
+const KEYS: [&str; 6] = ["a", "b", "c", "d", "e", "f"];
+
+/// It knows what it published, though it applies nothing, or that is lost.
+#[test]
+fn a_root_that_begins_anew_holds_what_its_folder_lacks() {
+    for (name, applied) in [("lacks", &[][..]), ("lacks-some", &["a", "b"])] {
+        let folder = Folder::new(name);
+        put(&folder, &KEYS);
+        let config = config(&folder.0);
+        let (mut before, now) = root(&folder.0, true);
+        before.change("b..eu", Some(b"x")).unwrap_err();
+        before.change("b@eu", Some(b"x")).unwrap();
+        all(&mut before);
+        let (mut root, now) = begins_again(&config, before, now, applied);
+        assert_eq!((root.held(), all(&mut root).len()), (0, 2), "nothing is lacking");
+        fs::remove_file(folder.0.join("b@eu")).unwrap();
+        put(&folder, &["a", "b"]);
+        let (mut root, now) = begins_again(&config, root, now, applied);
+        let why = "5 of 7 settings would be unset";
+        assert_eq!(root.held(), 5, "{name}");
+        // (what is published again is as it was)
+        assert_eq!(all(&mut root), [vec![entry("a", Some("a"))]]);
+        assert_eq!(diff(&mut root), said_of(why, "-b@eu, -c, -d, -e, -f"));
+        root.tick(now + ROUND);
+        assert_eq!(all(&mut root), [] as [Said; 0], "no table");
+        // what somebody names goes out, unless agents would lose what is not known; the others stay
+        root.change("new", Some(b"1")).unwrap();
+        root.change("c", Some(b"2")).unwrap();
+        root.change("d", None).unwrap();
+        let said: Said = all(&mut root).into_iter().flatten().collect();
+        assert_eq!(said, [entry("c", Some("2")), entry("d", None), entry("new", Some("1"))]);
+        assert_eq!(root.change("b", Some(b"2")), Err(Refused::IsHeld));
+        assert_eq!(diff(&mut root), said_of("3 of 6 settings would be unset", "-b@eu, -e, -f"));
+        root.confirm("", now, "who".into()).unwrap();
+        root.wait();
+        let table = [("a", "a"), ("b", "b"), ("c", "2"), ("new", "1")];
+        let table: Said = table.map(|(key, value)| entry(key, Some(value))).into();
+        assert_eq!(all(&mut root).last(), Some(&table));
+    }
+}
+
+/// What it applied, or still lies in the folder, is what it published.
+#[test]
+fn rounds_of_what_was_published_go_on_where_a_change_is_held_at_a_start() {
+    let folder = Folder::new("goes-on");
+    put(&folder, &KEYS);
+    let config = config(&folder.0);
+    let (root, now) = root(&folder.0, true);
+    put(&folder, &["a", "b"]);
+    let (mut root, now) = begins_again(&config, root, now, &KEYS[1..]);
+    let table: Said = KEYS.map(|key| entry(key, Some(key))).into();
+    assert_eq!((root.held(), all(&mut root)), (4, vec![table.clone(); 2]));
+    root.tick(now + ROUND);
+    assert_eq!(all(&mut root), [&table[..]]);
+    put(&folder, &KEYS);
+    root.tick(now + 2 * ROUND);
+    assert_eq!((root.held(), all(&mut root)), (0, vec![table]));
+}
+
+/// Also where that is not all at once, and over a start.
+#[test]
+fn what_goes_in_steps_is_held_as_what_goes_at_once() {
+    let folder = Folder::new("steps");
+    put(&folder, &KEYS);
+    let config = config(&folder.0);
+    let (mut root, mut now) = root(&folder.0, true);
+    for (most, held) in [(5, 0), (4, 0), (3, 0), (2, 1)] {
+        put(&folder, &KEYS[..most]);
+        now += ROUND / 9;
+        root.begin_round(now);
+        let table: Said = KEYS[..most.max(3)].iter().map(|key| entry(key, Some(key))).collect();
+        assert_eq!(all(&mut root).last(), Some(&table), "{most}");
+        assert_eq!(root.held(), held, "{most}");
+        if most == 4 {
+            (root, now) = begins_again(&config, root, now, &[]);
+            all(&mut root);
+        }
+    }
+}
+
+#[test]
+fn what_is_asked_for_beside_a_change_that_is_held_is_answered() {
+    let folder = Folder::new("beside");
+    put(&folder, &KEYS);
+    let (mut root, now) = root(&folder.0, true);
+    // (nobody has told it yet)
+    put(&folder, &[]);
+    root.change("urgent", Some(b"1")).unwrap();
+    root.notified(now);
+    root.tick(root.deadline());
+    assert_eq!((root.held(), all(&mut root)), (6, vec![vec![entry("urgent", Some("1"))]]));
+    assert_eq!(root.answers(), [("urgent".into(), Ok(()))]);
+    root.tick(now + ROUND);
+    let more = entry("urgent", Some("1"));
+    let table: Said = KEYS.map(|key| entry(key, Some(key))).into_iter().chain([more]).collect();
+    assert_eq!((root.held(), all(&mut root)), (6, vec![table]));
+}
+
+/// As where a mount is missing.
+#[test]
+fn an_empty_folder_takes_no_first_setting_where_others_were_published() {
+    let folder = Folder::new("others");
+    fs::remove_file(folder.0.join(".empty")).unwrap();
+    let (mut root, _) = root(&folder.0, true);
+    // (agents have numbers, and nothing was kept of who published them)
+    root.hears([0, 7]);
+    let why = root.change("a", Some(b"1")).unwrap_err().to_string();
+    assert!(why.contains("is a mount missing"), "{why}");
+    assert!(!folder.0.join("a").exists());
+    // one that ran
+    let settings = folder.0.join("settings");
+    fs::create_dir(&settings).unwrap();
+    let (mut root, now) = self::root(&settings, true);
+    root.change("a", Some(b"1")).unwrap();
+    root.change("b", Some(b"1")).unwrap();
+    all(&mut root);
+    let away = folder.0.join("away");
+    fs::rename(&settings, &away).unwrap();
+    fs::create_dir(&settings).unwrap();
+    root.tick(now + ROUND);
+    let why = root.change("a", Some(b"2")).unwrap_err().to_string();
+    assert!(why.contains("is a mount missing"), "{why}");
+    assert_eq!((settings.join("a").exists(), root.settings()), (false, 2));
+    fs::remove_dir_all(&settings).unwrap();
+    fs::rename(&away, &settings).unwrap();
+    root.tick(now + 2 * ROUND);
+    // (and where all of them are unset by name, the next one is a first one)
+    root.change("a", None).unwrap();
+    root.change("b", None).unwrap();
+    all(&mut root);
+    let (mut root, _) = begins_again(&config(&settings), root, now + 3 * ROUND, &[]);
+    root.hears([7]);
+    root.change("a", Some(b"1")).unwrap();
+    assert_eq!(all(&mut root), [vec![entry("a", Some("1"))]]);
+}
+
+/// What lies there for git, an editor or a command is no setting: what is beside it is not read.
+#[test]
+fn a_file_with_a_dot_in_front_has_that_setting_read_alone_which_it_becomes() {
+    let (folder, other) = (Folder::new("dots"), Folder::new("dots-other"));
+    put(&folder, &["a", "b"]);
+    fs::hard_link(folder.0.join("b"), other.0.join("b")).unwrap();
+    let (mut root, now) = root(&folder.0, true);
+    // (nobody is told what changes by its name in another folder)
+    fs::write(other.0.join("b"), "2").unwrap();
+    fs::write(folder.0.join(".a.swp"), "2").unwrap();
+    fs::rename(folder.0.join(".a.swp"), folder.0.join("a")).unwrap();
+    fs::create_dir(folder.0.join(".git")).unwrap();
+    root.notified(now);
+    root.tick(root.deadline());
+    assert_eq!(all(&mut root), [vec![entry("a", Some("2"))]]);
+    root.tick(now + ROUND);
+    assert_eq!(all(&mut root).last(), Some(&vec![entry("a", Some("2")), entry("b", Some("2"))]));
 }

@@ -79,14 +79,17 @@ fn a_transaction_that_is_not_done_fails() {
 #[test]
 fn what_a_store_answers_is_bounded_before_it_is_read() {
     type Case = (&'static [u8], Result<&'static [u8], &'static str>);
-    let cases: [Case; 9] = [
+    let cases: [Case; 11] = [
         (b"$3\r\na\r\n\r\n", Ok(b"a\r\n")),
         (b"$-1\r\n", Err("its answer is none to GETRANGE")),
         (b"-WRONGTYPE it is a list\r\n", Ok(b"")),
         (b"-ERR no\r\n", Err("ERR no")),
         (b"$2000000000\r\nxxxx", Err("its answer is too long")),
         (b"*400000000\r\n", Err("its answer is too long")),
-        (b"*1\r\n*1\r\n*1\r\n:1\r\n", Err("its answer is none of Redis")),
+        // (lists of many words are as long where bytes are due)
+        (b"*2\r\n+a\r\n+b\r\n", Err("its answer is too long")),
+        (b"*1\r\n*1\r\n*1\r\n:1\r\n", Err("its answer is too long")),
+        (b"+a\r\n", Err("its answer is none to GETRANGE")),
         (b"$-5\r\n", Err("its answer is too long")),
         (b"HTTP/1.1 400 Bad Request\r\n", Err("its answer is none of Redis")),
     ];
@@ -97,4 +100,23 @@ fn what_a_store_answers_is_bounded_before_it_is_read() {
     }
     let (got, _) = got(|socket| drop(socket.write_all(&[b'+'; 1 << 20])));
     assert_eq!(got, Err("its answer is none of Redis".into()));
+}
+
+/// As many words as there were sets, each of which may be a list, or a text, of any length.
+#[test]
+fn the_answers_in_a_list_are_bounded_too() {
+    for (list, expected) in [
+        ("*1\r\n*1\r\n+OK\r\n", "its answer is none of Redis"),
+        ("*1\r\n$1\r\nO\r\n", "its answer is too long"),
+        ("*2\r\n+OK\r\n+OK\r\n", "its answer is too long"),
+    ] {
+        let address = server(move |word, socket| match word {
+            "EXEC" => drop(socket.write_all(list.as_bytes())),
+            _ => drop(socket.write_all(b"+OK\r\n")),
+        });
+        let mut store = Redis::new(&address, "p", "a", Login::default(), TIMEOUT);
+        let sets = vec![("a:b:up".to_string(), b"1".to_vec())];
+        let got = store.turn(&Turn { sets, gets: vec![] });
+        assert_eq!(got.map_err(|why| why.to_string()), Err(expected.into()), "{list}");
+    }
 }

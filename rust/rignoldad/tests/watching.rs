@@ -1,7 +1,9 @@
 //! What is known of the agents below, and what is made of it.
 use rignoldactl::ask::{
-    bounds, depths, harmless_needed, lacks, progress, too_few_harmless, tree_text, Bounds,
+    bounds, depths, harmless_needed, lacks, lacks_of, progress, too_few_harmless, tree_text,
+    Bounds, CUT, NOT_HEARD,
 };
+use rignoldactl::probe::Probe;
 use rignoldactl::{ChildStatus, Compared, Seen, Status};
 use rignoldad::tree::{Below, REPORT_BYTES};
 use std::time::{Duration, Instant};
@@ -332,7 +334,7 @@ fn invented_agents_drive_nobody_out() {
     let name = |at| format!(r#",{{"name":"n{at}","parent":"liar","connected":true}}"#);
     let liar = |most| format!(r#"[{{"name":"liar"}}{}]"#, (0..most).map(name).collect::<String>());
     // (there is more than a report may have; and then more than goes into one when it is passed on)
-    assert!(!rack.heard("liar", liar(10_000).as_bytes(), now));
+    assert!(!rack.heard("liar", liar(10_000).as_bytes(), now - Duration::from_secs(1)));
     assert!(rack.heard("liar", liar(9_999).as_bytes(), now));
     let honest: Vec<String> = (0..500).map(|at| format!("z{at}")).collect();
     let mut zeta = vec![seen("zeta", "", true)];
@@ -399,19 +401,39 @@ fn what_was_said_before_it_connected_counts_for_nothing() {
     assert_eq!(lack(root.tree(&above, now + Duration::from_secs(2))), [None, None, None]);
 }
 
+/// Many take a while to read, and so often they are not sent; but of what comes, the last one
+/// counts in the end.
 #[test]
-fn what_comes_too_soon_is_left_out() {
+fn of_what_comes_too_soon_the_last_is_read_when_its_time_has_come() {
     let (now, mut root) = (Instant::now(), Below::default());
+    let after = |millis| now + Duration::from_millis(millis);
     let mut list: Vec<Seen> = (0..1_000).map(|at| seen(&format!("n{at}"), "a", true)).collect();
     list.insert(0, seen("a", "", true));
-    assert!(root.heard("a", &serde_json::to_vec(&list).unwrap(), now));
-    list.truncate(3);
-    // (many take a while to read, and so often they are not sent)
-    for (after, count) in [(0, 1_002), (50, 1_002), (100, 4)] {
-        let now = now + Duration::from_millis(after);
-        assert!(root.heard("a", &serde_json::to_vec(&list).unwrap(), now));
-        assert_eq!(root.tree(&status("root", &["a"]), now).len(), count);
+    let bytes = rignoldactl::report(&list);
+    assert!(root.heard("a", &bytes, now));
+    assert_eq!((root.reads_at(now), root.reads(now)), (None, vec![]));
+    let known = |root: &Below| root.tree(&status("root", &["a"]), after(1_000)).len();
+    for (at, count) in [(0, 9), (50, 4), (50, 3)] {
+        list.truncate(count);
+        assert!(root.heard("a", &rignoldactl::report(&list), after(at)));
+        assert_eq!((known(&root), root.reads(after(at))), (1_002, vec![]));
     }
+    assert!(!root.heard("a", &vec![b' '; REPORT_BYTES + 1], after(50)), "this waits for nothing");
+    assert!(root.heard("a", &rignoldactl::report(&list), after(51)));
+    let at = root.reads_at(after(51)).unwrap();
+    assert!(at > after(51) && at < after(500), "{:?}", at - now);
+    assert_eq!((root.reads(at), known(&root)), (vec!["a".to_string()], 4));
+    assert_eq!((root.reads(at), root.reads_at(at)), (vec![], None));
+    // (it is of when it came, and not of when it was read)
+    let ages = root.tree(&status("root", &["a"]), after(1_051));
+    assert_eq!(ages[1].age, 1_000);
+    // (and what is no list is none then)
+    let bytes = vec![b'x'; REPORT_BYTES];
+    assert!(!root.heard("a", &bytes, after(1_100)) && root.heard("a", &bytes, after(1_101)));
+    let at = root.reads_at(after(1_101)).unwrap();
+    assert_eq!((root.reads(at), root.reads_at(at), known(&root)), (vec![], None, 4));
+    root.forget("a");
+    assert_eq!(known(&root), 2);
 }
 
 #[test]
@@ -424,6 +446,9 @@ fn what_is_harmless_is_no_lag() {
     assert_eq!(lags, ["1", "1", "1", "2", "-"], "{text}");
     list[0].changed = 4;
     assert!(tree_text(&list).lines().nth(2).unwrap().contains(" 0 "));
+    // (where numbers jumped, as from one root to another, that is no count of bodies)
+    list[0].changed = 10_000_004_389_708;
+    assert!(tree_text(&list).lines().nth(2).unwrap().contains(" many "));
 }
 
 /// What is said of a version is three numbers, and a certificate is said while it ends soon.
@@ -460,4 +485,87 @@ fn progress_is_a_short_line() {
     assert_eq!(progress(300, &lacking(30)), line);
     let long = ["x".repeat(200), "y".repeat(200)];
     assert!(progress(2, &long).len() <= 79 && progress(2, &long).ends_with(", and 1 more"));
+}
+
+/// Who has said nothing since its parent began may be of any group.
+#[test]
+fn who_may_be_of_a_group_is_waited_for() {
+    let said = Seen { limit: 10, ..seen("a", "", true) };
+    let of = |groups: &[&str], more: Seen| {
+        lacks_of(
+            &Seen { groups: groups.iter().map(|it| it.to_string()).collect(), ..more },
+            "eu",
+            5,
+        )
+    };
+    assert_eq!(of(&["eu"], said.clone()), None);
+    assert_eq!(of(&["eu"], Seen { applied: 4, ..said.clone() }), Some("has not applied it"));
+    assert_eq!(of(&["us"], Seen { applied: 4, ..said.clone() }), None);
+    assert_eq!(of(&["us"], Seen { cut: true, ..said }), Some(CUT));
+    for connected in [true, false] {
+        assert_eq!(of(&[], Seen { connected, ..Seen::default() }), Some(NOT_HEARD));
+    }
+}
+
+#[test]
+fn who_is_gone_for_good_is_left_out_until_it_is_back() {
+    let (now, mut root) = (Instant::now(), Below::default());
+    let list = [seen("a", "", true), seen("b", "a", false), seen("c", "b", false)];
+    assert!(root.heard("a", &rignoldactl::report(&list), now));
+    let names = |root: &Below| -> Vec<String> {
+        root.tree(&status("root", &["a"]), now).into_iter().map(|it| it.name).collect()
+    };
+    root.leave_out("b");
+    assert_eq!(names(&root), ["root", "a"]);
+    // (nobody is left out who is connected)
+    root.leave_out("a");
+    root.are_back(&status("root", &["a"]), now);
+    assert_eq!(names(&root), ["root", "a"]);
+    let later = now + Duration::from_secs(1);
+    let list = [seen("a", "", true), seen("b", "a", true), seen("c", "b", false)];
+    assert!(root.heard("a", &rignoldactl::report(&list), later));
+    assert_eq!(names(&root), ["root", "a", "b", "c"]);
+    root.are_back(&status("root", &["a"]), later);
+    let list = [seen("a", "", true), seen("b", "a", false)];
+    assert!(root.heard("a", &rignoldactl::report(&list), later + Duration::from_secs(1)));
+    assert_eq!(names(&root), ["root", "a", "b"]);
+}
+
+#[test]
+fn a_probe_says_what_an_agent_is_not() {
+    let all = Probe { connected: true, within: Some(Duration::from_secs(9)), sound: true };
+    let well = || Status { parent: Some("a".into()), round_age: 9_000, ..status("b", &[]) };
+    let says = |status: Status| all.fails(&status).unwrap_or_default();
+    assert_eq!(says(well()), "");
+    assert_eq!(says(Status { parent: None, ..well() }), "it has no parent");
+    assert_eq!(says(Status { cost: 128, ..well() }), "its way has no root");
+    assert_eq!(says(Status { whole: false, ..well() }), "it waits for a whole table");
+    assert_eq!(says(Status { round_age: 9_001, ..well() }), "its last whole table came 9.0 s ago");
+    assert!(says(Status { failing: 1, ..well() }).starts_with("1 settings have a file or a hook"));
+    assert!(says(Status { unpublished: 1, ..well() }).contains("cannot be published"));
+    let root = || Status { is_root: true, parent: None, whole: false, ..well() };
+    assert_eq!(says(root()), "");
+    // (each is asked for by itself)
+    let bad = Status { failing: 1, cost: 128, whole: false, ..well() };
+    assert_eq!(Probe::default().fails(&bad), None);
+    assert!(Probe { sound: true, ..Probe::default() }.fails(&bad).unwrap().contains("a hook"));
+}
+
+/// What an agent says of what fails there takes one line, and no more of it than a report has.
+#[test]
+fn why_something_fails_stays_on_its_line() {
+    let (now, mut root) = (Instant::now(), Below::default());
+    let why = format!("colour: its file: a\nb\u{1b}[2J {}", "x".repeat(5_000));
+    let list = [Seen { failing: 2, why, limit: 9, ..seen("a", "", true) }];
+    assert!(root.heard("a", &rignoldactl::report(&list), now));
+    let list = root.tree(&status("root", &["a"]), now);
+    let text = tree_text(&list);
+    assert_eq!(text.lines().count(), 3, "{text}");
+    assert!(text.contains("2 failing, colour: its file: a\\nb\\u001b[2J xxx"), "{text}");
+    assert_eq!(list[1].why.chars().count(), rignoldactl::WHY);
+    let failures = vec!["y".repeat(500), "z".into()];
+    let status = Status { failing: 2, failures, faults: vec!["a\nb".into()], ..status("a", &[]) };
+    assert_eq!(status.seen().why, "y".repeat(rignoldactl::WHY));
+    let text = rignoldactl::ask::status_text(&status);
+    assert!(text.contains("not published  a\\nb\n"), "{text}");
 }

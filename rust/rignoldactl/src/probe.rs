@@ -1,0 +1,51 @@
+//! What a probe asks of an agent: whether it is well.
+use crate::ask::age;
+use crate::{milliseconds, Standby, Status};
+use std::time::Duration;
+
+/// What an agent has to be.
+#[derive(Clone, Debug, Default, clap::Args)]
+pub struct Probe {
+    /// It is the root, or has a parent and a way from a root.
+    #[arg(long)]
+    pub connected: bool,
+    /// It has all, as far as it knows, and the last whole table came within this time.
+    #[arg(long, value_name = "TIME", value_parser = time)]
+    pub within: Option<Duration>,
+    /// No file and no hook failed last, and all of the root's folder can be published.
+    #[arg(long)]
+    pub sound: bool,
+}
+
+fn time(text: &str) -> Result<Duration, String> {
+    let error = || "a time is expected, as 500ms, 2s or 10m".to_string();
+    milliseconds(text).map(Duration::from_millis).ok_or_else(error)
+}
+
+impl Probe {
+    /// What the agent is not that it has to be, if there is something.
+    pub fn fails(&self, status: &Status) -> Option<String> {
+        let is_late = |most: Duration| u128::from(status.round_age) > most.as_millis();
+        let within = self.within.filter(|_| !status.is_root);
+        match () {
+            () if self.connected && status.standby == Standby::Looks => {
+                Some("it looks for another root".into())
+            }
+            () if self.connected && !status.is_root && status.parent.is_none() => {
+                Some("it has no parent".into())
+            }
+            () if self.connected && status.is_rootless() => Some("its way has no root".into()),
+            () if within.is_some() && !status.whole => Some("it waits for a whole table".into()),
+            () if within.is_some_and(is_late) => {
+                Some(format!("its last whole table came {} ago", age(status.round_age)))
+            }
+            () if self.sound && status.failing > 0 => {
+                Some(format!("{} settings have a file or a hook that failed", status.failing))
+            }
+            () if self.sound && status.unpublished > 0 => {
+                Some(format!("{} in its folder cannot be published", status.unpublished))
+            }
+            () => None,
+        }
+    }
+}
