@@ -142,11 +142,13 @@ static uint64_t backlog(void) {
     return longest;
 }
 
-/* Forgets what each child was offered: the item that it has to acknowledge is in its sender. */
+/* Forgets what each child was offered: the item that it has to acknowledge is in its sender. One
+ * that is left behind holds no other up. */
 static void forget(void) {
     uint64_t place = node.length;
     for (unsigned i = 0; i < count_of_children; i++)
-        place = rignolda_child_needs(&node, &children[i].link, place);
+        if (!rignolda_node_left_behind(&node, &children[i].link, PLACES))
+            place = rignolda_child_needs(&node, &children[i].link, place);
     rignolda_node_forget(&node, place);
 }
 

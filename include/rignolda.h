@@ -321,18 +321,23 @@ RIGNOLDA_CALL bool rignolda_child_on_ack(rignolda_child *child, const rignolda_p
  *
  *     uint64_t place = node.length;
  *     for (each child)
- *         place = rignolda_child_needs(&node, child, place);
+ *         if (!rignolda_node_left_behind(&node, child, size))
+ *             place = rignolda_child_needs(&node, child, place);
  *     rignolda_node_forget(&node, place);
  *
- * A child that is left out holds nothing back. So leave out one that takes nothing, and its
- * siblings go on: once the item that it would be offered next is forgotten, it is left behind.
- * Before that it can still come back as it is. Neither the laws nor the list change: they speak of
+ * A child that is left behind is left out, since it may be at an item that the buffer has no more,
+ * as after an opening that was longer than the buffer, or in a struct whose bits changed: no call
+ * gives it that item, and asked for its place it would have the node keep all, take nothing more,
+ * and so hold up its siblings. A child that is left out holds nothing back. So leave out one that
+ * takes nothing, too, and its siblings go on: once the item that it would be offered next is
+ * forgotten, it is left behind. Before that it can still come back as it is. Neither the laws nor the list change: they speak of
  * the whole list.
  */
 
 /*
  * The place from which on the child needs the list, if that is before this place; else this place.
- * A child that would be offered next what the node has forgotten needs nothing. Nothing changes.
+ * A child that would be offered next what the node has forgotten needs nothing. This call is not
+ * told the size of the buffer: of a child that is left behind do not ask it. Nothing changes.
  */
 RIGNOLDA_CALL uint64_t rignolda_child_needs(const rignolda_node *node, const rignolda_child *child,
                                             uint64_t place);

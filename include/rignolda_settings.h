@@ -23,14 +23,19 @@
  * Those of what an agent does with bodies, of the module laws:
  *   - nothing_older_is_applied: while its floor is that of its files, the number that they are from
  *     never falls.
- *   - what_waits_lacks_nothing, a_newer_table_makes_the_files_right: what is applied is the root's.
- *   - two_rounds_bring_the_roots_settings: from every bit pattern of a taker whose numbers are not
- *     newer than the root's.
+ *   - what_waits_lacks_nothing: what is applied together lacks nothing in between; an agent that
+ *     applied number 7 and takes number 9 next applies that.
+ *   - a_newer_table_makes_the_files_right: whatever they were.
+ *   - two_rounds_bring_the_roots_settings: from every bit pattern of a taker, if its numbers, and
+ *     those of strays and of all that came before the round, are behind the table's (less than half
+ *     of all numbers; at exactly half neither is behind), if every item reads as a body, and if the
+ *     round is after the items that can be missing.
  * Those of what a root publishes, of the module root_laws:
- *   - numbers_rise_by_one, a_round_ends, every_change_is_published: from every bit pattern of a
- *     publisher, unless it is held.
- *   - what_does_not_wait_is_told: a table that was told every body is the root's, beside each key
- *     that does not wait.
+ *   - numbers_rise_by_one: from every bit pattern of a publisher, while no agent says a newer
+ *     number; a_round_ends: unless tables are held, or a shorter round is asked for;
+ *     every_change_is_published: held or not, if a body has room for 4096 of them.
+ *   - what_does_not_wait_is_told: if a table was the root's at each key that does not wait, and is
+ *     told every body, it stays so.
  *   - merged_changes_tell_the_same: what waits tells a table the same as all bodies that came.
  */
 #ifndef RIGNOLDA_SETTINGS_H

@@ -68,7 +68,7 @@ static void at_last(uint32_t item) {
 
 static void forget(struct agent *it, bool is_last) {
     uint64_t place = it->node.length;
-    if (!is_last)
+    if (!is_last && !rignolda_node_left_behind(&it->node, &it->child, PLACES))
         place = rignolda_child_needs(&it->node, &it->child, place);
     rignolda_node_forget(&it->node, place);
 }

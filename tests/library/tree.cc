@@ -1,5 +1,6 @@
 // A root, an inner node and a leaf over lines that deliver each message at once, in C++: what is
-// published arrives in order, each item once, though each frame is delivered twice.
+// published arrives in order, each item once, though each frame is delivered twice. And a child at
+// an item that its node's buffer keeps no more holds no other one up.
 #include <rignolda.h>
 
 #include <cstdio>
@@ -32,11 +33,30 @@ void hand_on(Node &from, Node &to) {
     }
 }
 
+// The node's list began with four items, and its buffer has two: one child is at the first of these,
+// the other one at the end.
+bool siblings_go_on() {
+    rignolda_node node;
+    rignolda_child lost, other;
+    uint32_t list[2] = {3, 4};
+    rignolda_node_init(&node, 65535, 4);
+    rignolda_child_init(&lost, 0);
+    if (!rignolda_child_init_at(&other, &node, 2, 0, node.length)) return false;
+    uint64_t place = node.length;
+    for (const rignolda_child *child : {&lost, &other})
+        if (!rignolda_node_left_behind(&node, child, 2))
+            place = rignolda_child_needs(&node, child, place);
+    rignolda_node_forget(&node, place);
+    rignolda_frame frame = {9, 1, 0};
+    return rignolda_node_on_frame(&node, list, 2, &frame)
+        && rignolda_node_poll(&node, &other, list, 2, &frame) && frame.item == 9;
+}
+
 }  // namespace
 
 int main() {
     Node root(0, 0), inner(65535, 2), leaf(65535, 0);
-    if (rignolda_params_check(&params) != 0) return 1;
+    if (rignolda_params_check(&params) != 0 || !siblings_go_on()) return 1;
     for (uint32_t item = 7; item < 10; item++) {
         if (!rignolda_node_publish(&root.it, root.list.data(), root.list.size(), item)) return 1;
         hand_on(root, inner);
