@@ -104,7 +104,7 @@ def tries_tree(cases, room, before):
             tree.settles()
         for agent in tree:
             words = room / "arm64/rignoldactl", "--socket", agent.socket, "wait"
-            sure(subprocess.run(words, timeout=120).returncode == 0, "no answer of", agent.name)
+            sure(subprocess.run(words, timeout=1_200).returncode == 0, "no answer of", agent.name)
 
     cases.holds("arm64: seven daemons, three of them for arm64", run(settings_reach_all))
 

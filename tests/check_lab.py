@@ -164,7 +164,7 @@ SPOILED = [
 
 
 def judged(ends, *words, **more):
-    return ran(sys.executable, TOP / "lab/check_ends.py", ends, *words, timeout=400, **more)
+    return ran(sys.executable, TOP / "lab/check_ends.py", ends, *words, timeout=4_000, **more)
 
 
 # ---- a run, played again

@@ -144,7 +144,7 @@ def tried(file):
     cases += [({**JOB, **members}, text) for members, text in REFUSED]
     wanted += [(1, "", text) for _, text in REFUSED]
     with ThreadPoolExecutor(2) as pool:
-        judged = lambda case: answered(file, "judge", given=case[0], timeout=60)
+        judged = lambda case: answered(file, "judge", given=case[0], timeout=600)
         said = list(pool.map(judged, cases))
         said += [(status, "", "") for status, _, _ in pool.map(judged, runs)]
     wanted += [(0 if is_run else 1, "", "") for _, is_run in runs]

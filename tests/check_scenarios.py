@@ -109,7 +109,7 @@ def fault_of_count(file, draw, job):
     count, rest = divmod(1_000_000 - changes_of(job, job["steps"]), each)
     steps = [*[[kind, 65535]] * (count // 65535), [kind, count % 65535]]
     job = dict(job, steps=[*job["steps"], *steps, *[["publish", []]] * (rest + more)])
-    status, _, err = answered(file, "scenario", given=job, timeout=60)
+    status, _, err = answered(file, "scenario", given=job, timeout=600)
     wanted = (1, "rignolda: scenario: too many events\n") if more else (0, "")
     said = f"scenario says {err!r} with {more} more changes than the most, of {json.dumps(job)}"
     return None if (status, err) == wanted else said
@@ -128,7 +128,7 @@ def fault_of(file, seed):
             ("scenario", job, text_of(job)), ("draw", job, wanted),
             ("explain", job, "stab tree: accepted\n"), ("draw", link, link_text(link)),
             ("draw", schedule, schedule_text(schedule))]:
-        seen = answered(file, word, given=given, timeout=60)
+        seen = answered(file, word, given=given, timeout=600)
         if seen != (0, text, ""):
             return f"{word} prints {seen}, and not {text!r}, of {json.dumps(given)}"
     status, svg, _ = answered(file, "draw", "--svg", given=job)

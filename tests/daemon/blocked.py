@@ -8,7 +8,7 @@ import threading
 import time
 
 from daemons import PATIENCE, USUAL, Tree, becomes, during, of_tree, patient, took, until
-from protocol import Parent, body, hello
+from protocol import Parent, body
 from runner import sure, test
 
 # Calls of the system that do something else while there is a file that is named for them: most of
@@ -102,9 +102,7 @@ class Unread:
 
 @of_tree({"left": "root"}, patient, runs=False)
 def a_standard_error_that_nobody_reads_stops_nobody(tree, root, left):
-    """2,000 connections, of each of which two lines are said. Each line has a priority."""
-    name = "evil" + 56 * "x"
-    root.top["children"] = ["left", name]
+    """4,000 settings with long names, of each of which a line is said. Each line has a priority."""
     (root.truth / "no key").touch()
     unread = Unread(root)
     for is_away in True, False:
@@ -113,10 +111,10 @@ def a_standard_error_that_nobody_reads_stops_nobody(tree, root, left):
         if is_away:
             left.kill()
             sure(until(lambda: not root.status()["children"][0]["connected"]), "it is there")
-    for life in range(2_000):
-        with root.connect() as sock:
-            sock.sendall(hello(name, "root", life))
-            sure(len(sock.recv(4)) == 4, "no answer to connection", life)
+    for at in range(4_000):
+        (root.truth / f"{'k' * 100}{at}").touch()
+    applied = lambda: root.settings.exists() and len(list(root.settings.iterdir()))
+    sure(until(lambda: applied() >= 4_000), "they are not applied", applied())
     sure(answers(root), "it does not answer")
     (root.truth / "no key").unlink()
     tree.write("after", "that")
@@ -209,11 +207,11 @@ def an_agent_that_ends_while_it_is_waited_for_does_not_answer():
         server.bind(str(tree.root.socket))
         server.listen(1)
         wait = subprocess.Popen(tree.root.command("wait"), stderr=subprocess.PIPE)
-        client = server.accept()[0]
-        with client, client.makefile("rb") as lines:
-            lines.readline()
-            client.sendall(b'{"status": {"is_root": true}}\n')
-            lines.readline()
+        for answer in (b'{"status": {"is_root": true}}\n', b""):
+            client = server.accept()[0]
+            with client, client.makefile("rb") as lines:
+                lines.readline()
+                client.sendall(answer)
         said = wait.communicate(timeout=USUAL)[1]
         sure(wait.returncode == 3 and b"time is up" not in said, wait.returncode, said)
 

@@ -30,7 +30,7 @@ from runner import sure, test
 
 # (each of them tells its tests)
 for name in ("blocked", "floods", "groups", "hooks", "hostile", "memory_faults", "operating",
-             "parents", "roots", "rounds", "store", "watching"):
+             "packaging", "parents", "roots", "rounds", "store", "watching"):
     importlib.import_module(name)
 
 
@@ -407,6 +407,10 @@ def a_reload_that_is_not_taken_is_shown(tree, root):
     root.file.write_text(good.replace("metrics =", "#metrics ="))
     sure(not reload()[0])
     sure(until(lambda: shows("from a start alone: metrics")), root.status())
+    # a table that went, and is in use
+    root.file.write_text(re.sub(r"(?m)^\[apply\]\n(?:[^\[\n].*\n)*", "", good))
+    sure(not reload()[0] and until(lambda: shows("[apply] is gone")), root.status())
+    sure(root.status()["folder"] == str(root.settings), root.status())
     root.file.write_text(good)
     sure(not reload()[0] and until(lambda: shows("")), root.status())
 
@@ -427,6 +431,9 @@ def counts_are_there_for_prometheus(tree, root):
     sure(until(lambda: counts()[connected] == "0"), counts())
     answers = [root.page(*it)[0] for it in (["/metrics"], ["/other"], ["/metrics", "POST"])]
     sure(answers == [200, 404, 404], answers)
+    # (a page that a browser shows may ask by a name of its own)
+    elsewhere = root.page("/", headers={"Host": "evil.example"})
+    sure(elsewhere[0] == 421 and "left" not in elsewhere[2], elsewhere)
     # each name that an alarm uses, or the dashboard, is one that is counted
     texts = [(PACKAGING / file).read_text() for file in ("alarms.yml", "dashboard.json")]
     names = set(re.findall(r"rignolda_[a-z_]+", "".join(texts)))
@@ -478,7 +485,7 @@ def it_is_installed_packed_and_removed(tree):
 def manuals_and_completions_name_everything(tree):
     help_of = lambda name, *words: ran(tree.bin / name, *words, "-h")[1]
     commands = re.findall(r"^  ([a-z-]+) +", help_of("rignoldactl"), re.MULTILINE)
-    sure(len(commands) == 18, commands)
+    sure(len(commands) == 19, commands)
     pages = {name: (PACKAGING / name).read_text().replace("\\-", "-") for name in (
         "rignoldactl.1", "rignoldactl.bash", "_rignoldactl", "rignoldactl.fish", "rignoldad.8",
         "rignoldad.toml.5")}

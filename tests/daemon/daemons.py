@@ -253,8 +253,8 @@ class Agent:
         """What rignoldactl prints, as JSON; where it is refused, `error`."""
         run = functools.partial(self.run, "--json", *words, text=False, input=value or b"")
         done, end = run(), time.monotonic() + USUAL * PATIENCE
-        # (on a machine with much else to do it may get no answer in its ten seconds: EAGAIN)
-        while b"(os error 11)" in done.stderr and time.monotonic() < end:
+        # (on a machine with much else to do it may get no answer in its ten seconds)
+        while b"does not answer: not in time" in done.stderr and time.monotonic() < end:
             done = run()
         if check and done.returncode:
             raise RuntimeError(f"{self.name}: {' '.join(map(str, words))}: {done.stderr.decode()}")
@@ -276,10 +276,10 @@ class Agent:
                 return json.loads(said)["published"]
             yield publish
 
-    def page(self, path, method="GET"):
+    def page(self, path, method="GET", headers={}):
         """What is answered where its metrics are: the status, the headers, and the text."""
         link = http.client.HTTPConnection("127.0.0.1", self.metrics, timeout=USUAL * PATIENCE)
-        link.request(method, path)
+        link.request(method, path, headers=headers)
         with contextlib.closing(link), link.getresponse() as answer:
             return answer.status, answer.headers, answer.read().decode()
 
@@ -577,6 +577,14 @@ def tls(home, name):
     context.load_verify_locations(home / "ca.crt")
     context.load_cert_chain(home / f"{name}.crt", home / f"{name}.key")
     return context
+
+
+def used(agent, of=""):
+    """The seconds of a processor that a process used, or of it the loop alone."""
+    folder = pathlib.Path(f"/proc/{agent.process.pid}")
+    file = folder / f"task/{agent.process.pid}/stat" if of == "its loop" else folder / "stat"
+    fields = file.read_text().rpartition(")")[2].split()
+    return (int(fields[11]) + int(fields[12])) / os.sysconf("SC_CLK_TCK")
 
 
 # ---- Shapes

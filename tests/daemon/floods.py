@@ -3,8 +3,6 @@ import contextlib
 import ctypes
 import functools
 import multiprocessing
-import os
-import pathlib
 import resource
 import socket
 import ssl
@@ -12,7 +10,7 @@ import struct
 import time
 
 from daemons import (PATIENCE, USUAL, bounded, by_tls, certify, during, of_tree, openssl, patient,
-                     tls, until)
+                     tls, until, used)
 from protocol import hello
 from runner import sure
 
@@ -25,6 +23,9 @@ WAITING = 16
 # By whose certificate each flood is.
 KINDS = {"keys": "stranger", "keys of a child": "evil", "records of a byte": "evil",
          "sessions": "stranger", "chains": "many"}
+# A prime one less than which is divisible by 2 to the power of 300: a square root modulo it costs a
+# fifth of a second.
+PRIME = ((1 << 360) + 347 << 300) + 1
 # How long a flood goes on where nobody ends it.
 LONG = USUAL * PATIENCE * 4
 OPENSSL = ctypes.CDLL("libssl.so.3")
@@ -44,10 +45,58 @@ def first_hello(group):
     return sent.read()
 
 
+def der(tag, *parts):
+    """A value of DER, of at most 255 bytes or some more."""
+    inside = b"".join(parts)
+    size = len(inside)
+    length = bytes([size]) if size < 128 else b"\x82" + struct.pack(">H", size)
+    return bytes([tag]) + length + inside
+
+
+def hard_certificate():
+    """A certificate that nobody signed, whose key is a compressed point on a curve of its own."""
+    curves, name = b"\x2a\x86\x48\xce\x3d", der(0x30, der(0x31, der(0x30, der(
+        6, b"\x55\x04\x03"), der(12, b"x"))))
+    point, prime, one = b"\2" + bytes(83), der(2, PRIME.to_bytes(83, "big")), der(2, b"\1")
+    curve = der(0x30, one, der(0x30, der(6, curves, b"\1\1"), prime),
+                der(0x30, der(4, b"\1"), der(4, b"\x31")), der(4, point), der(2, b"\7"))
+    key = der(0x30, der(0x30, der(6, curves, b"\2\1"), curve), der(3, b"\0", point))
+    signs = der(0x30, der(6, curves, b"\4\3\2"))
+    times = der(0x30, der(0x17, b"250101000000Z"), der(0x17, b"450101000000Z"))
+    return der(0x30, der(0x30, one, signs, name, times, name, key), signs,
+               der(3, b"\0", der(0x30, one, one)))
+
+
+def hard(port, count=4):
+    """Clients from an address each that send certificates which are hard to read."""
+    record = lambda kind, inside: b"\x16\3\3" + struct.pack(
+        ">HBBH", len(inside) + 4, kind, 0, len(inside)) + inside
+    extension = lambda kind, inside: struct.pack(">HH", kind, len(inside)) + inside
+    more = b"".join([extension(10, b"\0\4\0\x1d\0\x17"), extension(11, b"\1\0"),
+                     extension(13, b"\0\4\4\3\x08\4"), extension(0xff01, b"\0")])
+    first = b"\3\3" + bytes(33) + b"\0\4\xc0\x2b\xc0\x2f\1\0" + struct.pack(">H", len(more))
+    one = hard_certificate()
+    chain = (b"\0" + struct.pack(">H", len(one)) + one) * 3
+    socks = []
+    for at in during(LONG):
+        with contextlib.suppress(OSError):
+            sock = socket.socket()
+            sock.settimeout(1)
+            sock.bind((f"127.8.0.{at % count + 1}", 0))
+            sock.connect(("127.0.0.1", port))
+            sock.sendall(record(1, first + more))
+            seen = b""
+            while not seen.endswith(b"\x0e\0\0\0"):
+                seen += sock.recv(1 << 14) or b"\x0e\0\0\0"
+            sock.sendall(record(11, b"\0" + struct.pack(">H", len(chain)) + chain))
+            socks = [*socks, sock][-50:]
+        time.sleep(0.1)
+
+
 def flood(kind, port, home):
     """Makes connections to an agent, each of which does one thing as often as it may."""
-    if kind == "slow":
-        return slow(port)
+    if kind in ("slow", "silent", "hard"):
+        return {"slow": slow, "silent": silent, "hard": hard}[kind](port)
     context = tls(home, KINDS[kind])
     if kind == "sessions":
         context.maximum_version = ssl.TLSVersion.TLSv1_2
@@ -112,6 +161,18 @@ def slow(port, addresses=1_000):
         time.sleep(0.2)
 
 
+def silent(port):
+    """Connections of one address without a byte, as many as there is time for."""
+    socks = []
+    for _ in during(LONG):
+        sock = socket.socket()
+        sock.setblocking(False)
+        sock.bind(("127.8.0.1", 0))
+        sock.connect_ex(("127.0.0.1", port))
+        socks = [*socks, sock][-300:]
+        time.sleep(0.001)
+
+
 @contextlib.contextmanager
 def flooding(kind, tree):
     """Asserts that a process of its own floods the root as long as the block goes on."""
@@ -153,16 +214,10 @@ def secure(tree):
         agent.env = {}
 
 
-def used(agent):
-    """The seconds of a processor that a process used."""
-    fields = pathlib.Path(f"/proc/{agent.process.pid}/stat").read_text().rpartition(")")[2].split()
-    return (int(fields[11]) + int(fields[12])) / os.sysconf("SC_CLK_TCK")
-
-
 @of_tree({"left": "root", "right": "root"}, secure, begins=True)
 def floods_hold_nobody_up(tree):
     """Changes reach an honest child, and another one gets in that begins anew."""
-    for kind in ("keys", "keys of a child", "records of a byte", "sessions", "slow"):
+    for kind in ("keys", "keys of a child", "records of a byte", "sessions", "slow", "silent"):
         with flooding(kind, tree), flooding(kind, tree):
             time.sleep(0.5)
             for _ in range(5):
@@ -171,6 +226,21 @@ def floods_hold_nobody_up(tree):
             sure(until(tree["right"].up, pause=0.1), kind, "who begins anew does not get in")
             tree.reaches("left", "right")
         tree.settles()
+
+
+@of_tree({"left": "root", "right": "root"}, secure, begins=True)
+def what_an_unknown_one_sends_costs_the_loop_nothing(tree):
+    """Certificates that are hard to read are read by other threads, and hold nobody up."""
+    ways = "", "its loop"
+    before = [used(tree.root, of) for of in ways]
+    spent = lambda: [used(tree.root, of) - was for of, was in zip(ways, before)]
+    with flooding("hard", tree):
+        sure(until(lambda: spent()[0] > 1), "it costs nothing at all")
+        tree.reaches("left", "right")
+        tree["right"].restart()
+        sure(until(tree["right"].up, pause=0.1), "who begins anew does not get in")
+        whole, loop = spent()
+        sure(loop < whole / 4, "the loop used", loop, "of", whole)
 
 
 @of_tree({"left": "root"}, secure)

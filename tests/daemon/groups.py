@@ -40,8 +40,11 @@ def a_group_has_its_own_value_until_it_is_that_of_all(tree, root, left, leaf, ri
     here(tree, "publish", "colour@eu", "white")
     # that of the group which an agent names first
     now = {"root": "green", "left": "blue", "leaf": "green", "right": "white"}
-    all = {name: (digest("colour", value.encode()), "") for name, value in now.items()}
-    sure(holders(tree, "colour") == all, holders(tree, "colour"))
+    said = {name: label for name, (label, note) in holders(tree, "colour").items() if not note}
+    # (of a value that the root has not in its own files there is a label)
+    sure(said["root"] == said["leaf"] == digest("colour", b"green"), said)
+    sure(len({*said.values()}) == 3 and not {*said.values()} & {
+        digest("colour", value.encode()) for value in ("blue", "white")}, said)
     groups = {it["name"]: it["groups"] for it in root.ask("tree")}
     sure(groups == OF, groups)
     lines = [line.split() for line in root.run("tree").stdout.splitlines()]

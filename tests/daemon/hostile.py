@@ -16,8 +16,8 @@ import struct
 import time
 
 import store
-from daemons import (PATIENCE, Tree, becomes, bounded, by_tls, certify, during, meanwhile,
-                     memory, of_tree, patient, took, until)
+from daemons import (PATIENCE, Tree, becomes, bounded, by_tls, certify, counted, during, meanwhile,
+                     memory, of_tree, patient, took, until, used)
 from protocol import (Child, Parent, body, closed, entry, exactly, frame, hello, listener, look,
                       report, take_hello, the_root_comes, way)
 from runner import sure, test
@@ -348,6 +348,43 @@ def odd_things_in_the_roots_folder_hold_nobody_up(tree):
             tree.reaches("left")
 
 
+@of_tree({"left": "root", "evil": "root"}, patient, counted, without=["evil"])
+def whoever_watches_a_large_tree_costs_little(tree, root):
+    """Answers that take long are given again: a child invents as many agents as it may."""
+    child = Child(root, "evil")
+    child.send(report([{"name": "evil", "connected": True}]
+                      + [{"name": f"n{at}", "parent": "evil"} for at in range(9_990)]))
+    sure(until(lambda: len(root.ask("tree")) > 9_990), "they are not known")
+    for path in "/", "/metrics":
+        before = used(root)
+        root.page(path)
+        one = used(root) - before
+        for _ in range(100):
+            root.page(path)
+        spent = used(root) - before
+        sure(spent < 20 * max(one, 0.02), "101 of", path, "cost", spent, "s, and one", one)
+    tree.reaches("left")
+    child.close()
+
+
+def untraced(tree):
+    """As agents are that are not tried."""
+    for agent in tree:
+        agent.env = {}
+
+
+@of_tree({"left": "root", "evil": "root"}, patient, untraced, without=["evil"])
+def a_child_that_connects_without_end_fills_no_journal(tree, root):
+    for _ in range(200):
+        child = Child(root, "evil")
+        child.close()
+    sure(until(lambda: not root.status()["children"][0]["connected"]), "it is connected still")
+    # (each has a line as it comes and goes: of all but a few it is said how many they were)
+    for fact in "connected", "closed":
+        sure(1 <= root.said(f"{fact} evil") < 60, fact, root.said(f"{fact} evil"))
+    tree.reaches("left")
+
+
 # ---- Certificates
 
 @test
@@ -376,6 +413,20 @@ def link_ended(seconds):
         old.reload()
         tree.settles()
         return True
+
+
+@of_tree({"left": "root"}, by_tls)
+def a_link_ends_with_its_authority(tree, root, left):
+    connected = lambda: root.status()["children"][0]["connected"]
+    own = root.tables["tls"]
+    root.tables["tls"] = {**own, "authority": certify(tree.home / "new", "other")["authority"]}
+    root.reload()
+    sure(until(lambda: not connected()), "the link goes on")
+    root.says("closed left: its certificate is of another authority")
+    root.says("refused")
+    root.tables["tls"] = own
+    root.reload()
+    tree.reaches("left")
 
 
 # ---- Stores

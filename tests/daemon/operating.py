@@ -1,10 +1,12 @@
 """What an operator asks, and is told: who has what, what waits, and who is missing."""
 import contextlib
 import hashlib
+import json
 import os
 import pty
 import re
 import shutil
+import signal
 import subprocess
 import time
 
@@ -23,6 +25,147 @@ def holders(tree, key):
     """Who has what of a key, as the root says it."""
     return {it["agent"]: (it["digest"], it["note"])
             for it in tree.root.ask("get", key, "--everywhere")}
+
+
+def canaries(tree):
+    for name in ("one", "two"):
+        tree[name].top["groups"] = ["canary"]
+
+
+@of_tree({"left": "root", "one": "left", "two": "left"}, canaries)
+def who_has_not_said_its_groups_is_waited_for_until_it_is_forgotten(tree, root, left, one, two):
+    """An agent is gone, and its parent began anew since, so nobody knows what it was."""
+    two.kill()
+    left.restart()
+    tree.is_well(root, left, one)
+    number = root.ask("publish", "colour@canary", "blue")["sequence"]
+    why = root.lacks("--group", "canary", number, seconds=2)
+    sure("two has not said yet of which groups it is" in why, why)
+    sure("one" not in why, why)
+    root.refuses("no agent `three` is known", "forget", "three")
+    root.refuses("`one` is connected", "forget", "one")
+    # an operator says so, at the root, and also after a reload
+    sure("two is not connected" in root.lacks("--everywhere", number))
+    root.ask("forget", "two")
+    for _ in range(2):
+        sure(not root.lacks("--group", "canary", number, seconds=30))
+        sure(not root.lacks("--everywhere", number, seconds=30))
+        sure("two" not in root.run("tree").stdout and "two" in left.run("tree").stdout)
+        root.becomes(away=0)
+        root.reload()
+    # it is one of the tree again when it is back, and when it is away after that
+    two.start()
+    becomes(lambda: [it["connected"] for it in root.ask("tree") if it["name"] == "two"], [True])
+    time.sleep(2.5)
+    two.kill()
+    sure(until(lambda: "two is not connected" in root.lacks("--everywhere")), root.ask("tree"))
+
+
+@of_tree({"left": "root", "leaf": "left"}, root_has(round="1h"))
+def files_are_right_when_it_was_waited_for_now(tree, root, left, leaf):
+    tree.publish("colour", "blue")
+    for turn in range(10):
+        agent = (leaf, left, root)[turn % 3]
+        (agent.settings / "colour").write_text(f"drifted {turn}")
+        done = root.run("wait", "--everywhere", "--now", "--timeout", "60s")
+        sure(done.returncode == 0 and not tree.wrong(), turn, agent.name, done, tree.wrong())
+    # by the number of a round too, and where somebody else's are looked at
+    (leaf.settings / "colour").write_text("drifted")
+    tree.wait(root.ask("round")["sequence"])
+    sure(not tree.wrong(), tree.wrong())
+    leaf.refuses("not the root", "wait", "--now")
+    root.ask("drain")
+    root.refuses("draining", "round")
+
+
+@of_tree({"left": "root", "leaf": "left"})
+def what_cannot_be_is_said_so(tree, root, left, leaf):
+    last = root.status()["sequence"]
+    root.refuses("is no number of a change: the last is", "wait", 2**64 - 1)
+    root.refuses("a sequence number is expected", "wait", "-5", status=2)
+    sure("this agent does not know" in root.request(do="dance").get("refused", ""),
+         root.request(do="dance"))
+    sure(last, root.status())
+    # who is away has nothing to be drained
+    leaf.kill()
+    becomes(lambda: [it["connected"] for it in root.ask("tree")], [True, True, False])
+    done = root.run("drain", "--timeout", "60s")
+    sure(done.returncode == 0 and "not connected: leaf" in done.stderr, done)
+    root.ask("resume")
+    # and where that does not end, it is not left draining
+    left.signal(signal.SIGSTOP)
+    root.request(do="publish", key="colour", value="00")
+    done = root.run("drain", "--timeout", "1s")
+    sure(done.returncode == 0 or "it publishes again" in done.stderr, done)
+    sure(done.returncode == 0 or not root.status()["draining"], root.status())
+    left.signal(signal.SIGCONT)
+    root.kill()
+    root.refuses(f"no agent runs with its socket at {root.socket}: --socket", "status", status=3)
+
+
+@of_tree({"left": "root", "leaf": "left"}, root_has(round="1h"), runs=False)
+def what_fails_is_named_with_its_why(tree, root, left, leaf):
+    """At the agent, and to whoever asks at the root; and what was done is in the root's journal."""
+    leaf.hook('[ "$1 $2" != "set colour" ] || exit 3')
+    tree.start()
+    tree.is_well()
+    root.ask("publish", "colour", "blue")
+    leaf.becomes(failing=1)
+    says = leaf.run("status").stdout
+    sure(re.search("(?m)^fails +colour: its hook: .*3", says), says)
+    shows = lambda: [line for line in root.run("tree").stdout.splitlines() if "leaf " in line]
+    sure(until(lambda: "1 failing, colour: its hook: " in shows()[0]), shows())
+    root.says(f"asked publish colour of 4 bytes, by uid {os.getuid()}")
+    root.ask("unset", "colour")
+    root.request(do="drain")
+    root.says("asked unset colour, by uid", "asked drain")
+    # (whatever a program says of who it is)
+    root.request(do="resume", by="uid 4242")
+    root.says(f"asked resume, by uid {os.getuid()} (it says: uid 4242)")
+    leaf.becomes(failing=0)
+    sure("fails" not in leaf.run("status").stdout, leaf.run("status"))
+
+
+@of_tree({"left": "root"}, runs=False)
+def a_probe_is_told_by_its_status_what_is_wrong(tree, root, left):
+    left.start()
+    sure(until(left.status), left.text())
+    ends = lambda *words: left.run("status", *words).returncode
+    sure([ends(), ends("--connected"), ends("--within", "1h")] == [0, 4, 4], left.run("status"))
+    # (a parent that refuses it only closes the connection)
+    root.top["children"] = ["other"]
+    root.start()
+    why = "closed it: why, its `status` and journal say, as where this is no child there"
+    sure(until(lambda: why in left.run("status").stdout), left.run("status"))
+    root.top["children"] = ["left"]
+    root.restart()
+    tree.is_well()
+    sure(ends("--connected", "--within", "1h", "--sound") == 0, left.run("status", "--sound"))
+    done = left.run("status", "--within", "0ms")
+    sure("its last whole table came" in done.stderr and "name " in done.stdout, done)
+    root.kill()
+    sure(until(lambda: ends("--connected") == 4), left.run("status", "--connected"))
+
+
+@of_tree({}, root_has(round="1h"))
+def more_clients_than_there_is_room_for_are_all_served(tree, root):
+    """What each of them asks for is made, and told; nobody is driven out by another one."""
+    number = root.status()["sequence"]
+    later = [subprocess.Popen(root.command("wait", "--timeout", "60s", number + 60))
+             for _ in range(30)]
+    all = [subprocess.Popen(root.command("publish", f"key{at}", at), stdout=subprocess.PIPE,
+                            stderr=subprocess.PIPE) for at in range(60)]
+    said = [(it.communicate(), it.returncode) for it in all]
+    sure({status for _, status in said} == {0}, said)
+    root.ask("publish", "last", "1")
+    while root.status()["sequence"] < number + 60:
+        root.ask("publish", "last", "1")
+    sure({it.wait() for it in later} == {0}, "a wait was driven out")
+    sure(all_of(root) >= {f"key{at}" for at in range(60)}, all_of(root))
+
+
+def all_of(agent):
+    return {path.name for path in agent.truth.iterdir()}
 
 
 @of_tree({"left": "root", "leaf": "left", "relay": "left", "new": "relay"}, patient,
@@ -65,13 +208,20 @@ def who_has_what_is_shown(tree, root, left, leaf, relay):
     # one that was away for a change has the value of before
     leaf.kill()
     root.ask("wait", root.ask("publish", "raw", "new")["sequence"])
-    all.update(root=(later, ""), left=(later, ""), leaf=(now, "older, away"))
+    all.update(root=(later, ""), left=(later, ""))
+    becomes(lambda: of_raw()["leaf"][1], "older, away")
+    # (what nobody can read here has a label, which tells no value that can be guessed)
+    label = of_raw()["leaf"][0]
+    all.update(leaf=(label, "older, away"))
     becomes(of_raw, all)
+    sure(len(label) == 16 and label not in (now, later), label)
     text = [line.split() for line in root.run("get", "raw", "--everywhere").stdout.splitlines()]
-    sure(["leaf", now, "older,", "away"] in text, text)
+    sure(["leaf", label, "older,", "away"] in text, text)
+    told = json.dumps([root.request(do=it, key="raw") for it in ("key", "tree", "status")])
+    sure(label in told and now not in told and later not in told, told)
     # (of two changes ago nothing is known, nor after it was unset and set again)
     root.ask("wait", root.ask("publish", "raw", "newer")["sequence"])
-    becomes(lambda: of_raw()["leaf"], ("", "not known: an older one, away"))
+    becomes(lambda: of_raw()["leaf"], ("", "not known: it has older files, away"))
     leaf.start()
     becomes(lambda: of_raw()["leaf"], (digest("raw", b"newer"), ""))
     root.ask("unset", "raw")
@@ -126,7 +276,12 @@ def mount(tree, files):
     tree.mount(new, old, lambda: (old / "key7").unlink(missing_ok=True))
 
 
-@of_tree({"left": "root", "leaf": "left"}, counted, root_has(round="500ms"))
+def has_state(tree):
+    """The root has a folder of its own, as systemd gives one."""
+    tree.root.env["STATE_DIRECTORY"] = str(tree.home)
+
+
+@of_tree({"left": "root", "leaf": "left"}, counted, root_has(round="500ms"), has_state)
 def a_half_mounted_folder_empties_nobody(tree, root, left, leaf):
     whole = tree.truth()
     half = {key: whole[key] for key in ("key0", "key1", "key2")}
@@ -143,26 +298,42 @@ def a_half_mounted_folder_empties_nobody(tree, root, left, leaf):
     sure(why in root.run("wait", "--everywhere").stderr, root.run("wait", "--everywhere"))
     sure(why in root.run("status").stdout, root.run("status").stdout)
     sure("\nrignolda_held 5\n" in root.counts(), root.counts())
-    for words in (["publish", "key0", "new"], ["unset", "key0"]):
-        root.refuses("is held", *words)
     left.refuses("not the root", "diff")
+    # rounds go on with what was published, also for who lost all of it
+    shutil.rmtree(left.settings)
+    (leaf.settings / "key5").write_text("drifted")
+    leaf.restart()
+    sure(until(lambda: not tree.wrong(None, whole)), tree.wrong(None, whole))
+    # what somebody names goes out at once, and all else is held still
+    for words, held in ((["publish", "key0", "new"], 5), (["unset", "key7"], 4)):
+        sure(root.run(*words).stdout.strip().isdigit(), words)
+        root.becomes(held=held)
+    root.refuses("`nokey` is not set", "unset", "nokey")
+    whole["key0"], half["key0"] = b"new", b"new"
+    del whole["key7"]
+    tree.goes_on(whole)
     # what is back again is held no more
-    whole["key0"] = b"new"
     mount(tree, whole)
     root.becomes(held=0)
     tree.settles()
     # nor does a root, or a child, that begins anew believe it
+    half["key1"] = b"other"
     mount(tree, half)
-    root.becomes(held=6)
+    root.becomes(held=5)
     for agent in tree:
-        agent.restart()
+        agent.kill()
+    # (what it published is kept, and what it applied has the values)
+    shutil.rmtree(leaf.settings)
+    for agent in tree:
+        agent.start()
     sure(until(lambda: root.ask("diff", check=False).get("held")), root.text())
+    sure(until(lambda: not tree.wrong(None, whole)), tree.wrong(None, whole))
     tree.goes_on(whole)
-    root.becomes(held=6)
+    root.becomes(held=5)
     # it takes the change that was seen
     digest = root.ask("diff")["digest"]
-    for words, status, why in ((["0123456789abcdef"], 1, "another change is held"),
-                               (["12"], 2, "16 hexadecimal digits")):
+    for words, status, why in (([digest[::-1]], 1, "another change is held"),
+                               ([digest[:16]], 2, "64 hexadecimal digits")):
         root.refuses(why, "confirm", *words, status=status)
     sure(root.run("confirm", digest).stdout.strip().isdigit())
     root.becomes(held=0)
@@ -187,6 +358,7 @@ def a_folder_under_git_goes_back(tree, root, left):
         done = ran("git", "-c", "user.name=x", "-c", "user.email=x", *words, cwd=root.truth,
                    env={**os.environ, "HOME": str(tree.home)})
         sure(not done[0], done)
+        return done[1]
 
     def commit(words):
         git("add", "-A")
@@ -204,13 +376,13 @@ def a_folder_under_git_goes_back(tree, root, left):
     differs(key1=3, key2=None)
     time.sleep(1)
     sure(left.files() == whole, left.files())
-    # (what is asked for needs no more, but where something is held)
-    sure(root.run("publish", "key3", "new").returncode == 1)
     root.ask("confirm", root.ask("diff")["digest"])
     tree.wait()
     tree.settles()
     sure(left.files()["key1"] == b"bad", left.files())
+    # (what is asked for needs no more, and what is kept beside it is none of git's)
     tree.publish("key3", "new")
+    sure((root.truth / ".rignolda/published").is_file() and "rignolda" not in git("status"))
     commit("By a command")
     # the way back
     git("revert", "--no-edit", "HEAD~1")

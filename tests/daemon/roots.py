@@ -1,10 +1,14 @@
 """A second root: it is promoted when the first one is gone, and of two roots one goes on."""
 import concurrent.futures
+import os
+import shutil
+import signal
 import time
 from unittest import mock
 
 from daemons import becomes, by_tls, counted, free_port, of_tree, read, until
 from programs import ran
+from protocol import Child, report
 from runner import sure
 
 
@@ -80,9 +84,15 @@ def an_agent_that_is_promoted_goes_on_and_the_old_root_stands_by(tree, root, sec
     becomes(lambda: deep.files().get("later"), b"299")
     root.kill()
     before = strays(tree)
+    # (who says to it that it has more would have it refused)
+    racks = tree["left"], tree["right"]
+    for rack in racks:
+        rack.signal(signal.SIGSTOP)
     second.start()
     is_now(second, "below")
     second.ask("promote")
+    for rack in racks:
+        rack.signal(signal.SIGCONT)
     is_now(second, "root")
     sure(read(second.truth) == known, read(second.truth))
     follow(second)
@@ -187,9 +197,101 @@ def of_two_roots_that_find_each_other_one_goes_on(tree, root, second, left, leaf
             second.ask("demote")
 
 
+@of_tree({"second": "root", "left": "root", "right": "root"}, two, runs=False)
+def a_root_that_returns_while_the_other_one_is_away_keeps_back_what_is_old(tree, root, second, left,
+                                                                         right):
+    begin(tree)
+    root.kill()
+    second.ask("promote")
+    second.ask("publish", "key0", "of the second")
+    follow(second)
+    second.kill()
+    truth = read(second.truth)
+    for _ in range(2):
+        root.start()
+        is_now(root, "stands-by")
+        tree.goes_on(truth, [left, right])
+        root.kill()
+    root.says("this one stands by")
+    root.start()
+    second.start()
+    is_now(second, "root")
+    second.ask("publish", "key1", "of the second too")
+    follow(second)
+
+
+@of_tree({"second": "root", "left": "root", "liar": "root"}, two, runs=False)
+def a_number_that_one_child_invents_has_no_root_stand_by(tree, root, second, left, liar):
+    """A root that begins alone: a child says what it likes of itself, and of agents below it."""
+    tree.start([root, second, left])
+    tree.fill()
+    sure(until(root.status), root.text())
+    root.ask("promote", "--as-is")
+    follow(root, root, second, left)
+    second.kill()
+    for ahead in (1 << 20, 1 << 32, 1 << 62):
+        number = (root.status()["sequence"] + ahead) % (1 << 64)
+        root.restart()
+        sure(until(root.status), root.text())
+        said = {"connected": True, "applies": True, "whole": True, "sequence": number,
+                "applied": number, "round": number, "changed": number, "ahead": number}
+        child = Child(root, "liar")
+        child.send(report([{"name": "liar", **said}, {"name": "left", "parent": "liar", **said},
+                           *({"name": f"n{at}", "parent": "liar", **said} for at in range(9))]))
+        is_now(root, "root")
+        child.close()
+        root.ask("publish", "key0", ahead)
+        follow(root, root, left)
+
+
+@of_tree({"second": "root", "left": "root", "right": "root"}, two, runs=False)
+def an_agent_that_lacks_a_change_is_promoted_as_it_is_alone(tree, root, second, left, right):
+    """And what it lacks is said, to whoever asks for it, and in its journal."""
+    begin(tree)
+    second.kill()
+    number = root.ask("publish", "key0", "new")["sequence"]
+    follow(root)
+    root.kill()
+    second.start()
+    sure(until(second.status), second.text())
+    sure(until(lambda: [it["changed"] for it in second.ask("tree")].count(number) == 2),
+         second.ask("tree"))
+    second.refuses(f"has change {number}, and this agent has none after", "promote")
+    is_now(second, "below")
+    sure(not (second.truth / ".root").exists(), second.text())
+    for key, value in left.files().items():
+        second.write(key, value)
+    said = second.ask("promote", "--as-is")["said"]
+    sure(f"has change {number}" in said, said)
+    second.says("promoted as it is: ")
+    is_now(second, "root")
+    follow(second)
+    sure(left.files()["key0"] == b"new", left.files())
+
+
 @of_tree({"second": "root", "left": "root"}, two, runs=False)
-def a_spoiled_mark_of_a_root_is_harmless_or_refused(tree):
-    root, mark = tree.root, tree.root.truth / ".root"
+def whoever_writes_to_its_folder_makes_no_standby_the_root(tree, root, second, left):
+    begin(tree)
+    mark = second.truth / ".root"
+    far = int((time.time() + 86_400) * 1e6)
+    for how in ("mode", "link"):
+        second.kill()
+        mark.write_text(f"{far:020}\n")
+        mark.chmod(0o666 if how == "mode" else 0o600)
+        if how == "link":
+            os.link(mark, second.home / "other")
+        second.start()
+        is_now(second, "below")
+        mark.unlink()
+    second.says(".root does not belong to the user of the agent alone")
+    is_now(root, "root")
+    root.ask("publish", "key0", "after that")
+    follow(root)
+
+
+@of_tree({"second": "root", "left": "root"}, two, runs=False)
+def a_spoiled_mark_of_a_root_is_harmless_or_refused(tree, root, second, left):
+    mark = root.truth / ".root"
     begin(tree)
     for spoiled in (b"", b"\xff" * 9, b"12", mark.read_bytes()[:7] + b"x\n", b"0" * 5_000):
         root.kill()
@@ -199,6 +301,27 @@ def a_spoiled_mark_of_a_root_is_harmless_or_refused(tree):
         is_now(root, "root")
         tree.settles()
     root.says(".root has no number: any other root goes on")
+    # and what it may have published, while the other one is away and its child is asked
+    second.kill()
+    published = mark.with_name(".published")
+    for number, spoiled in enumerate((b"12", None)):
+        root.kill()
+        mark.write_bytes(b"%020d\n" % int(time.time() * 1e6))
+        published.unlink()
+        if spoiled is None:
+            (published / "inner").mkdir(parents=True)
+        else:
+            published.write_bytes(spoiled)
+        root.write("key0", number)
+        root.start()
+        is_now(root, "root")
+        tree.settles(root, left)
+    root.kill()
+    shutil.rmtree(published)
+    second.start()
+    root.start()
+    is_now(root, "root")
+    tree.settles()
     root.kill()
     mark.unlink()
     mark.mkdir()

@@ -26,8 +26,8 @@ from relay import between, turn
 from runner import sure, test
 
 # The commit of the last release, and the digest of its daemon.
-LAST = ("91ab645429d198624dab46bcf44db430281548a9",
-        "64136812135c4e20a02987f218cddffa45dd29dbc7cc537c5e55779e3f5ce46a")
+LAST = ("3e41939f23d676da77edb332d6bf757c95fc7404",
+        "6c4ff3723fcad4f52d7e57fe2a9e75f459f9ef8a7d48ab3219be2b037cfd0d90")
 # How many bytes the settings of a test have, and how many a round may come to, on each line.
 BULK, FEW = 1 << 18, 4_000
 

@@ -1,15 +1,19 @@
 #!/usr/bin/env -S python3 -B
 """Faults of all kinds among 15 agents in rings, drawn, as a stranger would cause them.
 
-    tests/daemon/trial.py [--runs 4] [--seed 1] [--faults 40]    by hand; check.py tries one run
+    tests/daemon/trial.py [--runs 4] [--seed 1] [--faults 40] [--two] [--loss 0]
+                                                             by hand; check.py tries one run
 
 The agents are a hub, four racks whose parents are the hub and the next rack, and ten leaves whose
 parents are their own rack, the next one and the hub; one of them is dialled by its rack alone, and
-one rack listens on IPv6. All speak TLS. While settings change, faults are drawn: kills, ends,
-stops, restarts of the hub of 0.2 s, and folders spoilt in the ways of SPOILS. After the last one
-all folders come to be the hub's, and all agents to the hub by their parents. Then a change is
-published, `wait --everywhere` ends well, and all folders have it at once; no agent has ended by
-itself. Each run has the next seed. The last line is 'N passed, M failed'.
+one rack listens on IPv6. Some are of a group. All speak TLS. While settings change, faults are
+drawn: kills, ends, stops, restarts of the hub of 0.2 s, and folders spoilt in the ways of SPOILS.
+With --two a leaf is a second root, and a parent of the racks: now and then it is promoted while the
+hub is gone; the hub comes back, stands by, is demoted, and the two have changed places. With --loss
+so many percent of all packets are lost, in a network of its own. After the last fault all folders
+come to be the root's, and all agents to the root by their parents. Then a change is published,
+`wait --everywhere` ends well, and all folders have it at once; no agent has ended by itself. Each
+run has the next seed. The last lines are what was done in all, and 'N passed, M failed'.
 """
 import collections
 import contextlib
@@ -23,44 +27,61 @@ import sys
 import time
 
 import runner
-from daemons import Tree, becomes, by_tls, during, meanwhile, until
+from daemons import Tree, becomes, by_tls, counting, during, meanwhile, read, until
+from relay import lose
 from runner import sure, test
 
 RACKS, LEAVES = 4, 10
 NAMES = [f"rack{at + 1}" for at in range(RACKS)] + [f"leaf{at + 1}" for at in range(LEAVES)]
 DIALLED = "leaf10"
 BY_IPV6 = "rack3"
+# The second root, if there are two; and who is of the group.
+SECOND = "leaf9"
+GROUP, OF_GROUP = "canary", ("rack2", "leaf2", "leaf4", "leaf6")
 
 
-def parents_of(name):
-    """The parents of an agent, the first one first."""
+def parents_of(name, two=False):
+    """The parents of an agent, the first one first, where there may be two roots."""
+    if two and name in ("root", SECOND):
+        return [SECOND if name == "root" else "root"]
+    if name == "root":
+        return []
     number = int(re.sub("[a-z]+", "", name))
     if name.startswith("rack"):
-        return ["root", f"rack{number % RACKS + 1}"]
+        return ["root", *[SECOND] * two, f"rack{number % RACKS + 1}"]
     own = (number - 1) % RACKS + 1
     return [f"rack{own}"] if name == DIALLED else [f"rack{own}", f"rack{own % RACKS + 1}", "root"]
 
 
-def in_rings(tree):
+def in_rings(tree, two):
     hosts = {}
     with contextlib.suppress(OSError), socket.create_server(("::1", 0), family=socket.AF_INET6):
         hosts[BY_IPV6] = "[::1]"
     host = lambda name: hosts.get(name, "127.0.0.1")
     at = lambda name: f"{name}@{host(name)}:{tree[name].port}"
     tree.root.tables["root"]["harmless"] = 15
+    if two:
+        second = tree[SECOND]
+        second.truth = second.home / "truth"
+        second.truth.mkdir()
+        for agent in tree.root, second:
+            agent.tables["root"] = {**tree.root.tables["root"], "settings": str(agent.truth),
+                                    "standby": True}
     for agent in tree:
         name, top = agent.name, agent.top
         agent.tables["link"] = {"ack_timeout": "1s", "evict": "8s", "backlog": 80}
         # (also a folder that lost its marker is its own)
         agent.tables["apply"]["take"] = True
         agent.children = []
-        children = [it for it in NAMES if name in parents_of(it)]
+        children = [it for it in ["root", *NAMES] if name in parents_of(it, two)]
         if children:
             top["children"] = [at(it) if it == DIALLED else it for it in children]
         if children or name == DIALLED:
             top["listen"] = f"{host(name)}:{agent.port}"
-        if agent.parent:
-            top["parents"] = [it if name == DIALLED else at(it) for it in parents_of(name)]
+        if parents := parents_of(name, two):
+            top["parents"] = [it if name == DIALLED else at(it) for it in parents]
+        if name in OF_GROUP:
+            top["groups"] = [GROUP]
 
 
 # ---- Folders
@@ -119,16 +140,26 @@ def spoil(folder, how, draw, names=None):
 class Run:
     """A tree, and what is done to it."""
 
-    def __init__(self, tree, seed):
-        self.tree, self.draw = tree, random.Random(seed)
-        self.below = [agent for agent in tree if agent is not tree.root]
+    def __init__(self, tree, seed, two=False):
+        self.tree, self.draw, self.two = tree, random.Random(seed), two
         self.undo = []          # (when, the agent, what ends its fault)
         self.counts = collections.Counter()
+
+    @property
+    def below(self):
+        """All but the root."""
+        return [agent for agent in self.tree if agent is not self.tree.root]
+
+    @property
+    def spoilt(self):
+        """Whose folders are spoilt: not that of the other root, which publishes what it applied."""
+        return [it for it in self.below if not (self.two and it.name in ("root", SECOND))]
 
     def change(self):
         """Changes one setting, by a file or by a command."""
         draw, root = self.draw, self.tree.root
         key, kind = f"key{draw.randrange(400)}", draw.random()
+        key += f"@{GROUP}" if draw.random() < 0.1 else ""
         if kind < 0.15:
             (root.truth / key).unlink(missing_ok=True)
         elif kind < 0.25:
@@ -136,7 +167,8 @@ class Run:
             root.request(1, do="publish", key=key, value=draw.randbytes(40).hex())
         else:
             size = draw.choice([0, 10, 300, 3_000, 40_000 if draw.random() < 0.1 else 50])
-            self.tree.write(key, draw.randbytes(size))
+            root.write(key, draw.randbytes(size))
+        self.counts["changes"] += 1
         time.sleep(draw.choice([0.01, 0.03]))
 
     def settle(self, is_all=False):
@@ -153,25 +185,28 @@ class Run:
     def fault(self, draw):
         hit = [agent for _, agent, _ in self.undo]
         whole = [agent for agent in self.tree if agent not in hit]
-        kinds = {"kill": 20, "end": 10, "stop": 9, "hub": 6, "spoil": 36, "copy": 8}
+        kinds = {"kill": 20, "end": 10, "stop": 9, "hub": 6, "spoil": 36, "copy": 8,
+                 "other root": 6 * self.two}
         kind = draw.choices(list(kinds), kinds.values())[0]
         victim = self.tree.root if kind == "hub" else draw.choice(whole or hit)
         if victim in hit:
             return
         self.counts[kind] += 1
-        if kind == "stop":
+        if kind == "other root":
+            self.change_places(draw)
+        elif kind == "stop":
             victim.signal(signal.SIGSTOP)
             ends = lambda: victim.signal(signal.SIGCONT)
             self.undo.append((time.monotonic() + draw.choice([0.2, 1, 2.5]), victim, ends))
         elif kind in ("kill", "end", "hub"):
             is_gentle = kind == "end" or draw.random() < 0.3
             victim.kill(signal.SIGTERM if is_gentle else signal.SIGKILL)
-            if draw.random() < 0.3 and victim is not self.tree.root:
+            if draw.random() < 0.3 and victim in self.spoilt:
                 spoil(victim.settings, draw.choice([*SPOILS]), draw)
             away = 0.2 if kind == "hub" else draw.choice([0, 0.1, 0.5, 2, 5])
             self.undo.append((time.monotonic() + away, victim, victim.start))
         else:
-            agent = draw.choice(self.below)
+            agent = draw.choice(self.spoilt)
             is_back = kind == "copy" and (agent.home / "old").exists()
             spoil(agent.settings, "an old copy" if is_back else draw.choice([*SPOILS]), draw)
         # (what will be an old copy)
@@ -179,20 +214,52 @@ class Run:
         if not old.exists():
             subprocess.run(["cp", "-r", old.with_name("settings"), old], stderr=subprocess.DEVNULL)
 
+    def change_places(self, draw):
+        """The root goes, and the other one is promoted; then it comes back, and is demoted."""
+        tree, old = self.tree, self.tree.root
+        new = tree[SECOND if old.name == "root" else "root"]
+        self.settle(is_all=True)
+        old.kill()
+        said = {}
+
+        def promoted():
+            nonlocal said
+            said = new.request(do="promote", as_is=False)
+            return said == "done" or "--as-is" in str(said)
+        sure(until(promoted, pause=0.2), said, new.text()[-500:])
+        if said != "done":
+            # (it lacks a change, or its files are no whole table: what the old root had is put there)
+            self.counts["as it is"] += 1
+            had = read(old.truth)
+            for name in had.keys() | read(new.truth).keys():
+                if had.get(name) is None:
+                    (new.truth / name).unlink()
+                else:
+                    (new.truth / name).write_bytes(had[name])
+            new.ask("promote", "--as-is")
+        tree.root = new
+        time.sleep(draw.choice([0, 0.5, 2]))
+        old.start()
+        old.becomes(standby="stands-by")
+        old.ask("demote")
+
     def differing(self):
         """Whose settings are others. What is no file, or has no key for its name, is no setting."""
         truth = self.tree.truth()
-        own = lambda agent: {key: value for key, value in agent.files().items()
-                             if key in truth or value is not None and KEY.fullmatch(key)}
-        return [agent.name for agent in self.tree if own(agent) != truth]
+
+        def is_right(agent):
+            own = counting(truth, agent.top.get("groups", []))
+            return own == {key: value for key, value in agent.files().items()
+                           if key in own or value is not None and KEY.fullmatch(key)}
+        return [agent.name for agent in self.tree if not is_right(agent)]
 
     def lost(self):
-        """Who does not come to the hub by its parents."""
+        """Who does not come to the root by its parents."""
         above = {agent.name: agent.status().get("parent") for agent in self.below}
-        ends = NAMES
+        ends = [agent.name for agent in self.below]
         for _ in NAMES:
             ends = [above.get(name, name) for name in ends]
-        return [name for name, end in zip(NAMES, ends) if end != "root"]
+        return [name for name, end in zip(above, ends) if end != self.tree.root.name]
 
     def go(self, faults):
         tree, draw = self.tree, random.Random(self.draw.random())
@@ -200,6 +267,9 @@ class Run:
             tree.write(f"key{at}", draw.randbytes(draw.randrange(300)))
         # (as after a power cut: the hub is the last)
         tree.start([*self.below, tree.root])
+        if self.two:
+            sure(until(tree.root.status), tree.root.text())
+            tree.root.ask("promote", "--as-is")
         becomes(self.differing, [], "a cold start:")
         with meanwhile(self.change):
             for _ in range(faults):
@@ -209,6 +279,7 @@ class Run:
                     time.sleep(0.02)
             self.settle(is_all=True)
         becomes(self.differing, [], self.counts, "these differ:", pause=0.05)
+        DONE.update(self.counts)
         becomes(self.lost, [], "no way to the hub:", pause=0.1)
         tree.publish("final", draw.random())
         # (what wait says is so at once)
@@ -224,9 +295,13 @@ class Run:
         sure(until(rests), "they move on")
 
 
-def tried(seed, faults):
-    with Tree(dict.fromkeys(NAMES, "root"), by_tls, in_rings) as tree:
-        Run(tree, seed).go(faults)
+# What was done in all runs.
+DONE = collections.Counter()
+
+
+def tried(seed, faults, two=False):
+    with Tree(dict.fromkeys(NAMES, "root"), by_tls, lambda tree: in_rings(tree, two)) as tree:
+        Run(tree, seed, two).go(faults)
 
 
 @test(begins=True)
@@ -235,8 +310,15 @@ def faults_of_all_kinds_end_in_a_right_tree():
 
 
 def main():
-    chosen = runner.options(runs=4, seed=1, faults=40)
-    return runner.run_seeds(chosen, lambda seed: tried(seed, chosen.faults))
+    chosen = runner.options(runs=4, seed=1, faults=40, two=False, loss=0.0)
+    if chosen.loss:
+        if not os.environ.get("LOSES"):
+            os.environ["LOSES"] = "1"
+            os.execvp("unshare", ["unshare", "--net", sys.executable, *sys.argv])
+        lose(chosen.loss)
+    end = runner.run_seeds(chosen, lambda seed: tried(seed, chosen.faults, chosen.two))
+    print(f"in {sum(DONE.values()) - DONE['changes']} faults: {dict(DONE)}", file=sys.stderr)
+    return end
 
 
 if __name__ == "__main__":

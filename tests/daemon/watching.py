@@ -6,7 +6,7 @@ import time
 
 from blocked import preload
 from daemons import PATIENCE, becomes, of_tree, root_has, took, until, very_patient
-from protocol import Child
+from protocol import Child, report
 from runner import sure
 
 
@@ -134,10 +134,21 @@ def a_last_acknowledgement_is_news(tree):
     becomes(backlog, [0])
     slow.may.clear()
     tree.root.ask("publish", "two", "2")
-    becomes(backlog, [1])
+    becomes(lambda: backlog() > [0], True)
     slow.may.set()
     # (what is no news is said again after 30 seconds)
     sure(until(lambda: backlog() == [0], 20 / PATIENCE), "the root hears late of", backlog())
+    slow.close()
+
+
+@of_tree({"left": "root", "slow": "left"}, very_patient, root_has(round="1h"), without=["slow"])
+def of_reports_that_come_at_once_the_last_is_heard(tree):
+    """As where an agent stood still for a moment, and reads at once what came meanwhile."""
+    slow = Child(tree["left"], "slow")
+    gaps = lambda: [it["gaps"] for it in tree.root.ask("tree") if it["name"] == "slow"]
+    for turn in range(1, 4):
+        slow.send(b"".join(report([{"name": "slow", "gaps": turn * 10 + at}]) for at in range(5)))
+        becomes(gaps, [turn * 10 + 4])
     slow.close()
 
 

@@ -232,7 +232,7 @@ fn ready(server: &mut Server) -> Vec<(Ticket, Result<Request, String>)> {
     let asked = server.ready(&fired, Instant::now()).into_iter();
     asked
         .map(|(ticket, asked)| match asked {
-            Asked::Request(request) => (ticket, request),
+            Asked::Request(request, _) => (ticket, request),
             Asked::Shown(_) => panic!("they are asked for elsewhere"),
         })
         .collect()
