@@ -27,6 +27,7 @@ pub mod metrics;
 pub mod newer;
 pub mod page;
 pub mod place;
+pub mod rank;
 pub mod refused;
 pub mod repeats;
 pub mod root;

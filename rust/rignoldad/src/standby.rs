@@ -15,6 +15,7 @@ use crate::fact;
 use crate::floor::read_floor;
 use crate::kept::Places;
 use crate::newer::{says, Says};
+use crate::rank::rank;
 use crate::refused::Refused;
 use rignolda::net::parents::NONE;
 use rignolda::net::{Way, Worker};
@@ -35,12 +36,9 @@ const APPLIED: &str = ".applied";
 const PUBLISHED: &str = ".published";
 /// The file by which an empty folder is meant.
 const EMPTY: &str = ".empty";
-/// How far above all that it has seen a promoted agent begins: whoever was the root till then may
-/// have published more, and be cut off, and publish still.
-const AHEAD: u64 = 1 << 32;
 /// For how many numbers a root may publish before it notes that again: so few that its numbers stay
-/// below those of who is promoted after it.
-const ROOM: u64 = 1 << 20;
+/// below those of who is promoted after it, since a number is a microsecond there.
+const ROOM: u64 = 1 << 16;
 /// For how long a root looks at its parents at most before it publishes.
 const LOOKS: Duration = Duration::from_secs(30);
 /// How often a parent is looked at in vain before it counts as away. (It is given more time at each
@@ -227,8 +225,7 @@ impl<W> Standby<W> {
             }
             (_, None) => self.asked = Some((who, String::new())),
         }
-        let clock = SystemTime::now().duration_since(UNIX_EPOCH).unwrap_or_default();
-        let rank = furthest(seen, [clock.as_micros() as u64]).wrapping_add(AHEAD);
+        let rank = rank(seen, clock());
         self.begin(Job::Promote { rank, copies, digest });
         Ok(())
     }
@@ -369,8 +366,7 @@ impl<W> Standby<W> {
     /// Above which number it publishes: without a clock where it knows up to which it may have
     /// published in earlier lives.
     fn above(&self) -> u64 {
-        let clock = SystemTime::now().duration_since(UNIX_EPOCH).unwrap_or_default();
-        furthest(self.rank, [self.may.unwrap_or(clock.as_micros() as u64)])
+        furthest(self.rank, [self.may.unwrap_or_else(clock)])
     }
 
     fn is_root(&mut self, rank: u64) -> Change {
@@ -419,6 +415,11 @@ impl<W> Standby<W> {
     fn answer(&mut self, said: Result<(), Refused>) {
         self.answers.extend(self.asked.take().map(|(who, words)| (who, said.map(|()| words))));
     }
+}
+
+/// The microseconds since 1970, by the clock of the machine.
+fn clock() -> u64 {
+    SystemTime::now().duration_since(UNIX_EPOCH).unwrap_or_default().as_micros() as u64
 }
 
 /// Whether a file belongs to the user of the process, or root, and nobody else may write to it.
