@@ -330,8 +330,8 @@ RIGNOLDA_CALL bool rignolda_child_on_ack(rignolda_child *child, const rignolda_p
  * gives it that item, and asked for its place it would have the node keep all, take nothing more,
  * and so hold up its siblings. A child that is left out holds nothing back. So leave out one that
  * takes nothing, too, and its siblings go on: once the item that it would be offered next is
- * forgotten, it is left behind. Before that it can still come back as it is. Neither the laws nor the list change: they speak of
- * the whole list.
+ * forgotten, it is left behind. Before that it can still come back as it is. Neither the laws nor
+ * the list change: they speak of the whole list.
  */
 
 /*
