@@ -168,18 +168,63 @@ def a_disk_that_hangs_stops_nobody(tree, root, left):
 
 
 @of_tree({}, runs=False)
-def a_file_where_a_socket_is_to_be_is_kept(tree, root):
+def what_lies_where_a_socket_is_to_be_is_moved_aside_and_kept(tree, root):
+    """At a start, in a folder of the agent's own. Where others may write it is left, and said."""
     for kind, make in (("file", lambda path: path.write_text("mine")),
                        ("link", lambda path: path.symlink_to("elsewhere")),
-                       ("pipe", os.mkfifo)):
-        root.socket = tree.home / kind
-        make(root.socket)
-        root.start()
-        sure(until(lambda: not root.alive()), kind, "it runs")
-        sure(root.process.returncode == 1, kind, root.process.returncode)
-        sure(root.said(str(root.socket)) == 1, kind, root.text())
-        sure(os.path.lexists(root.socket), kind, "is gone")
-    sure((tree.home / "file").read_text() == "mine")
+                       ("pipe", os.mkfifo), ("folder", lambda path: (path / "full").mkdir(
+                           parents=True))):
+        for is_own in False, True:
+            around = tree.home / f"{kind}{is_own}"
+            around.mkdir(mode=0o755)
+            around.chmod(0o755 if is_own else 0o777)
+            root.socket = around / "control"
+            make(root.socket)
+            was = os.lstat(root.socket)
+            root.start()
+            if is_own:
+                sure(until(root.status), kind, root.text())
+                root.kill()
+            else:
+                sure(until(lambda: not root.alive()), kind, "it runs")
+                sure(root.process.returncode == 1, kind, root.process.returncode)
+            kept = around / ("control.aside1" if is_own else "control")
+            sure(root.said(str(kept)) == 1, kind, root.text())
+            sure(os.path.samestat(os.lstat(kept), was), kind, "is another one")
+    sure((tree.home / "fileTrue/control.aside1").read_text() == "mine")
+
+
+@of_tree({"left": "root"})
+def a_socket_that_goes_while_its_agent_runs_comes_back(tree, root, left):
+    """Its file is removed or replaced. What came to its place is kept, and no link ends."""
+    path, kept = root.socket, []
+    for at, make in enumerate((lambda: None, lambda: path.write_text("mine"),
+                               lambda: path.symlink_to("elsewhere"), lambda: path.mkdir(),
+                               lambda: os.mkfifo(path),
+                               lambda: socket.socket(socket.AF_UNIX).bind(str(path)))):
+        path.unlink()
+        make()
+        sure(until(root.status), at, root.text()[-500:])
+        kept.append(len(list(root.home.glob("control.aside*"))))
+    sure(kept == [0, 1, 2, 3, 4, 4], kept)
+    sure((root.home / "control.aside1").read_text() == "mine")
+    # another process listens there: that is said once, and ends with it
+    path.unlink()
+    with socket.socket(socket.AF_UNIX) as other:
+        other.bind(str(path))
+        other.listen()
+        sure(until(lambda: root.said("is lost: another process listens there")), root.text()[-500:])
+        tree.write("meanwhile", "1")
+        tree.settles(left)
+    sure(until(root.status), root.text()[-500:])
+    sure(root.said("is lost: another process listens there") == 1, root.text()[-900:])
+    sure(left.said("connected the parent root") == 1, left.text())
+    # at its end it removes its own alone
+    path.unlink()
+    path.write_text("mine")
+    root.signal(signal.SIGTERM)
+    sure(until(lambda: not root.alive()))
+    sure("mine" in {it.read_text() for it in root.home.glob("control*") if it.is_file()})
 
 
 @of_tree({"left": "root"}, runs=False, needs="cc")

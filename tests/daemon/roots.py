@@ -244,6 +244,31 @@ def a_number_that_one_child_invents_has_no_root_stand_by(tree, root, second, lef
         follow(root, root, left)
 
 
+@of_tree({"second": "root", "left": "root"}, two, runs=False)
+def values_for_groups_are_promoted_as_they_were_published_or_not_at_all(tree, root, second, _):
+    """The root is lost; and somebody changed what the second one has beside its own files."""
+    tree.write("colour@canary", "blue")
+    begin(tree)
+    truth = read(root.truth)
+    follow(root)
+    root.kill()
+    beside = second.settings / ".groups"
+    becomes(lambda: read(beside).get("colour..canary"), b"blue")
+    for spoil in (lambda: (beside / "colour..canary").write_text("green"),
+                  lambda: (beside / "colour..canary").unlink(),
+                  lambda: (beside / "invented..canary").write_text("1"),
+                  lambda: (beside / "key0").write_text("of long ago"),
+                  lambda: beside.rename(second.home / "away")):
+        shutil.copytree(beside, second.home / "before")
+        spoil()
+        second.refuses("is not a whole table as it was applied", "promote")
+        is_now(second, "below")
+        shutil.rmtree(beside, ignore_errors=True)
+        (second.home / "before").rename(beside)
+    second.ask("promote")
+    sure(read(second.truth) == truth, read(second.truth))
+
+
 @of_tree({"second": "root", "left": "root", "right": "root"}, two, runs=False)
 def an_agent_that_lacks_a_change_is_promoted_as_it_is_alone(tree, root, second, left, right):
     """And what it lacks is said, to whoever asks for it, and in its journal."""

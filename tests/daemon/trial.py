@@ -13,7 +13,8 @@ hub is gone; the hub comes back, stands by, is demoted, and the two have changed
 so many percent of all packets are lost, in a network of its own. After the last fault all folders
 come to be the root's, and all agents to the root by their parents. Then a change is published,
 `wait --everywhere` ends well, and all folders have it at once; no agent has ended by itself. Each
-run has the next seed. The last lines are what was done in all, and 'N passed, M failed'.
+run has the next seed. The last lines are what was done in all, the longest wait for a last change,
+and 'N passed, M failed'.
 """
 import collections
 import contextlib
@@ -281,7 +282,9 @@ class Run:
         becomes(self.differing, [], self.counts, "these differ:", pause=0.05)
         DONE.update(self.counts)
         becomes(self.lost, [], "no way to the hub:", pause=0.1)
+        begun = time.monotonic()
         tree.publish("final", draw.random())
+        WAITS.append(time.monotonic() - begun)
         # (what wait says is so at once)
         lacking = [it.name for it in tree if it.files().get("final") != tree.truth()["final"]]
         sure(not lacking, "it was not everywhere:", lacking)
@@ -295,8 +298,9 @@ class Run:
         sure(until(rests), "they move on")
 
 
-# What was done in all runs.
+# What was done in all runs, and how long each last change was waited for.
 DONE = collections.Counter()
+WAITS = []
 
 
 def tried(seed, faults, two=False):
@@ -317,7 +321,8 @@ def main():
             os.execvp("unshare", ["unshare", "--net", sys.executable, *sys.argv])
         lose(chosen.loss)
     end = runner.run_seeds(chosen, lambda seed: tried(seed, chosen.faults, chosen.two))
-    print(f"in {sum(DONE.values()) - DONE['changes']} faults: {dict(DONE)}", file=sys.stderr)
+    print(f"in {sum(DONE.values()) - DONE['changes']} faults: {dict(DONE)}; the last changes were "
+          f"everywhere after {max(WAITS, default=0):.2f} s at most", file=sys.stderr)
     return end
 
 

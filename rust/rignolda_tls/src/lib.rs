@@ -11,6 +11,7 @@ use std::io::{self, Read};
 use std::os::unix::fs::OpenOptionsExt;
 use std::path::{Path, PathBuf};
 
+mod aside;
 mod caller;
 mod certificate;
 mod handshakes;
@@ -18,6 +19,7 @@ mod line;
 mod listener;
 mod secure;
 
+pub use aside::moved_aside;
 pub use caller::{Called, Caller};
 pub use certificate::{unix_time, Fault};
 pub use handshakes::Handshakes;

@@ -104,6 +104,8 @@ pub struct Agent {
     /// What the children had not acknowledged when it last reported that.
     reported_backlog: u64,
     checked: Instant,
+    /// Which sockets are not at their places and cannot be made anew, and why.
+    lost_sockets: String,
     /// What was not taken at the last reload, and why.
     reload_failed: String,
     /// What stands for digests where operators ask.
@@ -422,6 +424,14 @@ impl Agent {
         let mut table = Table::default();
         table.taker = Taker::new(applier.as_ref().map_or(0, Applier::floor));
         let handshakes = Handshakes::new(wake.clone());
+        let listeners: Vec<_> = config.listen.iter().map(listen).collect::<Result<_, _>>()?;
+        let servers: Vec<_> = control.chain(counts).collect::<Result<_, _>>()?;
+        for it in listeners.iter().chain(servers.iter().map(Server::listener)) {
+            if let (Some(path), Some(to)) = (it.path(), it.moved()) {
+                let (path, to) = (path.display(), to.display());
+                fact!("socket", "what lay at {path} was no socket: it is {to} now");
+            }
+        }
         Ok(Agent {
             path: path.into(),
             maker: maker(&config)?.with_handshakes(&handshakes),
@@ -434,7 +444,7 @@ impl Agent {
             expires: i64::MAX,
             unsure: Vec::new(),
             others: Vec::new(),
-            listeners: config.listen.iter().map(listen).collect::<Result<_, _>>()?,
+            listeners,
             full_until: now,
             caller: Caller::new(wake.clone()),
             peers: peers(&config, now)?,
@@ -451,11 +461,12 @@ impl Agent {
             },
             root,
             wake,
-            servers: control.chain(counts).collect::<Result<_, _>>()?,
+            servers,
             answers: Answers::default(),
             reported: now,
             reported_backlog: 0,
             checked: now,
+            lost_sockets: String::new(),
             reload_failed: String::new(),
             labels: Labels::new([random(), random()].map(Result::unwrap_or_default)),
             config,
@@ -639,6 +650,7 @@ impl Agent {
             let status = self.status(now);
             self.state.below.are_back(&status, now);
         }
+        self.keep_sockets();
         // (all are looked at again)
         self.expires = i64::MAX;
         self.lines.retain(|id, _| self.peers.line(*id).is_some());
@@ -661,6 +673,32 @@ impl Agent {
             self.stores.fault(&self.peers),
         ];
         faults.into_iter().flatten().next().map_or(Ok(()), Err)
+    }
+
+    /// Whoever connects to a socket's file comes to this agent, whatever was done to that.
+    fn keep_sockets(&mut self) {
+        let served = self.servers.iter_mut().map(Server::listener_mut);
+        let mut lost = String::new();
+        for it in self.listeners.iter_mut().chain(served).filter(|it| !it.is_in_place()) {
+            let done = it.comes_back();
+            let path = it.path().unwrap_or(Path::new("")).display();
+            match (done, it.moved()) {
+                (Err(why), _) => lost += &format!("{path} is lost: {why}; "),
+                (Ok(()), None) => {
+                    self.state.on_fact("socket", format_args!("{path} was gone: made anew"));
+                }
+                (Ok(()), Some(to)) => {
+                    let to = to.display();
+                    let words = format_args!("{path} was no socket: made anew, that is {to} now");
+                    self.state.on_fact("socket", words);
+                }
+            }
+        }
+        // (a failure is said once, and again when it is another one)
+        if lost != self.lost_sockets && !lost.is_empty() {
+            self.state.on_fact("socket", format_args!("{}", lost.trim_end_matches("; ")));
+        }
+        self.lost_sockets = lost;
     }
 
     /// Whether all that says whether it is the root says the same.

@@ -269,9 +269,7 @@ impl Applier {
     /// Starts the threads. Where one cannot be started, the others end, and nothing was done.
     pub fn new(config: &Apply, wake: Wake) -> io::Result<Applier> {
         let folder = config.folder.clone();
-        let due = Folder::new(folder.join(PENDING)).names();
-        let due = due.into_iter().filter(|name| is_key(name)).collect();
-        let mut state = State { due, ..State::default() };
+        let mut state = State { due: hooks::due(&folder), ..State::default() };
         state.set_up(config);
         let state = Mutex::new(state);
         let (files, hooks) = (Condvar::new(), Condvar::new());
@@ -540,6 +538,8 @@ fn keep_files(shared: &Shared) {
     let mut marker = Marker::default();
     let mut grouped = Folder::new(shared.folder.join(GROUPS));
     let (mut taken, mut digest, mut groups) = (None, None, Vec::new());
+    // (of the values as they are published, where these may be promoted)
+    let mut of_grouped: Option<Digest> = None;
     // (whether its files were never looked at with this mode)
     let (mut is_first, mut mode) = (true, 0);
     // (whether somebody may be removing the folder since its files were put)
@@ -606,6 +606,9 @@ fn keep_files(shared: &Shared) {
             let there = if looks { folder.names() } else { folder.keys() };
             files.unset_others(there.into_iter().chain(due.keys()));
             if looks {
+                // (of what no table and no file has nothing fails any more)
+                let is_here = |name: &str| !is_key(name) || files.has(name);
+                shared.lock().failing.retain(|name, _| is_here(name));
                 is_first = digest.replace(Digest::default()).is_none() || mode != config.mode;
                 mode = config.mode;
                 // (what cannot be so is seen by whoever cannot list it)
@@ -631,7 +634,13 @@ fn keep_files(shared: &Shared) {
                 _ => (),
             }
         }
-        keep_grouped(shared, &folder, &mut grouped, all, looks);
+        if !config.may_be_root {
+            of_grouped = None;
+        } else if is_whole && looks {
+            of_grouped = Some(Digest::default());
+        }
+        let is_kept = keep_grouped(shared, &folder, &mut grouped, all, looks, &mut of_grouped);
+        of_grouped = of_grouped.filter(|_| is_kept);
         if looks {
             others.may_say(&folder, is_whole);
         }
@@ -654,7 +663,7 @@ fn keep_files(shared: &Shared) {
         }
         let is_of_now = state.config.groups == groups;
         let digest = digest.as_ref().filter(|_| is_of_now);
-        state.whole = digest.filter(|_| config.may_be_root).map(Digest::whole);
+        state.whole = digest.zip(of_grouped.as_ref()).map(|(own, it)| own.whole(it));
         state.digest = digest.map(|it| it.sum);
     }
 }
@@ -688,24 +697,37 @@ fn open_grouped(within: &Folder, folder: &mut Folder, all: &Waiting) -> io::Resu
     Ok(true)
 }
 
-/// Keeps values as they are published, of keys that have one for some group.
+/// As what a digest has a value for groups beside others.
+pub fn beside(key: &str) -> String {
+    format!("{GROUPS}/{key}")
+}
+
+/// Keeps values as they are published, of keys that have one for some group, and the digest of
+/// these, if there is one: whether they could be kept.
 fn keep_grouped(
     shared: &Shared,
     within: &Folder,
     folder: &mut Folder,
     mut all: Waiting,
     looks: bool,
-) {
+    digest: &mut Option<Digest>,
+) -> bool {
     let was = folder.is();
     match open_grouped(within, folder, &all) {
-        Ok(true) => drop(shared.lock().failing.remove(GROUPS)),
-        Ok(false) => return drop(shared.lock().failing.remove(GROUPS)),
+        Ok(is_there) => {
+            shared.lock().failing.remove(GROUPS);
+            if !is_there {
+                return true;
+            }
+        }
         Err(error) => {
             let (mut state, number) = (shared.lock(), all.first().unwrap_or(0));
             shared.report(&mut state, GROUPS, number, Outcome::File(error.to_string()));
-            return folder.leave(was);
+            folder.leave(was);
+            return false;
         }
     }
+    let mut is_kept = true;
     if all.is_whole() {
         let there = if looks { folder.names() } else { folder.keys() };
         all.unset_others(there);
@@ -716,6 +738,12 @@ fn keep_grouped(
         let differs = !had && folder.differs(&key, value, GROUPS_MODE);
         let kept = if differs { folder.put(&key, value, GROUPS_MODE) } else { Ok(true) };
         let (mut state, name) = (shared.lock(), format!("{GROUPS}/{}", shown(&key)));
+        match (digest.as_mut(), value) {
+            (Some(digest), Some(value)) if !had => digest.set(&beside(&key), Some(value)),
+            (Some(digest), None) => digest.unset(&beside(&key)),
+            _ => (),
+        }
+        is_kept &= matches!(kept, Ok(true));
         match kept {
             Ok(_) => drop(state.failing.remove(&name)),
             Err(error) => {
@@ -725,6 +753,7 @@ fn keep_grouped(
         }
     }
     folder.close();
+    is_kept
 }
 
 /// Says in the folder that it is an agent's, and up to which number its files will be; and so it is
@@ -938,4 +967,30 @@ fn settle<'a>(shared: &Shared, keys: impl IntoIterator<Item = &'a str>) {
     }
     let mut state = shared.lock();
     state.settling.retain(|key| !keys.contains(&&**key));
+}
+
+#[cfg(test)]
+mod tests {
+    use super::*;
+
+    /// After a fault of the memory; else what fails is there.
+    #[test]
+    fn what_no_table_and_no_file_has_fails_no_more() {
+        let folder = std::env::temp_dir().join(format!("rignoldad-failing-{}", std::process::id()));
+        let config = Apply { folder: folder.clone(), mode: 0o640, ..Apply::default() };
+        let mut applier = Applier::new(&config, Arc::new(|| ())).unwrap();
+        applier.shared.lock().failing.insert("junk".into(), Outcome::File("it is spoilt".into()));
+        assert_eq!(applier.failing(), 1);
+        let heard = Heard { takes: true, applies: true, looks: true, ..Heard::default() };
+        let table = Meaning::Table(vec![("a", Some(b"1"))]);
+        assert!(applier.take(&table, 1, heard));
+        let end = Instant::now() + Duration::from_secs(60);
+        while applier.applied(1) != 1 {
+            assert!(Instant::now() < end, "it is not applied in a minute");
+            thread::sleep(Duration::from_millis(2));
+        }
+        assert_eq!(applier.failing(), 0);
+        drop(applier);
+        std::fs::remove_dir_all(folder).unwrap();
+    }
 }

@@ -39,11 +39,11 @@ impl Digest {
         self.sum = self.sum.wrapping_sub(old);
     }
 
-    /// The SHA-256 of those of all settings, in the order of their keys, in hexadecimal digits: no
-    /// others have it.
-    pub fn whole(&self) -> String {
+    /// The SHA-256 of those of all settings, in the order of their keys, and then of others beside
+    /// them, in hexadecimal digits: nothing else has it, if no key is in both.
+    pub fn whole(&self, beside: &Digest) -> String {
         let mut sha = Sha256::new();
-        self.each.values().for_each(|it| sha.update(it));
+        self.each.values().chain(beside.each.values()).for_each(|it| sha.update(it));
         sha.finish().iter().map(|byte| format!("{byte:02x}")).collect()
     }
 }
@@ -319,7 +319,7 @@ mod tests {
         digest.set("path", Some(b"up"));
         assert_eq!(digest.sum, 0x36e4_557c_afcc_3106);
         let whole = "dfbdd7be09cb69000067680348e603c86d6cfb3d7a02ee647c90addb7c2d2a2a";
-        assert_eq!(digest.whole(), whole);
+        assert_eq!(digest.whole(&Digest::default()), whole);
     }
 
     #[test]
@@ -330,10 +330,16 @@ mod tests {
         for (key, value) in [("b", b"0"), ("c", b"3"), ("a", b"1"), ("b", b"2")] {
             other.set(key, Some(value));
         }
-        assert!(one.sum != other.sum && one.whole() != other.whole());
+        assert!(
+            one.sum != other.sum
+                && one.whole(&Digest::default()) != other.whole(&Digest::default())
+        );
         other.unset("c");
         other.unset("c");
-        assert_eq!((one.sum, one.whole()), (other.sum, other.whole()));
+        assert_eq!(
+            (one.sum, one.whole(&Digest::default())),
+            (other.sum, other.whole(&Digest::default()))
+        );
         // (no two are of one text)
         other.unset("b");
         other.set("", Some(b"b2"));

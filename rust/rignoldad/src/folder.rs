@@ -1,6 +1,8 @@
 //! Files of settings.
+use crate::fact;
 use crate::place::{has_mount, Identity, Place};
 use rignolda::settings::{is_key, VALUE_BYTES};
+use rignolda_tls::moved_aside;
 use rignoldactl::source::read_plain;
 use std::collections::hash_map::RandomState;
 use std::collections::BTreeMap;
@@ -75,21 +77,35 @@ impl Folder {
         self.is
     }
 
-    /// Opens what is at its path now, and makes it where nothing is: whether it is another folder
-    /// than the last one.
+    /// Opens what is at its path now, and makes it where nothing is, or no folder: whether it is
+    /// another folder than the last one.
     ///
     /// # Errors
     ///
     /// Where the system refuses it.
     pub fn open(&mut self) -> io::Result<bool> {
-        let place = match Place::open(&self.path) {
-            Err(error) if error.kind() == ErrorKind::NotFound => {
-                fs::create_dir_all(&self.path)?;
-                Place::open(&self.path)?
+        let place = Place::open(&self.path).or_else(|error| {
+            self.has_room_or(error)?;
+            fs::create_dir_all(&self.path)?;
+            Place::open(&self.path)
+        });
+        Ok(self.is_at(place?))
+    }
+
+    /// Nothing is at its path, as far as is known: what is there and is no folder is moved aside. A
+    /// link to nowhere stays, since the disk that it leads to may be missing.
+    fn has_room_or(&self, error: io::Error) -> io::Result<()> {
+        match fs::metadata(&self.path) {
+            Ok(is) if !is.is_dir() => {
+                let (path, to) = (self.path.display(), moved_aside(&self.path)?);
+                fact!("settings", "what lay at {path} was no folder: it is {} now", to.display());
+                Ok(())
             }
-            place => place?,
-        };
-        Ok(self.is_at(place))
+            Err(e) if e.kind() == ErrorKind::NotFound => {
+                fs::symlink_metadata(&self.path).map_or(Ok(()), |_| Err(error))
+            }
+            _ => Err(error),
+        }
     }
 
     /// Works in this folder from now on: whether it is another one than the last.

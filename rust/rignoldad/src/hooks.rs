@@ -3,8 +3,8 @@
 //! One is run for each change of a key. Others are each for the keys that some patterns name, with
 //! one run for all of these that changed together.
 use crate::config::Apply;
-use crate::folder::{remove, unlink};
-use rignolda::settings::{older, Change, Waiting};
+use crate::folder::{remove, unlink, Folder};
+use rignolda::settings::{is_key, older, Change, Waiting};
 use std::collections::BTreeSet;
 use std::fs::{self, File, OpenOptions};
 use std::io::{self, Seek, Write};
@@ -180,13 +180,33 @@ fn input(path: &Path, bytes: &[u8]) -> io::Result<File> {
     Ok(file)
 }
 
-/// Says in the folder that hooks of this key are due.
-pub fn announce(folder: &Path, key: &str) -> io::Result<()> {
+/// The folder of the keys whose hooks are due, if it is one; its owner may use it then.
+fn pending(folder: &Path) -> io::Result<Option<PathBuf>> {
     let folder = folder.join(PENDING);
     if !is(&folder, |it| it.is_dir()) {
-        unlink(&folder)?;
-        fs::create_dir(&folder)?;
+        return Ok(None);
     }
+    Folder::new(folder.clone()).mend()?;
+    Ok(Some(folder))
+}
+
+/// The keys whose hooks are due, as that folder says.
+pub fn due(folder: &Path) -> BTreeSet<String> {
+    let names = pending(folder).ok().flatten().map(|it| Folder::new(it).names());
+    names.into_iter().flatten().filter(|name| is_key(name)).collect()
+}
+
+/// Says in the folder that hooks of this key are due.
+pub fn announce(folder: &Path, key: &str) -> io::Result<()> {
+    let folder = match pending(folder)? {
+        Some(it) => it,
+        None => {
+            let new = folder.join(PENDING);
+            unlink(&new)?;
+            fs::create_dir(&new)?;
+            new
+        }
+    };
     let path = folder.join(key);
     if !is(&path, |it| it.is_file()) {
         remove(&path)?;
@@ -197,9 +217,8 @@ pub fn announce(folder: &Path, key: &str) -> io::Result<()> {
 
 /// Takes back that hooks of this key are due. What else has that name stays.
 pub fn settle(folder: &Path, key: &str) {
-    let folder = folder.join(PENDING);
-    let path = folder.join(key);
-    if is(&folder, |it| it.is_dir()) && is(&path, |it| it.is_file() && it.len() == 0) {
+    let path = pending(folder).ok().flatten().map(|it| it.join(key));
+    if let Some(path) = path.filter(|path| is(path, |it| it.is_file() && it.len() == 0)) {
         let _ = fs::remove_file(path);
     }
 }

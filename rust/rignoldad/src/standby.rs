@@ -7,7 +7,7 @@
 //! of the last whole table that it applied, so that nothing less is ever promoted. `.published` has
 //! the number up to which the root may have published: what its children have above it at a start,
 //! [another root](crate::newer) published.
-use crate::apply::GROUPS;
+use crate::apply::{beside, GROUPS};
 use crate::batch::{write_folder, Batch, Kept};
 use crate::config::{Apply, Config, Root};
 use crate::digest::Digest;
@@ -578,10 +578,14 @@ impl Folders {
         found: Found,
         digest: Option<String>,
     ) -> Result<BTreeMap<String, Vec<u8>>, Refused> {
-        let mut own = Digest::default();
+        let (mut own, mut grouped) = (Digest::default(), Digest::default());
+        let there = self.grouped()?;
         found.settings.iter().for_each(|(key, value)| own.set(key, Some(value)));
         found.unread.keys().for_each(|key| own.set(key, None));
-        if digest.or_else(|| self.noted()) != Some(own.whole()) || !found.unread.is_empty() {
+        there.settings.iter().for_each(|(key, value)| grouped.set(&beside(key), Some(value)));
+        there.unread.keys().for_each(|key| grouped.set(&beside(key), None));
+        let is_whole = digest.or_else(|| self.noted()) == Some(own.whole(&grouped));
+        if !is_whole || !found.unread.is_empty() {
             let (from, to) = (self.applied.display(), self.root.display());
             return Err(format!(
                 "{from} is not a whole table as it was applied: put what is right into {to}, and \
@@ -608,12 +612,22 @@ impl Folders {
         }
     }
 
+    /// The values as they were published, of keys that have one for some group.
+    fn grouped(&self) -> Result<Found, ErrorAt> {
+        let folder = self.applied.join(GROUPS);
+        if folder.exists() {
+            read(&folder)
+        } else {
+            Ok(Found::default())
+        }
+    }
+
     /// What was published where this is applied: of a setting that has values for groups, all of
     /// these.
     fn published(&self, found: Found) -> Result<BTreeMap<String, Vec<u8>>, Refused> {
-        let (folder, mut all) = (self.applied.join(GROUPS), found.settings);
-        let grouped = if folder.exists() { read(&folder)? } else { Found::default() };
+        let (mut all, grouped) = (found.settings, self.grouped()?);
         if let Some(key) = grouped.unread.keys().next() {
+            let folder = self.applied.join(GROUPS);
             return Err(at(folder.display())(format!("{key} cannot be read")).into());
         }
         grouped.settings.keys().for_each(|key| drop(all.remove(parts(key).0)));

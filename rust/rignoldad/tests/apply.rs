@@ -6,7 +6,7 @@ use rignoldad::hooks::Hook;
 use std::collections::BTreeMap;
 use std::fs::{self, Permissions};
 use std::io;
-use std::os::unix::fs::{symlink, PermissionsExt};
+use std::os::unix::fs::{symlink, MetadataExt, PermissionsExt};
 use std::path::{Path, PathBuf};
 use std::process::{Command, Stdio};
 use std::sync::atomic::{AtomicU64, Ordering};
@@ -711,6 +711,64 @@ fn what_is_wrong_with_the_folder_itself_is_mended() {
 }
 
 #[test]
+fn what_lies_where_the_folder_was_is_moved_aside_and_kept() {
+    for kind in ["file", "pipe", "link", "file of others"] {
+        let place = Place::new();
+        let (folder, aside) = (place.folder(), place.0.join("settings.aside1"));
+        let mut applier = start(&place.config());
+        applier.table([("a", b"1")], 1);
+        applied(&mut applier, 1);
+        fs::rename(&folder, place.0.join("away")).unwrap();
+        match kind {
+            "pipe" => assert!(Command::new("mkfifo").arg(&folder).status().unwrap().success()),
+            "link" => symlink(place.0.join("away/a"), &folder).unwrap(),
+            _ => fs::write(&folder, "mine").unwrap(),
+        }
+        let is_own = kind != "file of others";
+        let mode = if is_own { 0o755 } else { 0o777 };
+        fs::set_permissions(&place.0, Permissions::from_mode(mode)).unwrap();
+        let was = fs::symlink_metadata(&folder).unwrap().ino();
+        applier.table([("a", b"1"), ("b", b"2")], 2);
+        applied(&mut applier, 2);
+        let kept = if is_own { aside } else { folder };
+        assert_eq!(fs::symlink_metadata(&kept).unwrap().ino(), was, "{kind}");
+        assert_eq!(applier.failing(), u64::from(!is_own), "{kind}");
+        if is_own {
+            assert_eq!(place.files(), map([("a", "1"), ("b", "2")]), "{kind}");
+        }
+        assert_eq!(fs::read_to_string(place.0.join("away/a")).unwrap(), "1", "{kind}");
+    }
+}
+
+#[test]
+fn a_folder_of_due_hooks_that_nobody_may_enter_holds_no_change_up() {
+    let place = Place::new();
+    let config = place.with_hook(&format!("{LOG}\n[ -e good ]"));
+    let pending = place.folder().join(".pending");
+    let is_closed = || fs::metadata(&pending).unwrap().permissions().mode() & 0o700 != 0o700;
+    let close = || fs::set_permissions(&pending, Permissions::from_mode(0o000)).unwrap();
+    let mut applier = start(&config);
+    applier.set("a", b"1", 1);
+    applied(&mut applier, 1);
+    close();
+    applier.set("b", b"1", 2);
+    applied(&mut applier, 2);
+    assert!(!is_closed());
+    drop(applier);
+    // (what was due is, and while it stood still it was closed too)
+    close();
+    fs::write(place.0.join("good"), "").unwrap();
+    fs::remove_file(place.0.join("calls")).unwrap();
+    let mut applier = start(&config);
+    applier.table([("a", &b"1"[..]), ("b", &b"1"[..])], 3);
+    applied(&mut applier, 3);
+    let mut calls = place.calls();
+    calls.sort();
+    assert_eq!(calls, ["set a 1 3", "set b 1 3"]);
+    assert!(!is_closed() && applier.failing() == 0);
+}
+
+#[test]
 fn a_failure_is_said_once_and_again_when_it_is_another_one() {
     let place = Place::new();
     let mut applier = start(&place.with_hook("exit $(cat code)"));
@@ -830,7 +888,8 @@ fn a_hook_that_does_not_end_is_ended() {
 #[test]
 fn a_file_that_cannot_be_written_is_failing_until_it_can() {
     let place = Place::new();
-    fs::write(place.folder(), "in the way").unwrap();
+    // (the disk that this leads to may come back)
+    symlink(place.0.join("nowhere"), place.folder()).unwrap();
     let mut applier = start(&place.config());
     applier.set("a", b"1", 1);
     let done = applied(&mut applier, 1);

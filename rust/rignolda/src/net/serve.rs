@@ -131,6 +131,11 @@ impl<T, L: Listener> Server<T, L> {
         &self.listener
     }
 
+    /// The same, to listen anew: its clients stay.
+    pub fn listener_mut(&mut self) -> &mut L {
+        &mut self.listener
+    }
+
     /// The descriptors to wait for, each with a number that no other one has had, and whether until
     /// they can be written, and not read. (Else one that has closed its end is always ready.)
     pub fn descriptors(&self) -> impl Iterator<Item = (RawFd, u64, bool)> + '_ {
