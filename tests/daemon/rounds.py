@@ -143,7 +143,7 @@ def a_round_has_what_the_depth_of_the_tree_needs(tree, root, _, low, leaf):
 def versions_that_do_not_meet_are_named_by_both_ends(tree, root, leaf):
     """The crates show how versions are chosen: here it is seen what an operator is told."""
     theirs = struct.unpack(">H", bytes([7, 9]))[0]
-    words = "it speaks versions 7 to 9 of the protocol, and this agent 1 to 3"
+    words = "it speaks versions 7 to 9 of the protocol, and this agent 1 to 4"
 
     def is_told(agent, key):
         sure(until(lambda: words in agent.status().get(key, "")), agent.status())

@@ -31,7 +31,9 @@ pub mod wire;
 pub use address::{Address, AddressError};
 pub use origin::{Origin, Shown};
 pub use parents::{ParentError, Parents, Way};
-pub use peers::{Call, ChildError, Children, Fault, Handler, Line, Parent, Peers, Setup, Whom};
+pub use peers::{
+    Call, ChildError, Children, Fault, Handler, Line, Parent, Peers, ReportKind, Setup, Whom,
+};
 pub use relay::{Came, Link, Relay};
 pub use store::{Store, Turn, Worker, LOST};
 pub use turns::Turns;

@@ -1,7 +1,7 @@
 //! Whole tables that go by reference: who makes them, who asks for them, and what is refused; and
-//! which version two ends speak.
+//! which version two ends speak, and what follows from that for reports.
 use rignolda::net::wire::{self, Expect, Hello, Message, Reference, FIRST, OLD, VERSION};
-use rignolda::net::{Body, Children, Handler, Line, Parent, Peers, Setup, Way};
+use rignolda::net::{Body, Children, Handler, Line, Parent, Peers, ReportKind, Setup, Way};
 use rignolda::settings::{table_of, Meaning};
 use std::fmt;
 use std::io::{self, ErrorKind, Read, Write};
@@ -40,6 +40,9 @@ struct Came {
     facts: Vec<String>,
     /// How many bytes it was to make.
     made: usize,
+    /// How often it was asked for a whole report, and what was reported to it.
+    requests: usize,
+    reports: Vec<Vec<u8>>,
 }
 
 /// Here any function will do that tells bodies apart.
@@ -67,8 +70,13 @@ impl Handler for Came {
         table
     }
 
-    fn on_report(&mut self, _: &str, _: &[u8], _: Instant) -> bool {
+    fn on_report(&mut self, _: &str, report: &[u8], _: Instant) -> bool {
+        self.reports.push(report.to_vec());
         true
+    }
+
+    fn on_report_request(&mut self) {
+        self.requests += 1;
     }
 
     fn on_gone(&mut self, _: &str) {}
@@ -415,7 +423,7 @@ fn ends_that_look_say_their_ranges_and_speak_the_highest_in_common() {
 /// Both ends can say which versions they have not in common.
 #[test]
 fn without_a_version_in_common_both_ranges_are_named() {
-    let why = "it speaks versions 7 to 9 of the protocol, and this agent 1 to 3";
+    let why = "it speaks versions 7 to 9 of the protocol, and this agent 1 to 4";
     let look = |from: &str, to: &str| hello(FIRST, Hello::range(7..=9), from, to);
     let mut root = Agent::new(true);
     let mut end = root.meet(&look("a", "root").look());
@@ -430,4 +438,70 @@ fn without_a_version_in_common_both_ranges_are_named() {
     let mut end = agent.meet(&look("root", "a").bytes());
     assert!(matches!(end.next(Expect::Hello), Some(Message::Look(_))));
     assert!(end.is_closed() && agent.peers.last_refused().ends_with(why));
+}
+
+/// Only a parent that can ask for a whole report is told what changed, and each connection to one
+/// has another number.
+#[test]
+fn a_report_may_be_of_changes_where_the_parent_knows_them() {
+    let mut numbers = Vec::new();
+    for newest in [FIRST, VERSION - 1, VERSION, VERSION, 9] {
+        let (mut agent, mut end, hello) = child(Hello::range(FIRST..=newest));
+        assert_eq!(hello.version, newest.min(VERSION));
+        let is_known = newest >= VERSION;
+        match agent.peers.report_kind() {
+            Some(ReportKind::Changes(number)) if is_known => numbers.push(number),
+            kind => assert_eq!((kind, is_known), (Some(ReportKind::Whole), false)),
+        }
+        assert!(agent.peers.report(b"[1]"));
+        // (while that is to be written, nothing more is taken)
+        assert_eq!(agent.peers.report_kind(), None);
+        assert!(!agent.peers.report(b"[2]"));
+        end.says(&mut agent, b"");
+        let report = end.next(Expect::Acks);
+        assert_eq!(report, Some(Message::Report(b"[1]".to_vec())));
+        end.says(&mut agent, wire::REPORT_REQUEST);
+        assert_eq!(agent.came.requests, usize::from(is_known));
+        assert_eq!(end.is_closed(), !is_known);
+        assert!(is_known || agent.said("closed the parent: it is no message"));
+    }
+    // (the same agent, which its parent connects to once more)
+    let (mut agent, _, _) = child(Hello::range(FIRST..=VERSION));
+    let before = agent.peers.report_kind();
+    let names = vec!["root".into()];
+    let way = wire::way(&Way { cost: 0, names });
+    let range = Hello::range(FIRST..=VERSION);
+    let says = [hello(FIRST, range, "root", "a").bytes(), way].concat();
+    let mut end = agent.meet(&says);
+    assert!(matches!(end.next(Expect::Hello), Some(Message::Hello(_))));
+    end.says(&mut agent, b"");
+    assert!(matches!(
+        (before, agent.peers.report_kind()),
+        (Some(ReportKind::Changes(one)), Some(ReportKind::Changes(other))) if one != other
+    ));
+    assert_eq!(numbers.len(), 3);
+}
+
+#[test]
+fn a_child_that_may_report_changes_can_be_asked_for_all() {
+    let table = Some(Message::Reference(8, referred(&table(1, b"1"))));
+    for version in [VERSION - 1, VERSION] {
+        let (mut root, mut end) = root_with_a_child(version);
+        assert_eq!(end.next(Expect::Frames), table);
+        root.peers.request_report("a");
+        root.peers.request_report("nobody");
+        // (what waits to be written is no frame: an acknowledgement that comes meanwhile is right)
+        end.says(&mut root, &wire::ack(8));
+        let is_asked = version == VERSION;
+        let expected = is_asked.then_some(Message::ReportRequest);
+        assert_eq!(end.next(Expect::Frames), expected);
+        end.says(&mut root, &wire::report(b"[]"));
+        assert_eq!(root.came.reports, [b"[]"]);
+        assert!(!end.is_closed(), "{:?}", root.came.facts);
+        // (and who reads nothing is left)
+        (0..40).for_each(|_| root.peers.request_report("a"));
+        end.says(&mut root, &wire::report(b"[]"));
+        let is_left = root.said("closed a: it reads nothing");
+        assert_eq!((end.is_closed(), is_left), (is_asked, is_asked));
+    }
 }

@@ -2,7 +2,9 @@
 use rignolda::net::wire::{
     ack, frame, lacks, reference, report, take, way, Expect, Hello, Message, Reference,
 };
-use rignolda::net::wire::{WireError, FIRST, GOODBYE, OLD, REPORT_BYTES, WAY_BYTES};
+use rignolda::net::wire::{
+    WireError, FIRST, GOODBYE, OLD, REPORT_BYTES, REPORT_REQUEST, WAY_BYTES,
+};
 use rignolda::net::{Body, Way, BODY_BYTES};
 use rignolda::settings::{entry_bytes, is_key, Meaning, VALUE_BYTES};
 
@@ -42,6 +44,7 @@ fn the_bytes_are_these() {
     assert_eq!(hello().bytes(), expected);
     assert_eq!(ack(0x0102), b"A\x01\x02");
     assert_eq!(report(b"[]"), b"R\x00\x00\x00\x02[]");
+    assert_eq!(REPORT_REQUEST, b"Q");
     let body = Body::new(7, &Meaning::Changes(vec![("a", Some(b"xy")), ("b", None)]));
     let bytes = b"C\0\0\0\0\0\0\0\x07\0\0\0\x02S\x01a\0\0\0\x02xyU\x01b";
     assert_eq!(body.bytes, bytes);
@@ -162,11 +165,12 @@ fn messages_come_in_any_pieces() {
         },
     ));
     let mut acks = ack(9);
+    frames.extend(REPORT_REQUEST);
     acks.extend(report(b"[1]"));
     acks.extend(ack(10));
     for (stream, expect, count) in [
         (hello().bytes(), Expect::Hello, 1),
-        (frames, Expect::Frames, 2),
+        (frames, Expect::Frames, 3),
         (acks, Expect::Acks, 3),
     ] {
         let (whole, left) = all(stream.clone(), expect);
@@ -245,6 +249,7 @@ fn drawn_bytes_do_no_harm() {
         lacks(3),
         reference(3, &referred()),
         report(b"[]"),
+        REPORT_REQUEST.to_vec(),
         way(&Way {
             cost: 3,
             names: vec!["hub".into(), "rack1".into()],

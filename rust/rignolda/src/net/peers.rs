@@ -30,7 +30,7 @@ mod words;
 pub use connection::Line;
 pub use fault::Fault;
 pub use handler::Handler;
-pub use setup::{Call, ChildError, Children, Parent, Setup, Whom};
+pub use setup::{Call, ChildError, Children, Parent, ReportKind, Setup, Whom};
 
 /// What is done, or why a connection is left for it, in words of a journal.
 type Result<T = (), E = String> = std::result::Result<T, E>;

@@ -151,7 +151,8 @@ impl<L> Conn<L> {
 
     /// Whether a frame, or more of one, waits to be written, or what else answers the other end.
     pub(super) fn waits_for_frame(&self) -> bool {
-        self.output.iter().any(|it| !matches!(it, Chunk::Way(_)))
+        let is_answer = |it: &Chunk| !matches!(it, Chunk::Way(_) | Chunk::ReportRequest);
+        self.output.iter().any(is_answer)
     }
 
     /// Says this way, in place of one that is not written yet.
@@ -279,6 +280,7 @@ pub(super) enum Chunk {
     Bytes(Vec<u8>),
     /// (All who are told it at once share its bytes.)
     Way(Arc<[u8]>),
+    ReportRequest,
     /// A frame: what is before its body, and that.
     Frame([u8; FRAME_HEAD], Arc<Body>),
 }
@@ -289,6 +291,7 @@ impl Chunk {
         match self {
             Chunk::Bytes(bytes) => [&[], &bytes[place..]],
             Chunk::Way(bytes) => [&[], &bytes[place..]],
+            Chunk::ReportRequest => [&[], &wire::REPORT_REQUEST[place..]],
             Chunk::Frame(head, body) => match place.checked_sub(FRAME_HEAD) {
                 Some(place) => [&[], &body.bytes[place..]],
                 None => [&head[place..], &body.bytes],

@@ -23,6 +23,8 @@ pub trait Handler {
     /// A child reports this: what there is to watch, and the numbers above which a root goes on.
     /// Whether it makes sense; else its connection is closed.
     fn on_report(&mut self, child: &str, report: &[u8], now: Instant) -> bool;
+    /// The parent lacks what the last report of changes was made from: the next one is to be whole.
+    fn on_report_request(&mut self) {}
     /// A child is one no longer: what it said may be forgotten.
     fn on_gone(&mut self, child: &str);
     /// A root that [has parents](super::Setup::rank) has looked at the one at this place, which

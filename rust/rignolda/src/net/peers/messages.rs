@@ -1,8 +1,8 @@
 //! What travels over links: frames, acknowledgements, reports and ways.
-use super::connection::{travels, Chunk, Line, State};
-use super::{fact, Context, Handler, Peers, Result, Whom, LATER};
+use super::connection::{travels, Chunk, Conn, Line, State};
+use super::{fact, Context, Handler, Peers, ReportKind, Result, Whom, LATER};
 use crate::net::relay::{Came, Polled};
-use crate::net::wire::{self, Message, Reference, FIRST, HEAD_BYTES, REFERS};
+use crate::net::wire::{self, Message, Reference, CHANGES, FIRST, HEAD_BYTES, REFERS};
 use crate::net::Body;
 use crate::Connection;
 use std::sync::Arc;
@@ -29,7 +29,7 @@ impl<L: Line, A: Clone + PartialEq + fmt::Display> Peers<L, A> {
             self.due.set(None);
         }
         let waits = conn.waits_for_frame();
-        let refers = conn.version >= REFERS;
+        let (refers, changes) = (conn.version >= REFERS, conn.version >= CHANGES);
         match (conn.link(), message) {
             (_, Message::Hello(hello)) => return self.greets(id, hello, false, cx),
             (link, Message::Look(hello)) => {
@@ -53,6 +53,9 @@ impl<L: Line, A: Clone + PartialEq + fmt::Display> Peers<L, A> {
                     Some(body) => self.frame_came(id, number, label, &body, cx),
                     None => self.send(id, wire::lacks(label)),
                 }
+            }
+            (Some((Whom::Parent, _)), Message::ReportRequest) if changes => {
+                cx.to.on_report_request();
             }
             // (else whoever asks without end would be sent to without end)
             (Some((Whom::Child(name), _)), Message::Lacks(label)) => {
@@ -173,11 +176,35 @@ impl<L: Line, A: Clone + PartialEq + fmt::Display> Peers<L, A> {
             words.report = Some(report.into());
             return true;
         }
-        let conn = self.above.and_then(|id| self.conns.get_mut(&id));
-        // (what waits there already is not added to)
-        let conn = conn.filter(|conn| conn.greeted().is_some() && conn.output.is_empty());
-        let id = conn.and(self.above);
+        let id = self.reporting().and(self.above);
         id.map(|id| self.send(id, wire::report(report))).is_some()
+    }
+
+    /// The connection by which the parent takes a report now.
+    fn reporting(&self) -> Option<&Conn<L>> {
+        let conn = self.above.and_then(|id| self.conns.get(&id));
+        // (what waits there already is not added to)
+        conn.filter(|conn| conn.greeted().is_some() && conn.output.is_empty())
+    }
+
+    /// What a report that is sent to the parent now may be, if it takes one.
+    pub fn report_kind(&self) -> Option<ReportKind> {
+        let words = self.words.get(&Whom::Parent);
+        if words.map_or(false, |words| words.since.is_some()) {
+            return Some(ReportKind::Whole);
+        }
+        let changes = self.reporting()?.version >= CHANGES;
+        let id = self.above.filter(|_| changes);
+        Some(id.map_or(ReportKind::Whole, ReportKind::Changes))
+    }
+
+    /// Asks a child for a whole report, where it may send another one.
+    pub fn request_report(&mut self, child: &str) {
+        let id = self.children.get(child).copied();
+        let conn = id.and_then(|id| self.conns.get(&id));
+        if let (Some(id), true) = (id, conn.map_or(false, |conn| conn.version >= CHANGES)) {
+            self.push(id, Chunk::ReportRequest);
+        }
     }
 
     /// How long a child's next answer may take.

@@ -121,3 +121,12 @@ pub struct Call<A> {
     /// tried each time.
     pub failed: usize,
 }
+
+/// What a report that is sent to the parent now may be.
+#[derive(Clone, Copy, Debug, PartialEq, Eq)]
+pub enum ReportKind {
+    /// All there is to report.
+    Whole,
+    /// That, or what changed since the last report by this connection: each one has another number.
+    Changes(u64),
+}
