@@ -89,7 +89,8 @@ def seeds():
         "messages": [
             b"\0" + hello("host31", "rack3", LIFE), b"\0" + look("host31", ""),
             b"\1" + way(9, ["hub", "rack2"]), b"\2" + way(0, ["hub"]) + frame(3, body(b"H", 1)),
-            b"\3A\0\3" + report([{"name": "child"}, {"name": "leaf", "parent": "child"}]) + b"G"],
+            b"\3A\0\3" + report([{"name": "child"}, {"name": "leaf", "parent": "child"}]) + b"G",
+            b"\2Q", b"\3" + report([["leaf"], [[["new"], {"parent": "child", "gaps": 7}]]])],
         "body": [body(b"H", 1), body(b"C", 7, [entry(b"a", b"xy"), entry(b"b", None)]),
                  body(b"T", 7, [entry(b"a", b"xy"), entry(b"b")])],
         "configuration": [

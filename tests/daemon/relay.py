@@ -40,11 +40,11 @@ def turn(child, port=None):
 class Relay:
     """Passes bytes on. With `cuts` it closes each connection after a drawn while, and what is under
     way is lost, often in the middle of a message, but not while it is `calm`; with `delay` bytes
-    come that many seconds late."""
+    come that many seconds late. What an end that connects sends is what `changed` makes of it."""
 
     def __init__(self, port, cuts=None, delay=0.0, seed=1):
         self.to, self.cuts, self.delay = port, cuts, delay
-        self.draw, self.calm = random.Random(seed), False
+        self.draw, self.calm, self.changed = random.Random(seed), False, bytes
         self.listener = socket.create_server(("127.0.0.1", 0))
         self.port = self.listener.getsockname()[1]
         self.connections = self.passed = 0      # how many there were, and of how many bytes
@@ -80,6 +80,7 @@ class Relay:
                     if not piece:
                         return
                     self.passed += len(piece)
+                    piece = self.changed(piece) if sock is near else piece
                     if self.cuts and not self.calm and self.draw.random() < 0.05:
                         # (of the last piece only a part gets through)
                         other.sendall(piece[:self.draw.randrange(len(piece))])

@@ -7,6 +7,7 @@ import time
 from blocked import preload
 from daemons import PATIENCE, becomes, of_tree, root_has, took, until, very_patient
 from protocol import Child, report
+from relay import between
 from runner import sure
 
 
@@ -150,6 +151,58 @@ def of_reports_that_come_at_once_the_last_is_heard(tree):
         slow.send(b"".join(report([{"name": "slow", "gaps": turn * 10 + at}]) for at in range(5)))
         becomes(gaps, [turn * 10 + 4])
     slow.close()
+
+
+@of_tree({"hub": "root", "leaf": "hub", "many": "hub"}, very_patient, root_has(round="1h"),
+         runs=False)
+def reports_cost_what_changed(tree, root, hub, *_):
+    """A thousand agents of which there is no news add nothing to a report of others."""
+    relay = between(hub)
+    tree.begin(["many"])
+    of_many = [{"name": "many", "limit": 9}, *(
+        {"name": f"m{at}", "parent": "many", "connected": True, "limit": 9, "sequence": 1}
+        for at in range(1_000))]
+    many = Child(hub, "many")
+    many.send(report(of_many))
+    seen = lambda: {it["name"]: it for it in root.ask("tree")}
+    becomes(lambda: len(seen()), 1_004)
+    whole, changes = len(report(of_many)), 10
+    before, begun = relay.passed, time.monotonic()
+    for at in range(changes):
+        root.ask("publish", "colour", str(at))
+        becomes(lambda: seen()["leaf"]["applied"], root.status()["changed"])
+    # (all is said every 30 seconds, and so much is a change, with what else travels then)
+    passed, seconds = relay.passed - before, time.monotonic() - begun
+    most = (seconds / 30 + 1) * 2 * whole + changes * 4_000 + seconds * 100
+    sure(passed < most, passed, most, seconds)
+    ages = [it["age"] for name, it in seen().items() if name.startswith("m")]
+    sure(all(abs(age / 1_000 - seconds) < 20 * PATIENCE for age in ages), min(ages), seconds)
+    many.close()
+
+
+@of_tree({"hub": "root", "leaf": "hub"}, very_patient, root_has(round="1h"), runs=False)
+def a_report_that_was_lost_is_asked_for(tree, root, hub):
+    """What changed since a report that the parent does not have is no use: it asks for all."""
+    relay, spoiled = between(hub), []
+
+    def spoil(piece):
+        """Spoils the name of the report that changes are of, once in each turn."""
+        at = piece.find(b"C", 5)
+        while at > 0 and (piece[at - 5:at - 2] != b"R\0\0" or len(piece) < at + 17):
+            at = piece.find(b"C", at + 1)
+        if at < 0 or len(spoiled) >= turn:
+            return piece
+        spoiled.append(at)
+        return piece[:at + 9] + bytes([piece[at + 9] ^ 1]) + piece[at + 10:]
+
+    tree.begin()
+    relay.changed, turn = spoil, 0
+    for turn in range(1, 4):
+        root.ask("publish", "colour", str(turn))
+        applied = lambda: [it["applied"] for it in root.ask("tree")]
+        # (all is said again after 30 seconds)
+        sure(until(lambda: applied() == [root.status()["changed"]] * 3, 20 / PATIENCE), applied())
+        sure(len(spoiled) == turn, spoiled)
 
 
 @of_tree({"left": "root", "right": "root"})

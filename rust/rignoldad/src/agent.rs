@@ -14,6 +14,7 @@ use crate::metrics;
 use crate::page;
 use crate::refused::Refused;
 use crate::repeats::Repeats;
+use crate::reports::{Told, WHOLE};
 use crate::root::Root;
 use crate::serve::Ticket;
 use crate::standby::{Change, Standby};
@@ -21,7 +22,7 @@ use crate::tree::{Below, EACH};
 use mio::unix::SourceFd;
 use mio::{Events, Interest, Poll, Registry, Token, Waker};
 use rignolda::net::wire::HEAD_BYTES;
-use rignolda::net::{Body, Handler, Peers, Way};
+use rignolda::net::{Body, Handler, Peers, ReportKind, Way};
 use rignolda::settings::{furthest, older, table_of, Meaning, Table, Taker};
 use rignolda_redis::Stores;
 use rignolda_tls::{Caller, Handshakes, Line, Listener, Maker};
@@ -39,9 +40,8 @@ use std::time::{Duration, Instant, SystemTime, UNIX_EPOCH};
 /// How many connections are accepted in one turn.
 const ACCEPTS: usize = 64;
 /// How often an agent says upwards what there is to watch, where it changed, if there are not very
-/// many agents below it; and in any case.
+/// many agents below it. (In any case it says so as often as all is to be [told](WHOLE).)
 const REPORTS: Duration = Duration::from_millis(100);
-const SAYS_AGAIN: Duration = Duration::from_secs(30);
 
 /// After how long the clock is looked at again at the latest, since it may be set.
 const CLOCK: Duration = Duration::from_secs(10);
@@ -101,6 +101,8 @@ pub struct Agent {
     servers: Vec<Server>,
     answers: Answers,
     reported: Instant,
+    /// What the parent was told then.
+    told: Told,
     /// What the children had not acknowledged when it last reported that.
     reported_backlog: u64,
     checked: Instant,
@@ -130,6 +132,8 @@ struct State {
     round_at: Option<Instant>,
     /// Whether there is something new to say upwards.
     changed: bool,
+    /// Whether the parent asks for all there is to say.
+    asks_for_all: bool,
     /// Since when files are being applied, where some are.
     applying: Option<Instant>,
     /// Whether each body is a fact of the journal, for trials.
@@ -372,6 +376,10 @@ impl Handler for State {
         is_one
     }
 
+    fn on_report_request(&mut self) {
+        (self.changed, self.asks_for_all) = (true, true);
+    }
+
     fn on_gone(&mut self, child: &str) {
         self.changed = true;
         self.below.forget(child);
@@ -464,6 +472,7 @@ impl Agent {
             servers,
             answers: Answers::default(),
             reported: now,
+            told: Told::default(),
             reported_backlog: 0,
             checked: now,
             lost_sockets: String::new(),
@@ -571,6 +580,7 @@ impl Agent {
             self.report(now);
         }
         self.publish(now);
+        self.state.below.asked().iter().for_each(|child| self.peers.request_report(child));
         self.stores.go_on(&mut self.peers, now, &mut self.state);
         self.peers.write(now, &mut self.state);
         Ok(())
@@ -619,6 +629,8 @@ impl Agent {
         self.stores =
             Stores::new(self.config.store.clone(), silence(&self.config), self.wake.clone());
         self.peers = peers(&self.config, now)?;
+        // (connections are counted from 1 again)
+        self.told = Told::default();
         Ok(())
     }
 
@@ -818,9 +830,10 @@ impl Agent {
     // ---- Watching and control
 
     fn reports_at(&self) -> Instant {
-        let often = REPORTS.max(EACH * self.state.below.agents());
-        let at =
-            self.reported + if self.state.changed { often.min(SAYS_AGAIN) } else { SAYS_AGAIN };
+        let often = REPORTS.max(EACH * self.state.below.agents()).min(WHOLE);
+        let at = self.reported + if self.state.changed { often } else { WHOLE };
+        let again = self.told.again().map(|again| again.max(self.reported + often));
+        let at = again.map_or(at, |again| at.min(again));
         // (it is said once for files and what they follow from, unless they take long)
         self.state.applying.map_or(at, |since| at.max(since + REPORTS))
     }
@@ -831,9 +844,23 @@ impl Agent {
         if self.reported >= since && now < self.reports_at() {
             return;
         }
-        let bytes = self.state.below.report(&self.status(now), now);
-        self.state.changed &= !self.peers.report(&bytes);
         (self.reported, self.reported_backlog) = (now, self.backlog());
+        if std::mem::take(&mut self.state.asks_for_all) {
+            self.told = Told::default();
+        }
+        let connection = match self.peers.report_kind() {
+            // (what was sent before has to go first)
+            None => return,
+            Some(ReportKind::Whole) => None,
+            Some(ReportKind::Changes(connection)) => Some(connection),
+        };
+        let status = self.status(now);
+        let bytes = self.state.below.report_to(&mut self.told, connection, &status, now);
+        let is_sent = self.peers.report(&bytes);
+        self.state.changed &= !is_sent;
+        if !is_sent {
+            self.told = Told::default();
+        }
     }
 
     /// What the children have not acknowledged.

@@ -30,6 +30,7 @@ pub mod place;
 pub mod rank;
 pub mod refused;
 pub mod repeats;
+pub mod reports;
 pub mod root;
 pub mod standby;
 pub mod tree;

@@ -1,14 +1,15 @@
 //! What is known of the agents below: for watching, and which numbers they have. No step of a link
 //! depends on it.
 //!
-//! Each agent sends its list up now and then, itself first and each agent after its parent, and its
-//! parent puts it behind its own.
+//! Each agent sends its list up now and then, itself first and each agent after its parent, or what
+//! [changed](crate::reports) in it, and its parent puts it behind its own.
 use crate::config::{DEEP, GROUPS};
+use crate::reports::{self, Changes, Id, Told};
 pub use rignolda::net::wire::REPORT_BYTES;
 use rignolda::settings::{furthest, is_group, is_newer};
 use rignoldactl::{ChildStatus, Seen, Status, WHY};
 use std::cmp::Reverse;
-use std::collections::{BTreeMap, BTreeSet};
+use std::collections::{BTreeMap, BTreeSet, VecDeque};
 use std::time::{Duration, Instant};
 
 /// The most agents in a report, and how deep they are below who sends it.
@@ -23,20 +24,46 @@ pub const EACH: Duration = Duration::from_micros(250);
 /// About how many bytes a list has for an agent: one that has more is as one of more agents.
 const BYTES: usize = 256;
 
-/// What each child said last; whether it may say other groups than before; and who is left out,
-/// since an operator said that it is gone for good.
-#[derive(Debug, Default)]
-pub struct Below(BTreeMap<String, Heard>, bool, BTreeSet<String>);
+/// How many agents are read or changed at once, where more waits.
+const AT_ONCE: usize = 1_000;
+/// A list is looked through as a whole after each change: that costs as much as to read one so many
+/// times shorter.
+const LOOKS: usize = 4;
+/// How many reports of changes wait at most: as many as are sent in some seconds.
+const WAITING: usize = 64;
 
-/// What is known of a child. What comes much sooner after another list than one is sent waits until
-/// that can be read, and only the last that came: so no list costs much, and the newest one counts.
+/// What each child said last; whether it may say other groups than before; who is left out, since
+/// an operator said that it is gone for good; and who is to be asked for a whole report.
+#[derive(Debug, Default)]
+pub struct Below(BTreeMap<String, Heard>, bool, BTreeSet<String>, Vec<String>);
+
+/// What is known of a child. What comes much sooner after another report than one is sent waits
+/// until that can be read: the last whole one that came, and what changed since. So no report costs
+/// much, and the newest one counts.
 #[derive(Debug, Default)]
 struct Heard {
     said: Option<Said>,
-    /// When a list was read last, and for how long no other one is.
+    /// By which report that came to be, where what changed since can be read.
+    base: Option<Id>,
+    /// Whether it was asked for a whole report, and none has come since.
+    asked: bool,
+    /// When a report was read last, and for how long no other one is.
     read: Option<(Instant, Duration)>,
-    /// What waits, and when it came.
-    waits: Option<(Instant, Vec<u8>)>,
+    /// What waits, and when each came.
+    waits: VecDeque<(Instant, Vec<u8>)>,
+}
+
+/// What became of reports that were read.
+#[derive(Default)]
+struct Read {
+    /// Whether one said something.
+    is_news: bool,
+    /// Whether one was none.
+    is_bad: bool,
+    /// Whether other groups may be in the list than before.
+    has_other_groups: bool,
+    /// Whether a whole report is needed.
+    asks: bool,
 }
 
 impl Heard {
@@ -46,17 +73,98 @@ impl Heard {
         Some(at + pause).filter(|until| now < *until)
     }
 
-    /// Reads a list that came then: whether other groups are in it than in the one before, if it is
-    /// a list. (It costs as much where it is none.)
-    fn reads(&mut self, child: &str, bytes: &[u8], came: Instant, now: Instant) -> Option<bool> {
-        let said = read(child, bytes, came);
-        let agents = said.as_ref().map_or(0, |said| said.list.len());
-        let pause = EACH * agents.max(bytes.len() / BYTES) as u32 / 4;
-        (self.read, self.waits) = (Some((now, pause)), None);
+    /// Nothing waits any more, and what changes that is no use.
+    fn forgets_what_waits(&mut self) {
+        self.waits.clear();
+        self.base = None;
+    }
+
+    /// Puts a report behind what waits, or in its place. Whether there is room for it.
+    fn puts(&mut self, bytes: &[u8], now: Instant) -> bool {
+        let is_whole = reports::parts(bytes).is_none();
+        if is_whole {
+            self.waits.clear();
+            self.asked = false;
+        }
+        // (a whole one is the first of them)
+        let changes = self.waits.iter().filter(|it| reports::parts(&it.1).is_some());
+        let taken: usize = changes.map(|it| it.1.len()).sum();
+        let is_little = self.waits.len() < WAITING && taken + bytes.len() <= REPORT_BYTES;
+        let has_room = is_whole || is_little;
+        if has_room {
+            self.waits.push_back((now, bytes.into()));
+        }
+        has_room
+    }
+
+    /// Reads what waits, as much as may be read at once. (It costs as much where it is none.)
+    fn reads(&mut self, child: &str, now: Instant) -> Read {
+        let (mut read, mut work) = (Read::default(), 0);
+        while work < AT_ONCE {
+            let Some((came, bytes)) = self.waits.pop_front() else { break };
+            work += match reports::parts(&bytes) {
+                None => self.reads_whole(child, &bytes, came, &mut read),
+                Some((base, changes)) if self.is_base(base) => {
+                    self.reads_changes(changes, &bytes, came, &mut read)
+                }
+                Some(_) => {
+                    // (what there is stays)
+                    read.asks = true;
+                    0
+                }
+            };
+        }
+        self.read = Some((now, EACH * work as u32 / 4));
+        read
+    }
+
+    /// Reads a list: how much work that was, counted in agents.
+    fn reads_whole(&mut self, child: &str, bytes: &[u8], came: Instant, read: &mut Read) -> usize {
+        self.base = None;
+        let Some(said) = whole(child, bytes, came) else {
+            read.is_bad = true;
+            return bytes.len() / BYTES;
+        };
         let old = self.said.as_ref().map_or(&[][..], |said| &said.list);
-        let is_other = !groups_of(old).eq(groups_of(&said.as_ref()?.list));
-        self.said = said;
-        Some(is_other)
+        read.has_other_groups |= !groups_of(old).eq(groups_of(&said.list));
+        let work = said.list.len().max(bytes.len() / BYTES);
+        self.is_now(said, bytes, read);
+        work
+    }
+
+    /// Whether changes of the report of this name can be read.
+    fn is_base(&self, base: &[u8]) -> bool {
+        self.said.is_some() && self.base.is_some_and(|it| it == *base)
+    }
+
+    /// Reads what changed in the list, in the same way.
+    fn reads_changes(
+        &mut self,
+        changes: &[u8],
+        bytes: &[u8],
+        came: Instant,
+        read: &mut Read,
+    ) -> usize {
+        self.base = None;
+        let changes = Changes::read(changes, bound);
+        let said = self.said.take_if(|said| changes.as_ref().is_some_and(|it| said.may_be(it)));
+        let (Some(changes), Some(said)) = (changes, said) else {
+            read.is_bad = true;
+            return bytes.len() / BYTES;
+        };
+        read.has_other_groups |= changes.may_change_groups();
+        let work = said.list.len() / LOOKS + changes.agents().max(bytes.len() / BYTES);
+        match said.changed(&changes, came) {
+            Some(said) => self.is_now(said, bytes, read),
+            None => read.is_bad = true,
+        }
+        work
+    }
+
+    fn is_now(&mut self, said: Said, report: &[u8], read: &mut Read) {
+        self.base = said.is_all.then(|| reports::id(report));
+        self.said = Some(said);
+        read.is_news = true;
     }
 }
 
@@ -71,79 +179,138 @@ struct Said {
     at: Instant,
     depth: u32,
     list: Vec<Seen>,
+    /// The number that is furthest ahead of the child's in it.
+    ahead: u64,
+    /// Whether nothing that came was left out; and how many bytes its texts have.
+    is_all: bool,
+    bytes: usize,
 }
 
-/// The list that this child sent, if it is one, with the child first. Of the others it is what
-/// agents further below say, so what cannot be of a tree is left out, and the child is not blamed
-/// for it: a name that is none or is there before, an agent whose parent is not, and what is too
-/// deep.
-fn read(child: &str, bytes: &[u8], now: Instant) -> Option<Said> {
+/// The list that this child sent, if it is one.
+fn whole(child: &str, bytes: &[u8], now: Instant) -> Option<Said> {
     // (a list of very many would take much more memory than its bytes)
     let many = bytes.iter().filter(|byte| **byte == b'{').count();
     let is_short = bytes.len() <= REPORT_BYTES && many <= AGENTS;
     let list = is_short.then(|| serde_json::from_slice(bytes).ok());
-    let mut list: Vec<Seen> = list.flatten()?;
-    list.first_mut().filter(|first| first.name == child)?.parent.clear();
-    let (mut depths, mut is_deeper) = (BTreeMap::from([(String::new(), 0)]), false);
-    let mut deepest = 0;
-    list.retain(|seen| {
-        let Some(depth) = depths.get(&seen.parent).map(|above| above + 1) else { return false };
-        let is_new = crate::config::is_name(&seen.name) && !depths.contains_key(&seen.name);
-        is_deeper |= is_new && depth > DEPTH;
-        // (no other one is below nobody)
-        depths.remove("");
-        let is_taken = is_new && depth <= DEPTH;
-        if is_taken {
-            deepest = deepest.max(depth);
-            depths.insert(seen.name.clone(), depth);
-        }
-        is_taken
-    });
-    list[0].cut |= is_deeper;
-    let is_list = |it: &[String]| it.len() <= GROUPS && it.iter().all(|it| is_group(it));
-    list.iter_mut().filter(|it| !is_list(&it.groups)).for_each(|it| it.groups.clear());
-    let is_long = |it: &&mut Seen| it.why.len() > WHY;
-    list.iter_mut().filter(is_long).for_each(|it| it.why = it.why.chars().take(WHY).collect());
-    // (an agent of before says none, nor what those below it say)
-    let all = list.iter().flat_map(|seen| [seen.sequence, seen.ahead]);
-    list[0].ahead = furthest(list[0].sequence, all);
-    // (of those that are not in it nobody knows how deep they are)
-    let least = if list.iter().any(|it| it.cut) { DEEP } else { 0 };
-    Some(Said { at: now, depth: deepest.max(least), list })
+    let list: Vec<Seen> = list.flatten()?;
+    list.first().filter(|first| first.name == child)?;
+    Said::new(list, now)
+}
+
+/// What an agent says of itself is only so long.
+fn bound(seen: &mut Seen) {
+    if seen.groups.len() > GROUPS || !seen.groups.iter().all(|it| is_group(it)) {
+        seen.groups.clear();
+    }
+    if seen.why.len() > WHY {
+        seen.why = seen.why.chars().take(WHY).collect();
+    }
+}
+
+impl Said {
+    /// What a list says, with the child first. Of the others it is what agents further below say,
+    /// so what cannot be of a tree is left out, and the child is not blamed for it: a name that is
+    /// none or is there before, an agent whose parent is not, and what is too deep.
+    fn new(mut list: Vec<Seen>, now: Instant) -> Option<Said> {
+        list.first_mut()?.parent.clear();
+        let (mut depths, mut is_deeper) = (BTreeMap::from([(String::new(), 0)]), false);
+        let (mut deepest, count) = (0, list.len());
+        list.retain(|seen| {
+            let Some(depth) = depths.get(&seen.parent).map(|above| above + 1) else { return false };
+            let is_new = crate::config::is_name(&seen.name) && !depths.contains_key(&seen.name);
+            is_deeper |= is_new && depth > DEPTH;
+            // (no other one is below nobody)
+            depths.remove("");
+            let is_taken = is_new && depth <= DEPTH;
+            if is_taken {
+                deepest = deepest.max(depth);
+                depths.insert(seen.name.clone(), depth);
+            }
+            is_taken
+        });
+        list.first_mut()?.cut |= is_deeper;
+        list.iter_mut().for_each(bound);
+        // (an agent of before says none, nor what those below it say)
+        let all = list.iter().flat_map(|seen| [seen.sequence, seen.ahead]);
+        let ahead = furthest(list.first()?.sequence, all);
+        // (of those that are not in it nobody knows how deep they are)
+        let least = if list.iter().any(|it| it.cut) { DEEP } else { 0 };
+        let groups = |it: &Seen| it.groups.iter().map(String::len).sum::<usize>();
+        let bytes = |it: &Seen| it.name.len() + it.parent.len() + it.why.len() + groups(it);
+        let bytes = list.iter().map(bytes).sum();
+        let (depth, is_all) = (deepest.max(least), list.len() == count);
+        Some(Said { at: now, depth, list, ahead, is_all, bytes })
+    }
+
+    /// Whether these changes may be of this list: else it would be much longer than one may be.
+    fn may_be(&self, changes: &Changes) -> bool {
+        changes.agents() <= 2 * AGENTS && self.bytes + changes.bytes() <= 2 * REPORT_BYTES
+    }
+
+    /// The list with these changes, unless it is too long.
+    fn changed(self, changes: &Changes, now: Instant) -> Option<Said> {
+        let millis = now.saturating_duration_since(self.at).as_millis() as u64;
+        let (list, is_all) = changes.apply(self.list, millis);
+        // (what is less than a millisecond counts at the next one)
+        let said = Said::new(list, self.at + Duration::from_millis(millis))?;
+        let said = Said { is_all: said.is_all && is_all, ..said };
+        (said.list.len() <= AGENTS).then_some(said)
+    }
 }
 
 impl Below {
-    /// Takes a list that this child sent. Whether it is one, as far as it is read: what comes too
-    /// soon after another one is read [later](Below::reads).
+    /// Takes a report that this child sent. Whether it is one, as far as it is read: what comes too
+    /// soon after another one is read [later](Below::reads), and what changed since a report that
+    /// was not read is not read at all.
     pub fn heard(&mut self, child: &str, bytes: &[u8], now: Instant) -> bool {
         let it = self.0.entry(child.into()).or_default();
-        if it.rests(now).is_none() {
-            return self.hears(child, bytes, now, now);
+        if bytes.len() > REPORT_BYTES {
+            it.forgets_what_waits();
+            return false;
+        } else if !it.puts(bytes, now) {
+            self.asks(child);
+        } else if it.rests(now).is_none() {
+            return !self.hears(child, now).is_bad;
         }
-        let is_short = bytes.len() <= REPORT_BYTES;
-        it.waits = is_short.then(|| (now, bytes.into()));
-        is_short
+        true
     }
 
-    /// Reads what waits, where its time has come: of which children. What is no list is left out.
+    /// Reads what waits, where its time has come: of which children there is news. What is no
+    /// report is left out.
     pub fn reads(&mut self, now: Instant) -> Vec<String> {
-        let due = self.0.iter_mut().filter(|(_, it)| it.rests(now).is_none());
-        let due = due.filter_map(|(child, it)| Some((child.clone(), it.waits.take()?)));
-        let mut read: Vec<_> = due.collect();
-        read.retain(|(child, (came, bytes))| self.hears(child, bytes, *came, now));
-        read.into_iter().map(|(child, _)| child).collect()
+        let is_due = |it: &Heard| !it.waits.is_empty() && it.rests(now).is_none();
+        let due = self.0.iter().filter(|(_, it)| is_due(it)).map(|(child, _)| child.clone());
+        let mut due: Vec<_> = due.collect();
+        due.retain(|child| self.hears(child, now).is_news);
+        due
     }
 
     /// When something that waits is to be read.
     pub fn reads_at(&self, now: Instant) -> Option<Instant> {
-        let waits = self.0.values().filter(|it| it.waits.is_some());
+        let waits = self.0.values().filter(|it| !it.waits.is_empty());
         waits.map(|it| it.rests(now).unwrap_or(now)).min()
     }
 
-    fn hears(&mut self, child: &str, bytes: &[u8], came: Instant, now: Instant) -> bool {
-        let read = self.0.entry(child.into()).or_default().reads(child, bytes, came, now);
-        self.1 |= read.unwrap_or(false);
-        read.is_some()
+    fn hears(&mut self, child: &str, now: Instant) -> Read {
+        let read = self.0.entry(child.into()).or_default().reads(child, now);
+        self.1 |= read.has_other_groups;
+        if read.asks {
+            self.asks(child);
+        }
+        read
+    }
+
+    /// Asks a child for a whole report, unless it was asked and none has come since.
+    fn asks(&mut self, child: &str) {
+        if let Some(it) = self.0.get_mut(child).filter(|it| !it.asked) {
+            it.asked = true;
+            self.3.push(child.into());
+        }
+    }
+
+    /// Who is to be asked for a whole report now.
+    pub fn asked(&mut self) -> Vec<String> {
+        std::mem::take(&mut self.3)
     }
 
     /// What the children said.
@@ -160,7 +327,7 @@ impl Below {
     /// its own is wrong, it may count what is right as ahead.)
     pub fn numbers(&self, child: &str) -> [u64; 2] {
         let said = self.0.get(child).and_then(|it| it.said.as_ref());
-        said.map_or([0; 2], |said| [said.list[0].sequence, said.list[0].ahead])
+        said.map_or([0; 2], |said| [said.list[0].sequence, said.ahead])
     }
 
     /// The same number, if the child has said anything.
@@ -267,10 +434,10 @@ impl Below {
 
     /// What is known of a child and those below it.
     fn list(&self, child: &ChildStatus, parent: &str, now: Instant) -> Vec<Seen> {
-        let nothing = || (now, vec![Seen { name: child.name.clone(), ..Seen::default() }]);
+        let nothing = || (now, vec![Seen { name: child.name.clone(), ..Seen::default() }], 0);
         let said = self.0.get(&child.name).and_then(|it| it.said.as_ref());
-        let said = said.map(|said| (said.at, said.list.clone()));
-        let (at, mut list) = said.unwrap_or_else(nothing);
+        let said = said.map(|said| (said.at, said.list.clone(), said.ahead));
+        let (at, mut list, ahead) = said.unwrap_or_else(nothing);
         let age = now.saturating_duration_since(at).as_millis() as u64;
         for seen in &mut list {
             seen.age = seen.age.saturating_add(age);
@@ -281,17 +448,48 @@ impl Below {
             (seen.applied, seen.files) = (seen.applied * is_of_now, seen.files * is_of_now);
         }
         (list[0].parent, list[0].connected) = (parent.into(), child.connected);
+        list[0].ahead = ahead;
         list
     }
 
     /// The bytes to send to the parent: the list, cut where it would be too long.
     pub fn report(&self, status: &Status, now: Instant) -> Vec<u8> {
-        let (mut list, mut most) = (self.tree(status, now), AGENTS);
+        self.cut(self.tree(status, now)).1
+    }
+
+    /// The bytes to send to the parent, which was told this: what changed, where it reads that on
+    /// this connection and it is shorter; else the list.
+    pub fn report_to(
+        &self,
+        told: &mut Told,
+        connection: Option<u64>,
+        status: &Status,
+        now: Instant,
+    ) -> Vec<u8> {
+        let list = self.tree(status, now);
+        let is_short = list.len() <= AGENTS;
+        let changes = connection.filter(|_| is_short);
+        if let Some(bytes) = changes.and_then(|it| told.changes(it, &list, now)) {
+            return bytes;
+        }
+        let count = list.len();
+        let (list, bytes) = self.cut(list);
+        *told = Told::default();
+        // (of one that was cut it is not known which agents go into the next one)
+        if let Some(connection) = connection.filter(|_| list.len() == count) {
+            told.tells(connection, list, &bytes, now);
+        }
+        bytes
+    }
+
+    /// As much of a list as goes into a report, and that.
+    fn cut(&self, mut list: Vec<Seen>) -> (Vec<Seen>, Vec<u8>) {
+        let mut most = AGENTS;
         loop {
             list = share(list, most);
             let bytes = rignoldactl::report(&list);
             if bytes.len() <= REPORT_BYTES {
-                return bytes;
+                return (list, bytes);
             }
             most = REPORT_BYTES / 10 * 9 / (bytes.len() / list.len() + 1);
         }

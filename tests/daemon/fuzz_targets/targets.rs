@@ -11,6 +11,7 @@ use rignoldactl::{ChildStatus, Request, Response, Status};
 use rignoldad::config::Config;
 use rignoldad::control::{self, Asked, Server};
 use rignoldad::serve::Ticket;
+use rignoldad::reports;
 use rignoldad::tree::Below;
 use std::cell::RefCell;
 use std::collections::BTreeMap;
@@ -94,6 +95,7 @@ fn written(message: &Message) -> Vec<u8> {
         Message::Lacks(label) => wire::lacks(*label),
         Message::Ack(label) => wire::ack(*label),
         Message::Report(json) => wire::report(json),
+        Message::ReportRequest => wire::REPORT_REQUEST.to_vec(),
         Message::Goodbye => wire::GOODBYE.to_vec(),
         other => panic!("{other:?}"),
     }
@@ -148,11 +150,22 @@ fn told(chooses: &mut Parents, candidate: usize, way: Way) {
     assert_eq!(read, Ok(Some(Message::Way(says))));
 }
 
-/// What an agent tells its parent of a report is one as well.
+/// What an agent tells its parent of a report is one as well, and of changes behind another one.
 fn heard(json: &[u8], now: Instant) {
-    let mut below = Below::default();
-    if !below.heard("child", json, now) {
-        return;
+    let base = br#"[{"name":"child"},{"name":"leaf","parent":"child"}]"#;
+    let changes = [b"C", &reports::id(base)[..], json].concat();
+    passed_on(&[json], now);
+    passed_on(&[base, &changes], now);
+}
+
+/// Reports come from a child, and what follows is passed on.
+fn passed_on(reports: &[&[u8]], now: Instant) {
+    let (mut below, mut now) = (Below::default(), now);
+    for report in reports {
+        if !below.heard("child", report, now) {
+            return;
+        }
+        now += Duration::from_secs(1);
     }
     let children =
         ["child", "other"].map(|name| ChildStatus { name: name.into(), ..ChildStatus::default() });
