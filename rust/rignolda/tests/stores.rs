@@ -1,7 +1,9 @@
 //! Agents whose links lie in a store in memory: what is lost, spoiled, late or old there, and what
 //! each agent received then, judged by C, E and M of the links.
 use rignolda::net::wire::{self, Hello, OLD};
-use rignolda::net::{Body, Call, Children, Line, Parent, Peers, Setup, Turn, Way, Worker, LOST};
+use rignolda::net::{
+    Body, Call, Children, Line, Parent, Peers, ReportKind, Setup, Turn, Way, Worker, LOST,
+};
 use std::collections::BTreeMap;
 use std::io::{self, ErrorKind, Read, Write};
 use std::sync::Arc;
@@ -384,7 +386,9 @@ fn items_travel_through_a_store() {
     );
     assert_eq!(root.relay().least_backlog(), Some(0));
     assert_eq!(net.agents["b"].peers.parent().unwrap().0.to_string(), "a");
-    // (a report comes up beside it)
+    // (a report comes up beside it, and a whole one, since some of those that are set are not seen)
+    let kinds = ["b", "root"].map(|name| net.agents[name].peers.report_kind());
+    assert_eq!(kinds, [Some(ReportKind::Whole), None]);
     assert!(net.report("b", b"well"));
     assert!(!net.report("root", b"well"));
     net.steps(50);

@@ -499,3 +499,58 @@ fn a_flood_of_changes_has_all_asked_for() {
         assert_eq!(known(&parent, later).0[1].gaps, 0);
     }
 }
+
+/// A tree of 120 agents takes a change: all that its reports come to, as lists and as changes.
+/// (Each leaf reports once, and who is above it after each third report that came.)
+#[test]
+fn at_120_agents_a_change_costs_a_seventh() {
+    let mut bytes = [0; 2];
+    for (is_new, bytes) in [false, true].into_iter().zip(&mut bytes) {
+        let mut tree = BTreeMap::<String, (Status, Below, Told, usize)>::new();
+        let mut add = |name: &str, below: &[String]| {
+            let names: Vec<&str> = below.iter().map(String::as_str).collect();
+            let status = Status { version: "0.7.0".into(), applies: true, ..status(name, &names) };
+            tree.insert(name.into(), (status, Below::default(), Told::default(), 0));
+        };
+        let named = |of: &str, count| (1..=count).map(|at| format!("{of}{at}")).collect::<Vec<_>>();
+        let mut paths = Vec::new();
+        for hub in named("hub", 3) {
+            let racks = named(&format!("{hub}-"), 3);
+            add(&hub, &racks);
+            for rack in racks {
+                let hosts = named(&format!("{rack}-"), 12);
+                add(&rack, &hosts);
+                for host in hosts {
+                    add(&host, &[]);
+                    paths.push([host, rack.clone(), hub.clone()]);
+                }
+            }
+        }
+        assert_eq!(tree.len(), 120);
+        let mut now = Instant::now();
+        for number in 1_796_057_854_401_288..1_796_057_854_401_291 {
+            *bytes = 0;
+            for path in &paths {
+                let mut sent: Option<(String, Vec<u8>)> = None;
+                for name in path {
+                    now += Duration::from_millis(40);
+                    let (status, below, told, came) = tree.get_mut(name).unwrap();
+                    if let Some((child, report)) = sent.take() {
+                        assert!(below.heard(&child, &report, now), "{child}");
+                        *came += 1;
+                        if *came % 3 != 0 {
+                            break;
+                        }
+                    }
+                    let numbers = [&mut status.sequence, &mut status.applied, &mut status.files];
+                    numbers.into_iter().for_each(|it| *it = number);
+                    (status.ahead, status.changed, status.digest) = (number, number, number << 7);
+                    let report = below.report_to(told, is_new.then_some(1), status, now);
+                    *bytes += report.len();
+                    sent = Some((name.clone(), report));
+                }
+            }
+        }
+    }
+    assert!(bytes[1] * 7 < bytes[0], "{bytes:?}");
+}
