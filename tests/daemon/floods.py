@@ -3,7 +3,9 @@ import contextlib
 import ctypes
 import functools
 import multiprocessing
+import pathlib
 import resource
+import select
 import socket
 import ssl
 import struct
@@ -26,6 +28,8 @@ KINDS = {"keys": "stranger", "keys of a child": "evil", "records of a byte": "ev
 # A prime one less than which is divisible by 2 to the power of 300: a square root modulo it costs a
 # fifth of a second.
 PRIME = ((1 << 360) + 347 << 300) + 1
+# By one of which it is divisible by 2 to the power of 600, most of a second.
+HARDER = ((1 << 60) + 45 << 600) + 1
 # How long a flood goes on where nobody ends it.
 LONG = USUAL * PATIENCE * 4
 OPENSSL = ctypes.CDLL("libssl.so.3")
@@ -53,11 +57,11 @@ def der(tag, *parts):
     return bytes([tag]) + length + inside
 
 
-def hard_certificate():
+def hard_certificate(modulo):
     """A certificate that nobody signed, whose key is a compressed point on a curve of its own."""
     curves, name = b"\x2a\x86\x48\xce\x3d", der(0x30, der(0x31, der(0x30, der(
         6, b"\x55\x04\x03"), der(12, b"x"))))
-    point, prime, one = b"\2" + bytes(83), der(2, PRIME.to_bytes(83, "big")), der(2, b"\1")
+    point, prime, one = b"\2" + bytes(83), der(2, modulo.to_bytes(83, "big")), der(2, b"\1")
     curve = der(0x30, one, der(0x30, der(6, curves, b"\1\1"), prime),
                 der(0x30, der(4, b"\1"), der(4, b"\x31")), der(4, point), der(2, b"\7"))
     key = der(0x30, der(0x30, der(6, curves, b"\2\1"), curve), der(3, b"\0", point))
@@ -67,28 +71,35 @@ def hard_certificate():
                der(3, b"\0", der(0x30, one, one)))
 
 
-def hard(port, count=4):
-    """Clients from an address each that send certificates which are hard to read."""
+def hard_client(port, address, count, modulo=PRIME, timeout=1):
+    """A client from this address that is to send its certificates; and so many of them, which are
+    hard to read."""
     record = lambda kind, inside: b"\x16\3\3" + struct.pack(
         ">HBBH", len(inside) + 4, kind, 0, len(inside)) + inside
     extension = lambda kind, inside: struct.pack(">HH", kind, len(inside)) + inside
     more = b"".join([extension(10, b"\0\4\0\x1d\0\x17"), extension(11, b"\1\0"),
                      extension(13, b"\0\4\4\3\x08\4"), extension(0xff01, b"\0")])
     first = b"\3\3" + bytes(33) + b"\0\4\xc0\x2b\xc0\x2f\1\0" + struct.pack(">H", len(more))
-    one = hard_certificate()
-    chain = (b"\0" + struct.pack(">H", len(one)) + one) * 3
+    one = hard_certificate(modulo)
+    chain = (b"\0" + struct.pack(">H", len(one)) + one) * count
+    sock = socket.socket()
+    sock.settimeout(timeout)
+    sock.bind((address, 0))
+    sock.connect(("127.0.0.1", port))
+    sock.sendall(record(1, first + more))
+    seen = b""
+    while not seen.endswith(b"\x0e\0\0\0"):
+        seen += sock.recv(1 << 14) or b"\x0e\0\0\0"
+    return sock, record(11, b"\0" + struct.pack(">H", len(chain)) + chain)
+
+
+def hard(port, count=4):
+    """Clients from an address each that send certificates which are hard to read."""
     socks = []
     for at in during(LONG):
         with contextlib.suppress(OSError):
-            sock = socket.socket()
-            sock.settimeout(1)
-            sock.bind((f"127.8.0.{at % count + 1}", 0))
-            sock.connect(("127.0.0.1", port))
-            sock.sendall(record(1, first + more))
-            seen = b""
-            while not seen.endswith(b"\x0e\0\0\0"):
-                seen += sock.recv(1 << 14) or b"\x0e\0\0\0"
-            sock.sendall(record(11, b"\0" + struct.pack(">H", len(chain)) + chain))
+            sock, text = hard_client(port, f"127.8.0.{at % count + 1}", 3)
+            sock.sendall(text)
             socks = [*socks, sock][-50:]
         time.sleep(0.1)
 
@@ -246,6 +257,43 @@ def what_an_unknown_one_sends_costs_the_loop_nothing(tree):
         sure(until(tree["right"].up, pause=0.1), "who begins anew does not get in")
         whole, loop = spent()
         sure(loop < whole / 4, "the loop used", loop, "of", whole)
+
+
+def busy(agent):
+    """How many of its threads have done much of a handshake."""
+    count = 0
+    for task in pathlib.Path(f"/proc/{agent.process.pid}/task").iterdir():
+        with contextlib.suppress(OSError):
+            is_one = (task / "comm").read_text().startswith("handshakes")
+            count += is_one and int((task / "schedstat").read_text().split()[0]) > 200_000_000
+    return count
+
+
+def comes_back(tree, child):
+    """Whether a child connects anew while all threads are at work for others of whom none ends."""
+    tree.is_well()
+    child.kill()
+    with contextlib.ExitStack() as stack:
+        # (a handshake has room for 36 of them: half a minute of a processor)
+        clients = [hard_client(tree.root.port, f"127.8.0.{at}", 36, HARDER, LONG)
+                   for at in range(1, 13)]
+        socks = [stack.enter_context(sock) for sock, _ in clients]
+        for sock, text in clients:
+            sock.sendall(text)
+        sure(until(lambda: busy(tree.root) >= 8), "they are not at work:", busy(tree.root))
+        child.start()
+        ended = lambda: any(select.select(socks, [], [], 0)[0])
+        is_up = until(lambda: ended() or child.up(), pause=0.05) and not ended()
+    # (what is under way for them goes on, though nobody wants it any more)
+    tree.root.restart()
+    child.restart()
+    return is_up
+
+
+@of_tree({"left": "root"}, secure)
+def a_child_comes_back_while_strangers_have_all_threads(tree, root, left):
+    # (on a slow machine one of them may have ended before)
+    sure(any(comes_back(tree, left) for _ in range(3)), left.text()[-500:])
 
 
 @of_tree({"left": "root"}, secure)

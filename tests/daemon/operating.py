@@ -10,7 +10,8 @@ import signal
 import subprocess
 import time
 
-from daemons import becomes, certify, counted, of_tree, patient, root_has, until, very_patient
+from daemons import (becomes, by_tls, certify, counted, of_tree, patient, root_has, until,
+                     very_patient)
 from programs import ran
 from protocol import Child, report
 from runner import sure
@@ -132,11 +133,12 @@ def a_probe_is_told_by_its_status_what_is_wrong(tree, root, left):
     sure(until(left.status), left.text())
     ends = lambda *words: left.run("status", *words).returncode
     sure([ends(), ends("--connected"), ends("--within", "1h")] == [0, 4, 4], left.run("status"))
-    # (a parent that refuses it only closes the connection)
+    # (a parent that refuses it says no more to whom it does not know)
     root.top["children"] = ["other"]
     root.start()
-    why = "closed it: why, its `status` and journal say, as where this is no child there"
+    why = "it refuses this agent: why, its `status` and journal say"
     sure(until(lambda: why in left.run("status").stdout), left.run("status"))
+    sure("children" not in left.text(), left.text())
     root.top["children"] = ["left"]
     root.restart()
     tree.is_well()
@@ -145,6 +147,67 @@ def a_probe_is_told_by_its_status_what_is_wrong(tree, root, left):
     sure("its last whole table came" in done.stderr and "name " in done.stdout, done)
     root.kill()
     sure(until(lambda: ends("--connected") == 4), left.run("status", "--connected"))
+
+
+@of_tree({"left": "root"}, by_tls, runs=False)
+def a_refused_child_says_why(tree, root, left):
+    """Each reason is in its status, its tree and its journal, and gone once it is taken."""
+    own, parents = left.tables["tls"], left.top["parents"]
+    other = certify(tree.home / "other", "left", authority="other")
+    has = {
+        "it refuses this agent: its `children` do not name it": {"children": ["other"]},
+        "it is set up to connect to this agent itself": {"children": [left.at()]},
+        "it has another name than this agent calls it": {
+            "parents": [f"other@127.0.0.1:{root.port}"]},
+        "the certificate of this agent has another name": {"tls": certify(tree.home, "left2")},
+        "the other end refuses this one: unknown authority": {
+            "tls": {**other, "authority": own["authority"]}},
+        "the other end refuses this one: certificate expired": {
+            "tls": certify(tree.home, "late", seconds=-60, more=",DNS:left")}}
+    for why, keys in has.items():
+        root.top["children"] = keys.get("children", ["left"])
+        left.top["parents"] = keys.get("parents", parents)
+        left.tables["tls"] = keys.get("tls", own)
+        root.restart()
+        left.restart()
+        said = lambda: left.run("status").stdout
+        sure(until(lambda: why in said()), why, said(), left.text()[-500:])
+        left.says(why)
+        if "tls" not in keys or "another name" in why:
+            sure(re.search(f"(?m)^refused by .*{why}", said()), why, said())
+            sure(why in left.run("tree").stdout, why, left.run("tree"))
+    root.top["children"], left.top["parents"] = ["left"], parents
+    left.tables["tls"] = own
+    left.restart()
+    tree.is_well()
+    says = left.run("status").stdout + left.run("tree").stdout
+    sure("refused by" not in says and "refuses" not in says, says)
+
+
+@of_tree({"left": "root", "twin": "root"}, by_tls, runs=False)
+def each_of_two_with_one_name_says_so(tree, root, left, twin):
+    twin.top["name"], twin.tables["tls"] = "left", left.tables["tls"]
+    root.top["children"] = ["left"]
+    tree.start()
+    why = "closed the parent: another process with the name of this agent has connected to it"
+    left.says(why)
+    twin.says(why)
+    root.says("clash left: two processes have this name")
+
+
+@of_tree({"left": "root", "leaf": "root"}, lambda tree: tree["leaf"].below(tree["left"]), by_tls,
+         runs=False)
+def who_is_refused_by_one_of_its_parents_says_so_to_the_root(tree, root, left, leaf):
+    root.top["children"] = ["left"]
+    tree.start()
+    leaf.becomes(parent="left")
+    why = "refused by root: it refuses this agent: its `children` do not name it"
+    row = lambda: [line for line in root.run("tree").stdout.splitlines() if "leaf " in line]
+    sure(until(lambda: why in row()[0]), row(), leaf.text()[-500:])
+    sure(leaf.said("its `children` do not name it") == 1, leaf.text())
+    root.ask("child", "add", "leaf")
+    leaf.becomes(parent="root", refusals=[])
+    sure(until(lambda: why not in row()[0]), row())
 
 
 @of_tree({}, root_has(round="1h"))

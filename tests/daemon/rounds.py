@@ -10,6 +10,7 @@ import contextlib
 import functools
 import gzip
 import hashlib
+import itertools
 import pathlib
 import random
 import shutil
@@ -19,7 +20,8 @@ import tempfile
 import time
 
 from blocked import preload
-from daemons import HOME, Tree, becomes, chain, of_tree, root_has, until, very_patient
+from daemons import (HOME, Tree, becomes, by_tls, chain, of_tree, root_has, until,
+                     very_patient)
 from memory import write_over
 from protocol import listener, look, take_hello
 from relay import between, turn
@@ -78,6 +80,26 @@ def the_last_release_and_this_one_make_a_tree(tree):
             becomes(lambda: [it.status().get("way") for it in agents], whole, agent.name)
         tree.root.ask("round")
         tree.is_well()
+
+
+@of_tree({"left": "root"}, by_tls, runs=False, needs=lacks_last)
+def the_last_release_is_refused_as_before(tree, root, left):
+    """It takes the same for the end of the connection as from a parent of its own release."""
+    said = {}
+    for above, below in itertools.product((last_release(), None), repeat=2):
+        root.program, left.program = above, below
+        root.top["children"] = ["other"]
+        root.restart()
+        left.restart()
+        refused = lambda: root.status().get("refused", 0)
+        sure(until(lambda: refused() > 2), root.text()[-500:])
+        said[above is None, below is None] = left.status()["no_parent"]
+        root.top["children"] = ["left"]
+        root.reload()
+        tree.is_well()
+    sure(said[False, False] == said[True, False] != "", said)
+    sure(said[False, True] == "it refuses this agent: why, its `status` and journal say", said)
+    sure(said[True, True] == "it refuses this agent: its `children` do not name it", said)
 
 
 def passed(tree, relays, act=lambda: None):

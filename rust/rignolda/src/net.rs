@@ -21,6 +21,7 @@ mod error;
 mod origin;
 pub mod parents;
 mod peers;
+mod refusal;
 mod relay;
 #[cfg(unix)]
 pub mod serve;
@@ -34,6 +35,7 @@ pub use parents::{ParentError, Parents, Way};
 pub use peers::{
     Call, ChildError, Children, Fault, Handler, Line, Parent, Peers, ReportKind, Setup, Whom,
 };
+pub use refusal::Refusal;
 pub use relay::{Came, Link, Relay};
 pub use store::{Store, Turn, Worker, LOST};
 pub use turns::Turns;

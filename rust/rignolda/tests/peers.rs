@@ -1,6 +1,8 @@
 //! Agents over lines in memory: who connects to whom, what is said first, and who is taken.
 use rignolda::net::wire::{self, Expect, Hello, Message, FIRST, OLD, VERSION};
-use rignolda::net::{Body, ChildError, Children, Line, Origin, Parent, Peers, Setup, Way};
+use rignolda::net::{
+    Body, ChildError, Children, Line, Origin, Parent, Peers, Refusal, Setup, Shown, Way,
+};
 use std::cell::RefCell;
 use std::collections::{BTreeMap, VecDeque};
 use std::io::{self, Error, ErrorKind, Read, Write};
@@ -26,6 +28,7 @@ struct Pipe {
 struct End {
     other: String,
     origin: Origin,
+    shown: Shown,
     from: Rc<RefCell<Pipe>>,
     to: Rc<RefCell<Pipe>>,
 }
@@ -36,6 +39,7 @@ fn line(one: &str, two: &str) -> (End, End) {
     let first = End {
         other: two.into(),
         origin: Origin::Here,
+        shown: Shown::Nothing,
         from: Rc::clone(&up),
         to: Rc::clone(&down),
     };
@@ -44,6 +48,7 @@ fn line(one: &str, two: &str) -> (End, End) {
         End {
             other: one.into(),
             origin: Origin::Here,
+            shown: Shown::Nothing,
             from: down,
             to: up,
         },
@@ -93,6 +98,10 @@ impl Line for End {
     fn origin(&self) -> Origin {
         self.origin
     }
+
+    fn shown(&self) -> Shown {
+        self.shown
+    }
 }
 
 struct Agent {
@@ -108,6 +117,8 @@ struct Net {
     made: u64,
     /// Those that act in only one of this many steps.
     slow: BTreeMap<String, u64>,
+    /// What each end of a line has shown.
+    shown: Shown,
 }
 
 fn parent(name: &str, address: Option<&str>) -> Parent<String> {
@@ -145,6 +156,7 @@ impl Net {
             lives: 0,
             made: 0,
             slow: BTreeMap::new(),
+            shown: Shown::Nothing,
         };
         setups.into_iter().for_each(|setup| net.start(setup));
         net
@@ -186,7 +198,8 @@ impl Net {
                 let agent = self.agent(&name);
                 agent.peers.next_call(now, &mut agent.said)
             } {
-                let (here, there) = line(&name, &call.address);
+                let (mut here, mut there) = line(&name, &call.address);
+                (here.shown, there.shown) = (self.shown, self.shown);
                 let answers = self.agents.get_mut(&call.address);
                 let is_there = answers.is_some();
                 if let Some(other) = answers {
@@ -236,9 +249,9 @@ impl Net {
 
     /// The same, from there.
     fn stranger_at(&mut self, at: Origin, to: &str, certificate: &str, says: &[u8]) -> End {
-        let (now, agent) = (self.now, self.agent(to));
+        let (now, shown, agent) = (self.now, self.shown, self.agent(to));
         let (here, mut there) = line(certificate, to);
-        there.origin = at;
+        (there.origin, there.shown) = (at, shown);
         agent.peers.accept(there, now, &mut agent.said);
         here.to.borrow_mut().bytes.extend(says);
         here
@@ -363,7 +376,12 @@ fn whoever_is_somebody_else_is_refused() {
             "its certificate has another name",
         ),
         // (one that is connected to does not connect itself, and a child is no parent)
-        ("a", "b", hello("b", "a"), "its name is none of a child"),
+        (
+            "a",
+            "b",
+            hello("b", "a"),
+            "this agent is set up to connect to it",
+        ),
         ("b", "a", hello("a", "b2"), "it means another agent"),
         (
             "b",
@@ -564,6 +582,50 @@ fn those_of_one_origin_drive_out_each_other_and_nobody_else() {
 }
 
 #[test]
+fn who_was_a_child_before_is_driven_out_by_nobody_who_is_unknown() {
+    let mut net = path([false, false]);
+    net.agents.remove("a");
+    net.shown = Shown::Certificate;
+    let place = |at: usize| Origin::V4([127, 1, (at >> 8) as u8, at as u8]);
+    let (home, elsewhere) = (Origin::V4([127, 0, 0, 1]), Origin::V4([127, 0, 0, 2]));
+    // whether a child is still there that says nothing, while others come from an address each
+    let stays = |net: &mut Net, from: Origin| {
+        net.shown = Shown::Nothing;
+        let end = net.stranger_at(from, "root", "a", b"");
+        let mut others = Vec::new();
+        for at in 0..500 {
+            others.push(net.stranger_at(place(at), "root", "a", &b"RGN"[..at % 2 * 3]));
+            net.steps(usize::from(at % 50 == 0));
+        }
+        let is_there = !end.from.borrow().closed;
+        is_there
+    };
+    let connects = |net: &mut Net, from: Origin, shown: Shown| {
+        net.shown = shown;
+        let child = net.stranger_at(from, "root", "a", &hello("a", "root"));
+        net.steps(20);
+        let relay = net.agent("root").peers.relay();
+        assert!(relay.child("a").unwrap().is_connected());
+        drop(child);
+        net.steps(2);
+    };
+    assert!(!stays(&mut net, home), "nobody knows it");
+    connects(&mut net, home, Shown::Nothing);
+    assert!(!stays(&mut net, home), "it has not proved its name");
+    connects(&mut net, home, Shown::Certificate);
+    assert!(stays(&mut net, home) && net.agent("root").peers.knows(&home));
+    // (for as long as it is a child, and at the place where it was last)
+    net.steps(500);
+    assert!(stays(&mut net, home));
+    connects(&mut net, elsewhere, Shown::Certificate);
+    assert!(stays(&mut net, elsewhere) && !stays(&mut net, home));
+    let (now, agent) = (net.now, net.agent("root"));
+    agent.peers.remove("a", now, &mut agent.said).unwrap();
+    net.steps(CHECKS as usize);
+    assert!(!net.agent("root").peers.knows(&elsewhere));
+}
+
+#[test]
 fn whoever_waits_is_read_although_others_are_always_ready() {
     let mut net = path([false, false]);
     net.agents.remove("a");
@@ -749,13 +811,268 @@ fn a_look_is_answered_with_the_way_and_changes_no_link() {
     assert_eq!(relay.child("b").unwrap().connections, before);
     assert!(relay.child("b").unwrap().is_connected());
     assert_eq!(net.agent("a").peers.refused(), 0);
-    // (who is refused learns the version, and no name)
+    // (who has shown no certificate learns the version, and no name)
     let end = net.stranger("a", "x", &hello_2("x", "a", 0).look());
     net.steps(2);
-    let said: Vec<u8> = end.from.borrow_mut().bytes.drain(..).collect();
-    assert_eq!(said, b"RGNL\x02");
+    assert_eq!(sent(&end), b"RGNL\x02");
     let why = "refused somewhere, which calls itself x: its name is none of a child";
     assert!(net.said("a", why));
+}
+
+/// The end of an agent of this name that an agent has called, and what it has said first.
+fn answers_as(net: &mut Net, agent: &str, name: &str) -> End {
+    let (now, shown, agent) = (net.now, net.shown, net.agent(agent));
+    let call = agent.peers.next_call(now, &mut agent.said).unwrap();
+    let (mut here, there) = line(agent.peers.name(), name);
+    here.shown = shown;
+    agent.peers.called(call, Ok(here), now, &mut agent.said);
+    there
+}
+
+/// Who is connected to, whose certificate it is, what it says, and why it is refused.
+type Case = (Vec<Setup<String>>, &'static str, Vec<u8>, Refusal);
+
+#[test]
+fn whoever_is_refused_is_told_why_as_far_as_it_has_shown_who_it_is() {
+    let any = || vec![setup("root", vec![], Children::Any)];
+    let named = |all: &[(&str, bool)]| vec![setup("root", vec![], children(all))];
+    let below = |name: &str| vec![setup("leaf", vec![parent(name, Some(name))], children(&[]))];
+    let look = |from: &str, to: &str| hello_2(from, to, 0).look();
+    let begins = |from: &str, to: &str| hello_2(from, to, 0).bytes();
+    let rows: [Case; 10] = [
+        (
+            named(&[("a", false)]),
+            "a",
+            look("a", "other"),
+            Refusal::OtherName,
+        ),
+        (
+            named(&[("a", false)]),
+            "x",
+            look("x", "root"),
+            Refusal::NoChild,
+        ),
+        (
+            named(&[("a", true)]),
+            "a",
+            look("a", "root"),
+            Refusal::Calls,
+        ),
+        (
+            named(&[("a", false)]),
+            "x",
+            look("a", "root"),
+            Refusal::Certificate,
+        ),
+        (any(), "root", look("root", "root"), Refusal::NoChild),
+        // (nobody learns of another name than its own who is a child, or who the agent is)
+        (
+            named(&[("a", false)]),
+            "x",
+            look("b", "root"),
+            Refusal::Certificate,
+        ),
+        (
+            named(&[("a", false)]),
+            "x",
+            look("a", "other"),
+            Refusal::Certificate,
+        ),
+        // (a parent that connects itself)
+        (below("root"), "x", begins("x", "leaf"), Refusal::NoParent),
+        (
+            below("root"),
+            "root",
+            begins("root", "leaf"),
+            Refusal::Calls,
+        ),
+        (
+            below("root"),
+            "root",
+            begins("root", "other"),
+            Refusal::OtherName,
+        ),
+    ];
+    for (setups, certificate, says, why) in rows {
+        let name = setups[0].name.clone();
+        for shown in [Shown::Nothing, Shown::Something, Shown::Certificate] {
+            let mut net = Net::new(setups.clone());
+            net.shown = shown;
+            let end = net.stranger(&name, certificate, &says);
+            net.step();
+            let told = match shown {
+                Shown::Certificate => why,
+                _ => Refusal::NotSaid,
+            };
+            assert_eq!(sent(&end), wire::refusal(told), "{why}: {shown:?}");
+            assert!(sent(&end).len() <= 7 && end.from.borrow().closed);
+        }
+        // (one that speaks version 1 alone knows none of these)
+        let mut net = Net::new(setups.clone());
+        net.shown = Shown::Certificate;
+        let end = net.stranger(&name, "x", &hello("x", &name));
+        net.step();
+        let is_taken = setups[0].children == Children::Any;
+        assert!(is_taken || sent(&end).is_empty(), "{:?}", sent(&end));
+    }
+}
+
+#[test]
+fn who_is_refused_says_why_once_and_until_it_is_not() {
+    let mut net = Net::new(vec![
+        setup("one", vec![], children(&[("other", false)])),
+        setup("two", vec![], children(&[("leaf", false)])),
+        setup(
+            "leaf",
+            vec![parent("one", Some("one")), parent("two", Some("two"))],
+            children(&[]),
+        ),
+    ]);
+    net.shown = Shown::Certificate;
+    net.steps(500);
+    let refusals = |net: &mut Net| -> Vec<(String, Refusal)> {
+        let all = net.agent("leaf").peers.refusals();
+        all.map(|(parent, why)| (parent.to_string(), why)).collect()
+    };
+    let words = |why: Refusal| format!("parent one: {why}");
+    let times = |net: &mut Net, why| {
+        let all = &net.agent("leaf").said.facts;
+        all.iter().filter(|it| **it == words(why)).count()
+    };
+    // (beside a parent that takes it, too: it is looked at again and again)
+    let parent_of = |net: &mut Net| net.agent("leaf").peers.parent().unwrap().0.to_string();
+    assert_eq!(parent_of(&mut net), "two");
+    let only = |why| vec![("one".to_string(), why)];
+    assert_eq!(refusals(&mut net), only(Refusal::NoChild));
+    net.steps(4_000);
+    assert_eq!(refusals(&mut net), only(Refusal::NoChild));
+    assert_eq!(times(&mut net, Refusal::NoChild), 1);
+    // another reason is said, and none once it is taken
+    let (now, called) = (net.now, children(&[("leaf", true)]));
+    let agent = net.agent("one");
+    agent
+        .peers
+        .set_up(setup("one", vec![], called), now, &mut agent.said);
+    net.steps(2_000);
+    assert_eq!(refusals(&mut net), only(Refusal::Calls));
+    assert_eq!(times(&mut net, Refusal::Calls), 1);
+    let now = net.now;
+    let agent = net.agent("one");
+    let named = children(&[("leaf", false)]);
+    agent
+        .peers
+        .set_up(setup("one", vec![], named), now, &mut agent.said);
+    net.steps(4_000);
+    assert_eq!(
+        (refusals(&mut net), parent_of(&mut net)),
+        (vec![], "one".into())
+    );
+    // who loses it for something else is refused no longer
+    net.agents.remove("one");
+    net.steps(2_000);
+    assert_eq!(refusals(&mut net), vec![]);
+}
+
+#[test]
+fn what_a_parent_says_in_place_of_a_reason_is_none() {
+    let not_said = Some(Refusal::NotSaid);
+    let rows: [(&[u8], Option<Refusal>); 8] = [
+        (b"RGNL\x02", not_said),
+        (b"RGNL\x02\xff\x02", Some(Refusal::NoChild)),
+        // (one of a later release)
+        (b"RGNL\x02\xff\xee", not_said),
+        (b"RGNL\x02\xff", None),
+        (b"RGNL\x02\xff\x02\x02", None),
+        (b"RGNL\x03", None),
+        (b"RGNL", None),
+        (b"RGND\x02\xff\x02", None),
+    ];
+    for (says, why) in rows {
+        let mut net = Net::new(vec![setup(
+            "leaf",
+            vec![parent("root", Some("root"))],
+            children(&[]),
+        )]);
+        let end = answers_as(&mut net, "leaf", "root");
+        end.to.borrow_mut().bytes.extend(says);
+        net.step();
+        assert!(!end.from.borrow().closed, "more may follow");
+        drop(end);
+        net.step();
+        let words = why.map_or("the other end closed it".into(), |it| it.to_string());
+        let peers = &net.agent("leaf").peers;
+        assert_eq!(peers.no_parent(), words, "{says:?}");
+        assert_eq!(peers.refusals().next().map(|it| it.1), why);
+    }
+}
+
+#[test]
+fn where_any_may_connect_one_too_many_is_told_so() {
+    let mut net = Net::new(vec![setup("root", vec![], Children::Any)]);
+    net.shown = Shown::Certificate;
+    let says = |net: &mut Net, name: &str| {
+        let end = net.stranger("root", name, &hello_2(name, "root", 9).bytes());
+        let (now, agent) = (net.now, net.agent("root"));
+        let ids: Vec<u64> = agent.peers.lines().map(|(id, ..)| id).collect();
+        agent.peers.read(ids, now, &mut agent.said);
+        agent.said.facts.clear();
+        sent(&end)
+    };
+    for at in 0..10_000 {
+        says(&mut net, &format!("child{at}"));
+    }
+    assert_eq!(says(&mut net, "child"), wire::refusal(Refusal::Full));
+    let again = says(&mut net, "child7");
+    assert!(again.starts_with(b"RGND"), "it is known already");
+}
+
+#[test]
+fn of_two_processes_with_one_name_each_learns_of_the_other() {
+    for (life, is_told) in [(99, false), (98, true)] {
+        let mut net = path([false, false]);
+        net.agents.remove("a");
+        net.shown = Shown::Certificate;
+        let first = net.stranger("root", "a", &hello_2("a", "root", 99).bytes());
+        net.steps(2);
+        let before = sent(&first).len();
+        let second = net.stranger("root", "a", &hello_2("a", "root", life).bytes());
+        net.steps(2);
+        let told = sent(&first)[before..] == wire::last_refusal(Refusal::Twin)[..];
+        assert!(first.from.borrow().closed && !second.from.borrow().closed);
+        assert_eq!(told, is_told);
+    }
+    // (and what the one before makes of that)
+    let mut net = Net::new(vec![setup(
+        "leaf",
+        vec![parent("root", Some("root"))],
+        children(&[]),
+    )]);
+    let end = answers_as(&mut net, "leaf", "root");
+    let answer = [
+        hello_2("root", "leaf", 0).look(),
+        wire::way(&way(0, &["root"])),
+    ]
+    .concat();
+    end.to.borrow_mut().bytes.extend(answer);
+    net.step();
+    let greeting = Hello {
+        label: 0,
+        ..hello_2("root", "leaf", 5)
+    };
+    end.to.borrow_mut().bytes.extend(greeting.bytes());
+    net.step();
+    assert!(net.said("leaf", "connected the parent root"));
+    let twin = wire::last_refusal(Refusal::Twin);
+    end.to.borrow_mut().bytes.extend(twin);
+    net.step();
+    assert!(!end.from.borrow().closed, "it is the beginning of a way");
+    drop(end);
+    net.step();
+    assert!(net.said("leaf", &format!("closed the parent: {}", Refusal::Twin)));
+    assert_eq!(
+        net.agent("leaf").peers.no_parent(),
+        Refusal::Twin.to_string()
+    );
 }
 
 /// A parent that connects itself is compared with the one that there is, before anything changes.

@@ -87,14 +87,15 @@ impl Handshakes {
         self.to.clone()
     }
 
-    /// Begins the steps whose turn it is, and ends the threads that had nothing to do for long.
-    pub fn go_on(&mut self, now: Instant) {
+    /// Begins the steps whose turn it is, and ends the threads that had nothing to do for long. Of
+    /// those who connected, some are known.
+    pub fn go_on(&mut self, now: Instant, is_known: impl Fn(&Origin) -> bool) {
         while let Ok(job) = self.asked.try_recv() {
             self.turns[usize::from(job.is_called)].add(job.origin, job, is_wanted);
         }
         self.free.retain(|(_, since)| now < *since + REST);
         for at in [0, 1] {
-            while let Some((origin, job)) = self.turns[at].next(now) {
+            while let Some((origin, job)) = self.turns[at].next(now, &is_known) {
                 if !is_wanted(&job) || !self.begin(job) {
                     self.turns[at].ended(origin, Duration::ZERO, now);
                 }

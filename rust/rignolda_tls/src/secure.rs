@@ -317,6 +317,10 @@ fn why(stream: &Stream, error: &Error) -> String {
         }
         "unexpected eof while reading" => "it closed the connection".into(),
         reason => match reason.split_once("alert ") {
+            Some((_, "unknown ca")) => format!("{REFUSES}: unknown authority"),
+            Some((_, "decrypt error")) => {
+                format!("{REFUSES}: wrong signature, as of another authority of the same name")
+            }
             Some((_, said)) => format!("{REFUSES}: {said}"),
             None => format!("TLS: {reason}"),
         },

@@ -126,7 +126,7 @@ fn dearest_turn(line: &mut Line, handshakes: &mut Handshakes) -> Duration {
     let mut dearest = Duration::ZERO;
     loop {
         let begun = used();
-        handshakes.go_on(Instant::now());
+        handshakes.go_on(Instant::now(), |_| false);
         handshakes.ended(Instant::now());
         let what = line.read(&mut [0; 9]);
         dearest = dearest.max(used() - begun);
@@ -198,7 +198,7 @@ fn who_can_show_its_name_gets_in_while_others_cost_much() {
     };
     loop {
         assert!(Instant::now() < end, "the honest one does not get in");
-        handshakes.go_on(Instant::now());
+        handshakes.go_on(Instant::now(), |_| false);
         handshakes.ended(Instant::now());
         lines.retain_mut(|line| !is_over(line));
         // (the attacks have begun where one of them is over)
@@ -233,7 +233,7 @@ fn a_line_that_is_left_is_closed_though_a_thread_has_it() {
     }
     // (whether its step waits, is under way or is done)
     drop(line);
-    handshakes.go_on(Instant::now());
+    handshakes.go_on(Instant::now(), |_| false);
     let mut other = match attack.join() {
         Ok(other) => other,
         // (it was closed before the attack could be sent)

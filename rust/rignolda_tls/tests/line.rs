@@ -110,8 +110,8 @@ fn refused(above: &Maker, below: &Maker) -> [String; 2] {
 #[test]
 fn both_ends_learn_why_there_is_no_line() {
     let folder = Folder::new("refused");
-    let (authority, strange) =
-        (certificate("authority", &[], None, 9), certificate("authority", &[], None, 9));
+    let [authority, strange, other] =
+        ["authority", "authority", "other"].map(|name| certificate(name, &[], None, 9));
     let sign = |name: &str, by: &Pair, days| {
         let pair = certificate(name, &[name], Some(by), days);
         maker(&folder.0, &format!("{name}{days}"), &pair, &authority.0)
@@ -122,7 +122,11 @@ fn both_ends_learn_why_there_is_no_line() {
     assert_eq!(below, "the other end refuses this one: certificate expired");
     let [above, below] = refused(&root, &sign("leaf", &strange, 9));
     assert_eq!(above, "its certificate is of another authority");
-    assert!(below.starts_with("the other end refuses this one: "), "{below}");
+    let said = "wrong signature, as of another authority of the same name";
+    assert_eq!(below, format!("the other end refuses this one: {said}"));
+    let [above, below] = refused(&root, &sign("leaf", &other, 9));
+    assert_eq!(above, "its certificate is of another authority");
+    assert_eq!(below, "the other end refuses this one: unknown authority");
     // (a parent whose authority the child does not know, and one whose time is over)
     let pair = certificate("leaf", &["leaf"], Some(&authority), 9);
     let distrusts = maker(&folder.0, "distrusts", &pair, &strange.0);

@@ -306,7 +306,7 @@ pub fn tree_text(list: &[Seen]) -> String {
     let mut rows = vec![row(head)];
     for (seen, depth) in list.iter().zip(depths(list)) {
         let state = match () {
-            () if !seen.connected && seen.sequence == 0 => "never heard of".into(),
+            () if !seen.connected && seen.sequence == 0 => "never heard of".to_owned(),
             () if !seen.connected => format!("away for {}", age(seen.age)),
             () if seen.failing > 0 && seen.why.is_empty() => format!("{} failing", seen.failing),
             () if seen.failing > 0 => format!("{} failing, {}", seen.failing, one_line(&seen.why)),
@@ -314,6 +314,10 @@ pub fn tree_text(list: &[Seen]) -> String {
             () if seen.stands_by => "stands by: another root is there".into(),
             () if seen.draining => "drains".into(),
             () => up(seen),
+        };
+        let state = match seen.connected && seen.failing == 0 && !seen.why.is_empty() {
+            true => format!("{state}, refused by {}", one_line(&seen.why)),
+            false => state,
         };
         let name = format!("{}{}", "  ".repeat(depth), seen.name);
         let lag = match seen.applied {
@@ -413,6 +417,7 @@ pub fn status_text(status: &Status) -> String {
         None if status.no_parent.is_empty() => fact("parent", &"not connected"),
         None => fact("parent", &format!("not connected: {}", plain(&status.no_parent))),
     }
+    status.refusals.iter().for_each(|why| fact("refused by", &plain(why)));
     let lacks = if status.is_rootless() { "no root: " } else { "" };
     fact("way", &format!("{lacks}{}, costs {}", status.way.join(" > "), status.cost));
     let other = if status.other_root.is_empty() { "another one" } else { &*status.other_root };

@@ -113,6 +113,8 @@ pub struct Status {
     pub parent: Option<String>,
     pub place: u32,
     pub no_parent: String,
+    /// The parents that refuse it, each with its why.
+    pub refusals: Vec<String>,
     /// What its way costs, 128 and more without a root; and whose names lie on it, its own last.
     pub cost: u16,
     pub way: Vec<String>,
@@ -218,6 +220,7 @@ impl Status {
 
     /// What the agents above learn of this one.
     pub fn seen(&self) -> Seen {
+        let why = self.failures.first().or_else(|| self.refusals.first());
         Seen {
             name: self.name.clone(),
             parent: self.parent.clone().unwrap_or_default(),
@@ -245,7 +248,7 @@ impl Status {
             garbage: self.garbage,
             gaps: self.gaps,
             failing: self.failing,
-            why: self.failures.first().map_or(String::new(), |it| it.chars().take(WHY).collect()),
+            why: why.map_or(String::new(), |it| it.chars().take(WHY).collect()),
             mended: self.mended,
             version: dotted::read(&self.version),
             expires: u32::try_from(self.certificate_expires)
@@ -308,8 +311,8 @@ pub struct Seen {
     pub strays: u64,
     pub garbage: u64,
     pub gaps: u64,
-    /// Settings whose file or hook failed last, the first of them with its why, and files that were
-    /// changed and put again.
+    /// Settings whose file or hook failed last, the first of them with its why, or where there is
+    /// none that of a parent which refuses it; and files that were changed and put again.
     pub failing: u64,
     pub why: String,
     pub mended: u64,

@@ -487,7 +487,7 @@ impl Agent {
     /// Waits until something can be done: the descriptors besides lines for which it can.
     fn wait(&mut self, signals: &Signals, most: Duration) -> io::Result<HashSet<RawFd>> {
         let now = Instant::now();
-        self.handshakes.go_on(now);
+        self.handshakes.go_on(now, |origin| self.peers.knows(origin));
         let listeners = self.listeners.iter().filter(|_| now >= self.full_until);
         let reads = [signals.reload.as_raw_fd(), signals.end.as_raw_fd()].into_iter();
         let reads = reads.chain(listeners.map(|it| it.socket.as_raw_fd()));
@@ -883,6 +883,7 @@ impl Agent {
         let is_whole = table.taker.is_whole();
         let applied = applier.as_ref().map_or(number, |it| it.applied(number));
         let files = applier.as_ref().filter(|_| is_whole).and_then(|it| it.files(number));
+        let refusals = self.peers.refusals().map(|(parent, why)| format!("{parent}: {why}"));
         let children = relay.children().map(|(name, link)| ChildStatus {
             name: name.clone(),
             connected: link.is_connected(),
@@ -905,7 +906,8 @@ impl Agent {
             failing: applier.as_ref().map_or(0, Applier::failing),
             failures: applier.as_ref().map_or(Vec::new(), |it| it.failures(FAULTS)),
             parent: parent.map(|(parent, _)| parent.to_string()),
-            no_parent: parent.map_or_else(|| why_none(self.peers.no_parent()), |_| String::new()),
+            no_parent: parent.map_or_else(|| self.peers.no_parent().into(), |_| String::new()),
+            refusals: refusals.collect(),
             place: parent.map_or(0, |(parent, _)| place(&self.config.peers.parents, parent)),
             cost: self.peers.way().cost,
             way: self.peers.way().names.clone(),
@@ -1168,16 +1170,6 @@ fn said(
     let children: Vec<_> = children.collect();
     let connected = children.iter().filter(|(_, link)| link.is_connected());
     (connected.filter_map(|(name, _)| below.number(name)).collect(), children.len())
-}
-
-/// Why there is no parent: one that refuses a child only closes the connection.
-fn why_none(why: &str) -> String {
-    match why.ends_with("the other end closed it") {
-        true => {
-            format!("{why}: why, its `status` and journal say, as where this is no child there")
-        }
-        false => why.into(),
-    }
 }
 
 /// At which place of a list of parents this one is.

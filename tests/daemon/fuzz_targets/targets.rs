@@ -108,6 +108,11 @@ fn messages(bytes: &[u8]) {
     let (expect, now) = (EXPECT[usize::from(first % 4)], Instant::now());
     let mut chooses = Parents::new("inner", [None, Some(3)]).with_children();
     let (mut input, mut at) = (bytes.to_vec(), 0);
+    // (in words, and never of what is a whole message)
+    if let Some(why) = wire::refused(bytes, expect) {
+        assert!(!why.to_string().is_empty() && take(&mut bytes.to_vec(), expect) == Ok(None));
+        assert!([wire::refusal(why), wire::last_refusal(why)].iter().all(|it| it.len() <= 7));
+    }
     loop {
         let (rest, taken) = (&bytes[at..], take(&mut input, expect));
         // (a hello begins as a report does)

@@ -39,6 +39,50 @@ impl From<IpAddr> for Origin {
     }
 }
 
+/// Where those are that proved their names: of each the place from which it connected last.
+#[derive(Debug, Default)]
+pub(super) struct Known {
+    of: BTreeMap<String, Origin>,
+    /// How many are at each place.
+    at: BTreeMap<Origin, usize>,
+}
+
+impl Known {
+    /// Who proved this name is there.
+    pub(super) fn insert(&mut self, name: &str, origin: Origin) {
+        if self.of.get(name) == Some(&origin) {
+            return;
+        }
+        self.remove(name);
+        self.of.insert(name.into(), origin);
+        *self.at.entry(origin).or_insert(0) += 1;
+    }
+
+    fn remove(&mut self, name: &str) {
+        let origin = self.of.remove(name);
+        if let Some((origin, count)) = origin.and_then(|it| Some((it, self.at.get_mut(&it)?))) {
+            *count = count.saturating_sub(1);
+            if *count == 0 {
+                self.at.remove(&origin);
+            }
+        }
+    }
+
+    /// Whether somebody is there.
+    pub(super) fn has(&self, origin: &Origin) -> bool {
+        self.at.contains_key(origin)
+    }
+
+    /// Of these names alone it is kept; and what was spoiled is counted again.
+    pub(super) fn keep(&mut self, is: impl Fn(&str) -> bool) {
+        self.of.retain(|name, _| is(name));
+        self.at.clear();
+        for origin in self.of.values() {
+            *self.at.entry(*origin).or_insert(0) += 1;
+        }
+    }
+}
+
 /// How much the other end of a line has shown of who it is.
 #[derive(Clone, Copy, Debug, Default, PartialEq, Eq, PartialOrd, Ord)]
 pub enum Shown {
@@ -73,6 +117,30 @@ mod tests {
 
     /// Those that wait, and which one goes.
     type Row = (&'static [(u64, Origin, u8)], Option<u64>);
+
+    #[test]
+    fn of_each_name_the_last_place_is_known() {
+        let [one, two] = [1, 2].map(|it| Origin::V4([127, 0, 0, it]));
+        let mut known = Known::default();
+        let places = |known: &Known| [one, two].map(|it| known.has(&it));
+        for (name, origin, expected) in [
+            ("a", one, [true, false]),
+            ("a", one, [true, false]),
+            ("b", one, [true, false]),
+            ("a", two, [true, true]),
+            ("b", two, [false, true]),
+        ] {
+            known.insert(name, origin);
+            assert_eq!(places(&known), expected);
+        }
+        known.at = BTreeMap::from([(one, 7)]);
+        known.keep(|name| name == "a");
+        assert_eq!(places(&known), [false, true]);
+        known.insert("a", one);
+        assert_eq!(places(&known), [true, false]);
+        known.keep(|_| false);
+        assert_eq!(places(&known), [false, false]);
+    }
 
     #[test]
     fn who_has_the_most_drives_out_its_own() {

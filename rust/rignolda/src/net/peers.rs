@@ -1,7 +1,7 @@
 //! The connections of an agent: who connects to whom, what is said first, and who is waited for.
-use super::origin::one_too_many;
+use super::origin::{one_too_many, Known};
 use super::parents::{Parents, Way, BEAT, NONE, SILENCE};
-use super::{Body, Relay};
+use super::{Body, Origin, Refusal, Relay};
 use budget::Budget;
 use connection::{travels, Conn, State};
 use dials::Dial;
@@ -81,6 +81,10 @@ pub struct Peers<L, A> {
     refused: u64,
     said_refused: Option<Instant>,
     last_refused: String,
+    /// Which parents refuse this agent, by their places; why, and whether that was said.
+    refusals: BTreeMap<usize, (Refusal, bool)>,
+    /// Where those were last who proved their names as they connected.
+    known: Known,
     /// How often a hello was late on a connection that was accepted: nobody knows whose.
     late: u32,
     /// How many connections may wait without a hello, whatever else allows more; and the same with
@@ -143,6 +147,8 @@ impl<L: Line, A: Clone + PartialEq + fmt::Display> Peers<L, A> {
             refused: 0,
             said_refused: None,
             last_refused: String::new(),
+            refusals: BTreeMap::new(),
+            known: Known::default(),
             late: 0,
             waiting: usize::MAX,
             not_waiting: 0,
@@ -180,6 +186,7 @@ impl<L: Line, A: Clone + PartialEq + fmt::Display> Peers<L, A> {
             let who = |it: &Parent<A>| (it.name.clone(), it.address.clone());
             let here = old.parents.get(self.parents.at()).map(who);
             let at = parents.iter().position(|it| Some(who(it)) == here);
+            self.refusals.clear();
             self.parents.set(self.setup.prices(), at);
             self.still.begins_anew(self.parents.at());
             // (a look is at a place of the list)
@@ -331,6 +338,17 @@ impl<L: Line, A: Clone + PartialEq + fmt::Display> Peers<L, A> {
         self.dials.get(&Whom::Parent).map_or("", |dial| &*dial.why)
     }
 
+    /// The parents that refuse this agent, and why.
+    pub fn refusals(&self) -> impl Iterator<Item = (&Parent<A>, Refusal)> {
+        let all = self.refusals.iter();
+        all.filter_map(|(at, (why, _))| Some((self.candidate(*at)?, *why)))
+    }
+
+    /// Whether a child or a parent connected from there last that proved its name by a certificate.
+    pub fn knows(&self, origin: &Origin) -> bool {
+        self.known.has(origin)
+    }
+
     /// Each line with its number, and whether it has something to write.
     pub fn lines(&self) -> impl Iterator<Item = (u64, &L, bool)> {
         let all = self.conns.iter();
@@ -394,7 +412,8 @@ impl<L: Line, A: Clone + PartialEq + fmt::Display> Peers<L, A> {
     }
 
     /// Takes a line that was accepted. Of those whose hello has not come, one too many drives out
-    /// the oldest of those of one [origin](Line::origin) of which there are the most.
+    /// the oldest of those of one [origin](Line::origin) of which there are the most; and where
+    /// there are as many of others, of those that are not [known](Peers::knows).
     pub fn accept(&mut self, line: L, now: Instant, to: &mut dyn Handler) {
         let until = self.greets_until(now);
         self.open(line, State::Accepted, now, until);
@@ -406,7 +425,9 @@ impl<L: Line, A: Clone + PartialEq + fmt::Display> Peers<L, A> {
             let all = greeting
                 .iter()
                 .filter_map(|id| Some((*id, self.conns.get(id)?)));
-            let all = all.map(|(id, it)| (id, it.line.origin(), (it.line.shown(), it.has_said)));
+            let shown =
+                |it: &Conn<L>| (self.knows(&it.line.origin()), it.line.shown(), it.has_said);
+            let all = all.map(|(id, it)| (id, it.line.origin(), shown(it)));
             if let Some(id) = one_too_many(all) {
                 self.close(id, "too many say no hello", now, to);
             }
@@ -459,7 +480,8 @@ impl<L: Line, A: Clone + PartialEq + fmt::Display> Peers<L, A> {
                     fact!(cx, "refused", "{last} ({all} in all)");
                 }
             }
-            State::Looks(whom, ..) => {
+            State::Looks(whom, at, _) => {
+                self.was_refused(*at, conn.refused());
                 // (who answered was not late: the next look gets its time by how long this one
                 // took)
                 if conn.has_said && *whom != Whom::Parent {
@@ -478,6 +500,9 @@ impl<L: Line, A: Clone + PartialEq + fmt::Display> Peers<L, A> {
                         self.children.remove(name);
                     }
                 } else {
+                    if greeted.is_none() {
+                        self.was_refused(self.parents.at(), conn.refused());
+                    }
                     self.relay.ended(*number);
                     // (else another one is taken already)
                     if self.above != Some(id) {

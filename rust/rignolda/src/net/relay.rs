@@ -177,6 +177,11 @@ impl Link {
         self.connection.is_some() || self.words
     }
 
+    /// Whether the child's process has this life.
+    pub(super) fn is_of(&self, life: u64) -> bool {
+        self.lives.front() == Some(&life)
+    }
+
     /// How many acknowledgements were taken.
     pub fn acknowledged(&self) -> u64 {
         self.acknowledged + self.session.acknowledged()

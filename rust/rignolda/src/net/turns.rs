@@ -1,6 +1,6 @@
 //! Whose work is done next, where anybody may bring as much of it as they like.
 use super::Origin;
-use std::collections::{BTreeMap, BTreeSet, VecDeque};
+use std::collections::{BTreeMap, VecDeque};
 use std::time::{Duration, Instant};
 
 /// What costs no more is nothing to be late for: so little costs whoever is honest.
@@ -11,6 +11,8 @@ const LONGEST: Duration = Duration::from_secs(600);
 /// How long all those who cost much wait at most after one of them did so again: half of the time
 /// in which they could do so.
 const RESTS: Duration = Duration::from_secs(10);
+/// How many pieces of those that are known are done besides: one for each so many of all, and one.
+const EACH: usize = 4;
 /// From how many of one origin on those that nobody wants any more are looked for.
 const MANY: usize = 64;
 
@@ -19,7 +21,8 @@ const MANY: usize = 64;
 /// Origins have their turns one after the other, and of each one piece is done at a time. Who cost
 /// much comes after all others for a while, and of all those one piece is done at a time: so
 /// neither much work nor long work of some holds the others up for longer than what is done
-/// already; and after it as long nothing is done for them.
+/// already; and after it as long nothing is done for them. For those that are known some pieces are
+/// done besides: so they wait for nobody who is not, however many there are of these.
 ///
 /// ```
 /// use rignolda::net::{Origin, Turns};
@@ -29,9 +32,14 @@ const MANY: usize = 64;
 /// let [one, two] = [Origin::V4([127, 0, 0, 1]), Origin::V4([127, 0, 0, 2])];
 /// ["a", "b", "c"].into_iter().for_each(|it| turns.add(one, it, |_| true));
 /// turns.add(two, "d", |_| true);
-/// assert_eq!(turns.next(now), Some((one, "a")));
-/// assert_eq!(turns.next(now), Some((two, "d")));
-/// assert_eq!(turns.next(now), None);
+/// let nobody = |_: &Origin| false;
+/// assert_eq!(turns.next(now, nobody), Some((one, "a")));
+/// assert_eq!(turns.next(now, nobody), Some((two, "d")));
+/// assert_eq!(turns.next(now, nobody), None);
+/// let three = Origin::V4([127, 0, 0, 3]);
+/// turns.add(three, "e", |_| true);
+/// assert_eq!(turns.next(now, nobody), None);
+/// assert_eq!(turns.next(now, |it| *it == three), Some((three, "e")));
 /// ```
 #[derive(Debug)]
 pub struct Turns<T> {
@@ -39,7 +47,8 @@ pub struct Turns<T> {
     waiting: BTreeMap<Origin, VecDeque<T>>,
     /// The origins of what waits, in the order of their turns.
     order: VecDeque<Origin>,
-    under_way: BTreeSet<Origin>,
+    /// For whom one is done, and whether besides.
+    under_way: BTreeMap<Origin, bool>,
     /// Until when who cost much comes after all others.
     late: BTreeMap<Origin, Instant>,
     /// Until when nothing is done for them.
@@ -53,7 +62,7 @@ impl<T> Turns<T> {
             most,
             waiting: BTreeMap::new(),
             order: VecDeque::new(),
-            under_way: BTreeSet::new(),
+            under_way: BTreeMap::new(),
             late: BTreeMap::new(),
             rests: None,
         }
@@ -72,18 +81,28 @@ impl<T> Turns<T> {
     }
 
     /// The piece that is to be done now, if there is one. [`Turns::ended`] is to be told.
-    pub fn next(&mut self, now: Instant) -> Option<(Origin, T)> {
+    pub fn next(
+        &mut self,
+        now: Instant,
+        is_known: impl Fn(&Origin) -> bool,
+    ) -> Option<(Origin, T)> {
         self.late.retain(|_, until| now < *until);
-        if self.under_way.len() >= self.most {
+        self.rests = self.rests.filter(|at| now < *at && *at <= now + RESTS);
+        let besides = self.under_way.values().filter(|it| **it).count();
+        let has_room = self.under_way.len() - besides < self.most;
+        let has_more = besides < self.most / EACH + 1;
+        if !(has_room || has_more) {
             return None;
         }
-        self.rests = self.rests.filter(|at| now < *at && *at <= now + RESTS);
         let is_late = |origin: &Origin| self.late.contains_key(origin);
-        let is_full = self.rests.is_some() || self.under_way.iter().any(is_late);
-        let may = |it: &&Origin| !self.under_way.contains(*it);
-        let first = self.order.iter().filter(may).find(|it| !is_late(it));
+        let is_full = self.rests.is_some() || self.under_way.keys().any(is_late);
+        let may = |it: &&Origin| !self.under_way.contains_key(*it);
+        let mut others = self.order.iter().filter(may).filter(|it| !is_late(it));
         let late = || self.order.iter().find(may).filter(|_| !is_full);
-        let origin = *first.or_else(late)?;
+        let origin = *match has_room {
+            true => others.next().or_else(late)?,
+            false => others.find(|it| is_known(it))?,
+        };
         self.order.retain(|it| *it != origin);
         let waiting = self.waiting.get_mut(&origin)?;
         let it = waiting.pop_front();
@@ -91,7 +110,7 @@ impl<T> Turns<T> {
             true => drop(self.waiting.remove(&origin)),
             false => self.order.push_back(origin),
         }
-        self.under_way.insert(origin);
+        self.under_way.insert(origin, !has_room);
         it.map(|it| (origin, it))
     }
 
@@ -122,7 +141,12 @@ mod tests {
 
     /// What is done next, until nothing is.
     fn all(turns: &mut Turns<u32>, now: Instant) -> Vec<u32> {
-        std::iter::from_fn(|| turns.next(now).map(|it| it.1)).collect()
+        all_of(turns, now, |_| false)
+    }
+
+    /// The same, where these are known.
+    fn all_of(turns: &mut Turns<u32>, now: Instant, known: fn(&Origin) -> bool) -> Vec<u32> {
+        std::iter::from_fn(|| turns.next(now, known).map(|it| it.1)).collect()
     }
 
     #[test]
@@ -161,6 +185,57 @@ mod tests {
         );
         turns.ended(at(5), Duration::ZERO, now);
         assert_eq!(all(&mut turns, after(10)), [2, 3]);
+    }
+
+    #[test]
+    fn who_is_known_waits_for_nobody_who_is_not() {
+        let known = |it: &Origin| matches!(it, Origin::V4([10, ..]));
+        let (mut turns, now) = (Turns::new(8), Instant::now());
+        let stranger = |it: u32| Origin::V4([127, 0, (it >> 8) as u8, it as u8]);
+        let child = |it: u32| Origin::V4([10, 0, 0, it as u8]);
+        // (none of theirs ever ends)
+        (0..1_000).for_each(|it| turns.add(stranger(it), it, |_| true));
+        assert_eq!(all_of(&mut turns, now, known), [0, 1, 2, 3, 4, 5, 6, 7]);
+        // each step of a few at once, and of all one after the other
+        for step in 0..100 {
+            (0..5).for_each(|it| turns.add(child(it), 5_000 + it, |_| true));
+            let mut done = all_of(&mut turns, now, known);
+            assert_eq!(done.len(), 3, "{step}");
+            while let Some(it) = done.pop() {
+                turns.ended(child(it - 5_000), FREE, now);
+                done.extend(all_of(&mut turns, now, known));
+            }
+        }
+        assert_eq!(turns.under_way(), 8);
+        // who is not known gets what was left to it, and no more for it
+        turns.ended(stranger(3), FREE, now);
+        turns.add(child(0), 5_000, |_| true);
+        assert_eq!(all_of(&mut turns, now, known), [8, 5_000]);
+        // nor does who is known but cost much, as where somebody else is at its address
+        turns.ended(child(0), Duration::from_secs(1), now);
+        turns.add(child(0), 5_000, |_| true);
+        assert_eq!(all_of(&mut turns, now, known), [0; 0]);
+    }
+
+    #[test]
+    fn those_who_are_known_take_nothing_from_who_is_not() {
+        let known = |it: &Origin| matches!(it, Origin::V4([10, ..]));
+        let (mut turns, now) = (Turns::new(4), Instant::now());
+        let child = |it: u32| Origin::V4([10, 0, 0, it as u8]);
+        (0..100).for_each(|it| turns.add(child(it), it, |_| true));
+        turns.add(at(1), 5_000, |_| true);
+        let mut done = all_of(&mut turns, now, known);
+        assert_eq!(done, [0, 1, 2, 3, 4, 5]);
+        for round in 0.. {
+            let it = done.remove(0);
+            turns.ended(child(it), FREE, now);
+            turns.add(child(it), it, |_| true);
+            done.extend(all_of(&mut turns, now, known));
+            if done.contains(&5_000) {
+                break;
+            }
+            assert!(round < 200, "its turn does not come");
+        }
     }
 
     #[test]

@@ -71,7 +71,9 @@ impl<L: Line, A: Clone + PartialEq + fmt::Display> Peers<L, A> {
             match self.read_one(id, cx) {
                 Ok(()) => self.write_one(id, cx),
                 Err(why) => {
-                    self.conn_with(id, |it| it.is_mute = !it.has_said && it.output.is_empty());
+                    self.conn_with(id, Conn::was_closed);
+                    let refusal = self.conns.get(&id).and_then(Conn::refused);
+                    let why = refusal.map_or(why, |it| it.to_string());
                     self.leave_line(id, &why, cx);
                 }
             }

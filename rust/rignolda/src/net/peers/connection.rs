@@ -2,7 +2,7 @@
 use super::{Result, Whom, READ_BYTES};
 use crate::net::parents::SILENCE;
 use crate::net::wire::{self, Expect, Hello, Message, WireError, FIRST, FRAME_HEAD, OLD};
-use crate::net::{Body, Origin, Shown};
+use crate::net::{Body, Origin, Refusal, Shown};
 use crate::Connection;
 use std::collections::VecDeque;
 use std::io::{ErrorKind, IoSlice, Read, Write};
@@ -91,6 +91,8 @@ pub(super) struct Conn<L> {
     pub(super) ends: bool,
     /// The name that its hello had, right or not, in words.
     pub(super) says: String,
+    /// Why this end refuses the other one, or the other one this.
+    pub(super) refusal: Option<Refusal>,
 }
 
 impl<L> Conn<L> {
@@ -115,6 +117,7 @@ impl<L> Conn<L> {
             told: None,
             ends: false,
             says: String::new(),
+            refusal: None,
         }
     }
 
@@ -171,6 +174,19 @@ impl<L> Conn<L> {
             State::Looks(_, _, Some(_)) | State::Comes(..) => Expect::Way,
             _ => Expect::Hello,
         }
+    }
+
+    /// The other end has closed it: now it is known whether it said anything, and whether why.
+    pub(super) fn was_closed(&mut self) {
+        self.is_mute = !self.has_said && self.output.is_empty();
+        if !self.is_greeting() && self.part.is_none() {
+            self.refusal = wire::refused(&self.input, self.expects());
+        }
+    }
+
+    /// Why the other end refuses this one, if it does.
+    pub(super) fn refused(&self) -> Option<Refusal> {
+        self.refusal.filter(|_| !self.is_greeting())
     }
 
     /// Of a parent, something whole came.

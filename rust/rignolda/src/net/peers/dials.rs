@@ -2,6 +2,7 @@
 use super::connection::{Line, State};
 use super::{fact, Call, Children, Context, Handler, Parent, Peers, Whom, BEAT, SHORT};
 use crate::net::wire::{self, FIRST, OLD};
+use crate::net::Refusal;
 use std::time::{Duration, Instant};
 use std::{fmt, io, mem};
 
@@ -167,23 +168,27 @@ impl<L: Line, A: Clone + PartialEq + fmt::Display> Peers<L, A> {
 
     /// Somebody cannot be connected to now: the next one is tried after a while.
     fn fails(&mut self, whom: &Whom, why: &str, cx: &mut Context<'_>) {
-        let (all, at) = (self.all(whom), self.parents.at());
+        let (all, at, place) = (self.all(whom), self.parents.at(), self.place_of(whom));
         self.due.set(None);
         let dial = match self.dials.get_mut(whom) {
             Some(dial) => dial,
             None => return,
         };
-        // (of several, what each says would be said for ever)
+        // (of several, what each says would be said for ever; that one refuses it, is said once)
         let is_news = dial.failed == 0 || (all == 1 && dial.why != why);
         dial.why = why.into();
-        match (whom, self.setup.parents.get(at)) {
-            _ if !is_news => (),
-            (Whom::Child(name), _) => fact!(cx, "child", "{name}: {why}"),
-            (Whom::Parent, Some(it)) => match &it.address {
-                Some(address) => fact!(cx, "parent", "{address}: {why}"),
-                None => fact!(cx, "parent", "{it}: {why}"),
-            },
+        let refusal = match self.refusals.get_mut(&place) {
+            Some((it, was_said)) if it.to_string() == why => Some(mem::replace(was_said, true)),
+            _ => None,
+        };
+        match (whom, self.setup.parents.get(place), refusal) {
+            (Whom::Child(name), ..) if is_news => fact!(cx, "child", "{name}: {why}"),
+            (Whom::Parent, Some(it), None) if is_news => says_parent(it, why, cx),
+            (Whom::Parent | Whom::Candidate(_), Some(it), Some(false)) => says_parent(it, why, cx),
             _ => (),
+        }
+        if refusal.is_none() && !matches!(whom, Whom::Child(_)) {
+            self.refusals.remove(&place);
         }
         let rounds = (dial.failed / all).min(5);
         (dial.mute, dial.failed) = (0, dial.failed.saturating_add(1));
@@ -202,6 +207,14 @@ impl<L: Line, A: Clone + PartialEq + fmt::Display> Peers<L, A> {
         dial.next = Some(cx.now + pause * (500 + drawn as u32) / 1_000);
         if *whom == Whom::Parent && self.above.is_none() {
             self.parents.tries((at + 1) % all as usize);
+        }
+    }
+
+    /// The parent at this place refuses this agent, or does not.
+    pub(super) fn was_refused(&mut self, at: usize, why: Option<Refusal>) {
+        if let Some(why) = why {
+            let was_said = self.refusals.get(&at) == Some(&(why, true));
+            self.refusals.insert(at, (why, was_said));
         }
     }
 
@@ -262,6 +275,7 @@ impl<L: Line, A: Clone + PartialEq + fmt::Display> Peers<L, A> {
         dial.under_way = false;
         if greeted.map_or(false, |since| cx.now >= since + SHORT) {
             dial.failed = 0;
+            dial.why = why.into();
             dial.next = Some(cx.now + Duration::from_millis(self.life % 50));
             if *whom == Whom::Parent {
                 self.parents.tries(0);
@@ -273,5 +287,13 @@ impl<L: Line, A: Clone + PartialEq + fmt::Display> Peers<L, A> {
             }
             self.fails(whom, why, cx);
         }
+    }
+}
+
+/// Says of a parent why there is no link with it.
+fn says_parent<A: fmt::Display>(parent: &Parent<A>, why: &str, cx: &mut Context<'_>) {
+    match &parent.address {
+        Some(address) => fact!(cx, "parent", "{address}: {why}"),
+        None => fact!(cx, "parent", "{parent}: {why}"),
     }
 }

@@ -5,8 +5,8 @@
 //! has to know what is wrong with its records. What two places have to say alike, and do not,
 //! nothing mends but a new process.
 use super::{
-    fact, travels, Children, Conn, Context, Handler, Line, Peers, Setup, State, Whom, BEAT, LATER,
-    READ_BYTES, SILENCE,
+    fact, travels, Children, Conn, Context, Handler, Line, Parent, Peers, Setup, State, Whom, BEAT,
+    LATER, READ_BYTES, SILENCE,
 };
 use crate::net::{Link, BODY_BYTES};
 use std::collections::BTreeSet;
@@ -104,6 +104,13 @@ impl<L: Line, A: Clone + PartialEq + fmt::Display> Peers<L, A> {
         }
         self.beat = self.beat.min(now + BEAT);
         self.late = self.late.min(LATER);
+        let parents = self.setup.parents.len();
+        self.refusals.retain(|at, _| *at < parents);
+        let (relay, setup) = (&self.relay, &self.setup);
+        let is = |it: &Parent<A>, name: &str| it.name.as_deref() == Some(name);
+        let is_parent = |name: &str| setup.parents.iter().any(|it| is(it, name));
+        let is_child = |name: &str| relay.child(name).is_some();
+        self.known.keep(|name| is_child(name) || is_parent(name));
         self.parents.say();
         self.relay.mend(now);
     }

@@ -3,7 +3,7 @@ use super::connection::{Conn, Line, State};
 use super::dials::LOOKED;
 use super::{fact, Children, Context, Parent, Peers, Result, Whom, BEAT, NONE};
 use crate::net::wire::{self, Expect, Hello, FIRST, OLD, VERSION};
-use crate::net::{Relay, Way};
+use crate::net::{Refusal, Relay, Shown, Way};
 use crate::Connection;
 use std::fmt;
 use std::time::Instant;
@@ -83,8 +83,8 @@ impl<L: Line, A: Clone + PartialEq + fmt::Display> Peers<L, A> {
         self.life.wrapping_add(self.told.1)
     }
 
-    /// Who says this hello or look, and of a parent, which one.
-    pub(super) fn who(&mut self, id: u64, hello: &Hello) -> Result<(Whom, usize)> {
+    /// Who says this hello, or look, and of a parent, which one.
+    fn who(&mut self, id: u64, hello: &Hello, is_look: bool) -> Result<(Whom, usize)> {
         let Hello { from, to, .. } = hello;
         let says = format!(", which calls itself {from}");
         self.conn_with(id, |conn| conn.says = says);
@@ -94,17 +94,48 @@ impl<L: Line, A: Clone + PartialEq + fmt::Display> Peers<L, A> {
             State::Looks(whom, at, _) => (whom.clone(), *at),
             State::Link(whom, ..) => (whom.clone(), self.parents.at()),
             // (a child that was told no name of its parent says none)
-            _ if !is_meant && !to.is_empty() => return Err("it means another agent".into()),
-            _ => self.caller(from).ok_or("its name is none of a child")?,
+            _ if !is_meant && !to.is_empty() => {
+                return Err(self.refuses(id, from, Refusal::OtherName));
+            }
+            state => {
+                let is_child = is_look || matches!(state, State::Answered);
+                match self.caller(from, is_child) {
+                    Ok(caller) => caller,
+                    Err(why) => return Err(self.refuses(id, from, why)),
+                }
+            }
         };
         let name = self.name_of(&whom, at);
         let is_other = name.map_or(false, |name| name != from);
         if is_other || !(is_meant || conn.is_greeting()) {
             return Err("its hello has other names".into());
         } else if !conn.line.may_be(from) {
-            return Err("its certificate has another name".into());
+            return Err(self.refuses(id, from, Refusal::Certificate));
         }
         Ok((whom, at))
+    }
+
+    /// An end of this name is refused: why, in words of the own journal. What it is told does not
+    /// go beyond the name that it has proved: of others it learns nothing.
+    fn refuses(&mut self, id: u64, from: &str, why: Refusal) -> String {
+        self.conn_with(id, |conn| {
+            let told = match conn.line.shown() {
+                Shown::Certificate if conn.line.may_be(from) => why,
+                Shown::Certificate => Refusal::Certificate,
+                _ => Refusal::NotSaid,
+            };
+            conn.refusal = Some(told).filter(|_| conn.is_greeting());
+        });
+        why.own_words().into()
+    }
+
+    /// Tells an end why it is refused; or this, where it is refused for something else.
+    pub(super) fn says_why(&mut self, id: u64, other: Option<Refusal>, cx: &mut Context<'_>) {
+        let refusal = self.conns.get(&id).and_then(|conn| conn.refusal);
+        if let Some(why) = refusal.or(other) {
+            self.send(id, wire::refusal(why));
+            self.write_one(id, cx);
+        }
     }
 
     /// An end says a hello, or looks at this one, or is a candidate that answers.
@@ -115,13 +146,16 @@ impl<L: Line, A: Clone + PartialEq + fmt::Display> Peers<L, A> {
         is_look: bool,
         cx: &mut Context<'_>,
     ) -> Result {
-        let (whom, at) = self.who(id, &hello)?;
+        let (whom, at) = self.who(id, &hello, is_look)?;
         let version = self.common(id, &hello, is_look || whom == Whom::Parent, cx)?;
         let is_old = version == OLD;
         let conn = self.conns.get_mut(&id).ok_or("it is gone")?;
         conn.version = version;
         match (&mut conn.state, whom) {
-            (State::Looks(_, _, rank), _) if is_look => *rank = Some(hello.life),
+            (State::Looks(_, at, rank), _) if is_look => {
+                *rank = Some(hello.life);
+                self.refusals.remove(at);
+            }
             (State::Link(Whom::Child(_), ..), _) if is_look => {
                 return Err("it has another parent".into());
             }
@@ -250,20 +284,31 @@ impl<L: Line, A: Clone + PartialEq + fmt::Display> Peers<L, A> {
         looked.map_err(|why| why.to_string())
     }
 
-    /// Who an agent of this name is, where it connects itself; of a parent, which one.
-    pub(super) fn caller(&self, from: &str) -> Option<(Whom, usize)> {
+    /// Who an agent of this name is, where it connects itself; of a parent, which one. It may be
+    /// known that it looks for a parent.
+    fn caller(&self, from: &str, is_child: bool) -> Result<(Whom, usize), Refusal> {
         let is = |it: &Parent<A>| it.address.is_none() && it.name.as_deref() == Some(from);
         if let Some(at) = self.setup.parents.iter().position(is) {
-            return Some((Whom::Parent, at));
+            return Ok((Whom::Parent, at));
         }
-        let is_child = match &self.setup.children {
-            Children::Named(children) => children.get(from) == Some(&None),
+        let mut parents = self.setup.parents.iter();
+        let calls = parents.any(|it| it.name.as_deref() == Some(from));
+        match &self.setup.children {
+            Children::Named(children) => match children.get(from) {
+                Some(None) => Ok((Whom::Child(from.into()), 0)),
+                Some(Some(_)) => Err(Refusal::Calls),
+                None if is_child => Err(Refusal::NoChild),
+                None if calls => Err(Refusal::Calls),
+                None => Err(Refusal::NoParent),
+            },
+            Children::Any if from == self.setup.name => Err(Refusal::NoChild),
             Children::Any => {
                 let is_known = self.relay.child(from).is_some();
-                from != self.setup.name && (is_known || self.relay.children().count() < ANY)
+                let may = is_known || self.relay.children().count() < ANY;
+                let child = || (Whom::Child(from.into()), 0);
+                may.then(child).ok_or(Refusal::Full)
             }
-        };
-        is_child.then(|| (Whom::Child(from.into()), 0))
+        }
     }
 
     /// The number under which this end has made a connection of a link.
@@ -300,7 +345,7 @@ impl<L: Line, A: Clone + PartialEq + fmt::Display> Peers<L, A> {
     fn child_greets(&mut self, id: u64, hello: &Hello, cx: &mut Context<'_>) -> Result {
         let (made, name) = (self.number(id), &*hello.from);
         if let Some(old) = self.children.remove(name) {
-            self.leave_line(old, "it connected anew", cx);
+            self.parts_from(old, hello, cx);
         }
         self.relay.add(name, cx.now);
         let clashes = |relay: &Relay| relay.child(name).map_or(0, |link| link.clashes);
@@ -327,8 +372,30 @@ impl<L: Line, A: Clone + PartialEq + fmt::Display> Peers<L, A> {
         Ok(())
     }
 
+    /// A child connected anew, which had this connection. Where another process has its name now,
+    /// the one before learns that.
+    fn parts_from(&mut self, old: u64, hello: &Hello, cx: &mut Context<'_>) {
+        let link = self.relay.child(&hello.from);
+        let is_twin = link.map_or(false, |link| !link.is_of(hello.life));
+        let knows = self.conns.get(&old).map_or(false, |conn| !conn.is_old());
+        if is_twin && knows {
+            self.send(old, wire::last_refusal(Refusal::Twin));
+            self.write_one(old, cx);
+        }
+        self.leave_line(old, Refusal::Twin.own_words(), cx);
+    }
+
     pub(super) fn begins(&mut self, id: u64, whom: Whom, number: Connection, now: Instant) {
         if let Some(conn) = self.conns.get_mut(&id) {
+            let at = self.parents.at();
+            let name = match &whom {
+                Whom::Child(name) => Some(name),
+                _ => self.setup.parents.get(at).and_then(|it| it.name.as_ref()),
+            };
+            let has_proved = conn.is_greeting() && conn.line.shown() == Shown::Certificate;
+            if let Some(name) = name.filter(|_| has_proved) {
+                self.known.insert(name, conn.line.origin());
+            }
             if let (false, Some(dial)) = (conn.is_greeting(), self.dials.get_mut(&whom)) {
                 dial.took = now - conn.since;
             }

@@ -2,8 +2,8 @@
 use super::connection::{travels, Chunk, Conn, Line, State};
 use super::{fact, Context, Handler, Peers, ReportKind, Result, Whom, LATER};
 use crate::net::relay::{Came, Polled};
-use crate::net::wire::{self, Message, Reference, CHANGES, FIRST, HEAD_BYTES, REFERS};
-use crate::net::Body;
+use crate::net::wire::{self, Message, Reference, CHANGES, HEAD_BYTES, OLD, REFERS};
+use crate::net::{Body, Refusal};
 use crate::Connection;
 use std::sync::Arc;
 use std::time::{Duration, Instant};
@@ -31,13 +31,18 @@ impl<L: Line, A: Clone + PartialEq + fmt::Display> Peers<L, A> {
         let waits = conn.waits_for_frame();
         let (refers, changes) = (conn.version >= REFERS, conn.version >= CHANGES);
         match (conn.link(), message) {
-            (_, Message::Hello(hello)) => return self.greets(id, hello, false, cx),
+            (link, Message::Hello(hello)) => {
+                let knows = link.is_none() && hello.version > OLD;
+                let greeted = self.greets(id, hello, false, cx);
+                if greeted.is_err() && knows {
+                    self.says_why(id, None, cx);
+                }
+                return greeted;
+            }
             (link, Message::Look(hello)) => {
                 let answer = self.greets(id, hello, true, cx);
                 if answer.is_err() && link.is_none() {
-                    // (so much says that it is no end of version 1, and else nothing)
-                    self.send(id, [wire::LOOK, &[FIRST]].concat());
-                    self.write_one(id, cx);
+                    self.says_why(id, Some(Refusal::NotSaid), cx);
                 }
                 return answer;
             }
