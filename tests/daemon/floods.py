@@ -12,7 +12,7 @@ import struct
 import time
 
 from daemons import (PATIENCE, USUAL, bounded, by_tls, certify, during, of_tree, openssl, patient,
-                     tls, until, used)
+                     tls, until, used, very_patient)
 from protocol import hello
 from runner import sure
 
@@ -290,7 +290,8 @@ def comes_back(tree, child):
     return is_up
 
 
-@of_tree({"left": "root"}, secure)
+# (whoever waits is left only after a minute)
+@of_tree({"left": "root"}, secure, very_patient, begins=True)
 def a_child_comes_back_while_strangers_have_all_threads(tree, root, left):
     # (on a slow machine one of them may have ended before)
     sure(any(comes_back(tree, left) for _ in range(3)), left.text()[-500:])
