@@ -188,6 +188,58 @@ mod tests {
     }
 
     #[test]
+    fn for_how_long_one_is_late_is_bounded_by_its_dearest_piece() {
+        let (mut turns, now) = (Turns::new(1), Instant::now());
+        let after = |seconds| now + Duration::from_secs(seconds);
+        let mut costs = |cost, at_most: [u64; 2]| {
+            turns.add(at(1), 1, |_| true);
+            let begun = turns.next(after(at_most[0]), |_| false);
+            assert!(begun.is_some(), "{at_most:?}");
+            turns.ended(at(1), cost, after(at_most[0]));
+            // (a cheaper one while it is late makes it no less late)
+            turns.ended(at(1), FREE * 2, after(at_most[0]));
+            turns.add(at(1), 2, |_| true);
+            turns.add(at(2), 3, |_| true);
+            let next = |turns: &mut Turns<u32>, at| turns.next(after(at), |_| false).map(|it| it.1);
+            assert_eq!(next(&mut turns, at_most[1] - 1), Some(3), "it is late");
+            turns.ended(at(2), Duration::ZERO, after(at_most[1] - 1));
+            turns.add(at(2), 4, |_| true);
+            // (then it is as the others, and its turn was longer ago)
+            assert_eq!(next(&mut turns, at_most[1]), Some(2));
+            turns.ended(at(1), Duration::ZERO, after(at_most[1]));
+            assert_eq!(next(&mut turns, at_most[1]), Some(4));
+            turns.ended(at(2), Duration::ZERO, after(at_most[1]));
+        };
+        costs(Duration::from_secs(3), [0, 30]);
+        costs(Duration::from_secs(100_000), [1_000, 1_600]);
+    }
+
+    #[test]
+    fn all_who_are_late_rest_for_at_most_so_long() {
+        let (mut turns, now) = (Turns::new(1), Instant::now());
+        let mut cost = |origin, seconds, from: u64| {
+            turns.add(at(origin), 1, |_| true);
+            let after = |seconds| now + Duration::from_secs(from + seconds);
+            assert!(turns.next(after(0), |_| false).is_some());
+            turns.ended(at(origin), Duration::from_secs(seconds), after(0));
+            turns.add(at(origin), 1, |_| true);
+            let rests = (0..).find(|it| turns.next(after(*it), |_| false).is_some());
+            turns.ended(at(origin), Duration::ZERO, after(100));
+            rests.unwrap_or(0)
+        };
+        assert_eq!(
+            [cost(1, 4, 0), cost(2, 10, 1_000), cost(3, 50_000, 2_000)],
+            [4, 10, 10]
+        );
+        // (one that was spoiled holds nobody up)
+        let mut turns = Turns::new(1);
+        turns.rests = Some(now + LONGEST);
+        turns.late.insert(at(1), now + LONGEST);
+        turns.add(at(1), 1, |_| true);
+        assert_eq!(all(&mut turns, now), [1]);
+    }
+
+    #[test]
     fn who_is_known_waits_for_nobody_who_is_not() {
         let known = |it: &Origin| matches!(it, Origin::V4([10, ..]));
         let (mut turns, now) = (Turns::new(8), Instant::now());
