@@ -163,6 +163,23 @@ mod tests {
     }
 
     #[test]
+    fn turns_go_round_and_each_brings_its_pieces_in_order() {
+        let (mut turns, now) = (Turns::new(1), Instant::now());
+        for (origin, piece) in (1..=3).flat_map(|it| (0..4).map(move |piece| (it, piece))) {
+            turns.add(at(origin), u32::from(origin) * 10 + piece, |_| true);
+        }
+        let done = (0..12).flat_map(|_| {
+            let (origin, it) = turns.next(now, |_| false)?;
+            assert_eq!((turns.under_way(), turns.next(now, |_| false)), (1, None));
+            turns.ended(origin, FREE, now);
+            Some(it)
+        });
+        let done: Vec<u32> = done.collect();
+        assert_eq!(done, [10, 20, 30, 11, 21, 31, 12, 22, 32, 13, 23, 33]);
+        assert_eq!((turns.waiting.len(), turns.order.len()), (0, 0));
+    }
+
+    #[test]
     fn those_who_cost_much_have_one_turn_together_for_a_while() {
         let (mut turns, now) = (Turns::new(3), Instant::now());
         for origin in 1..=3 {
