@@ -102,6 +102,16 @@ def the_last_release_is_refused_as_before(tree, root, left):
     sure(said[True, True] == "it refuses this agent: its `children` do not name it", said)
 
 
+@of_tree(chain(2), needs=lacks_last, runs=False)
+def a_parent_of_the_last_release_is_told_whole_lists(tree, root, child, _):
+    root.program = last_release()
+    tree.begin()
+    for at in range(5):
+        tree.publish("colour", str(at))
+    sure(not root.said("it sent no report"), root.text()[-300:])
+    sure(child.status()["reconnects"] == 1, child.status())
+
+
 def passed(tree, relays, act=lambda: None):
     """Does something, and a round: how many bytes came by each line."""
     before = [relay.passed for relay in relays]

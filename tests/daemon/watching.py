@@ -195,14 +195,17 @@ def a_report_that_was_lost_is_asked_for(tree, root, hub):
         spoiled.append(at)
         return piece[:at + 9] + bytes([piece[at + 9] ^ 1]) + piece[at + 10:]
 
+    def is_spoiled():
+        root.ask("publish", "colour", str(time.monotonic()))
+        return len(spoiled) == turn
+
     tree.begin()
     relay.changed, turn = spoil, 0
+    applied = lambda: [it["applied"] for it in root.ask("tree")]
     for turn in range(1, 4):
-        root.ask("publish", "colour", str(turn))
-        applied = lambda: [it["applied"] for it in root.ask("tree")]
+        sure(until(is_spoiled, pause=0.2), "none was of changes")
         # (all is said again after 30 seconds)
         sure(until(lambda: applied() == [root.status()["changed"]] * 3, 20 / PATIENCE), applied())
-        sure(len(spoiled) == turn, spoiled)
 
 
 @of_tree({"left": "root", "right": "root"})
