@@ -283,7 +283,12 @@ mod tests {
         // nor does who is known but cost much, as where somebody else is at its address
         turns.ended(child(0), Duration::from_secs(1), now);
         turns.add(child(0), 5_000, |_| true);
-        assert_eq!(all_of(&mut turns, now, known), [0; 0]);
+        for seconds in [0, 2, 9] {
+            let now = now + Duration::from_secs(seconds);
+            assert_eq!(all_of(&mut turns, now, known), [0; 0]);
+        }
+        let now = now + Duration::from_secs(10);
+        assert_eq!(all_of(&mut turns, now, known), [5_000]);
     }
 
     #[test]

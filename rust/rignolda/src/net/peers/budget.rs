@@ -56,7 +56,11 @@ mod tests {
         // (however often it is asked for)
         let asks = (0..1_000_000).map(|micros| now + Duration::from_micros(10_000_000 + micros));
         let taken: u64 = asks.map(|at| u64::from(budget.takes(1_024, at))).sum();
-        assert!((taken << 10) <= 2 * IN_A_SECOND, "{taken}");
+        let taken = taken << 10;
+        assert!(taken <= 2 * IN_A_SECOND, "{taken}");
+        assert!(taken >= IN_A_SECOND / 2, "what came back is lost: {taken}");
+        // (and however seldom)
+        assert!(budget.takes(MOST, now + Duration::from_secs(1 << 30)));
     }
 
     #[test]

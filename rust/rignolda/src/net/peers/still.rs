@@ -55,7 +55,8 @@ impl Still {
         let (before, most) = (self.is(), LONGEST * 10);
         let step = now.saturating_duration_since(self.looked).min(STEP);
         self.looked = now;
-        self.idle = (self.idle + if has_root { step } else { Duration::ZERO }).min(most);
+        let counts = if has_root { step } else { Duration::ZERO };
+        self.idle = self.idle.saturating_add(counts).min(most);
         self.pause = self.pause.min(most);
         for it in self.left.values_mut() {
             it.until = it.until.min(now + LONGEST);
@@ -68,7 +69,7 @@ impl Still {
     pub(super) fn is(&self) -> bool {
         let patience = match self.pause {
             Duration::ZERO => UNKNOWN,
-            pause => LEAST.max(pause * TIMES),
+            pause => LEAST.max(pause.saturating_mul(TIMES)),
         };
         self.idle > patience
     }
@@ -187,6 +188,75 @@ mod tests {
         // (the same one, on another connection)
         run.takes(0);
         assert!(run.0.is() && !run.0.is_barred(0));
+    }
+
+    #[test]
+    fn the_longest_pause_of_late_counts_less_with_each_table() {
+        let mut run = run();
+        run.0.brings();
+        run.0.pause = Duration::from_secs(80);
+        for expected in [70_000, 61_250, 53_593] {
+            run.rounds(1, 1);
+            assert_eq!(run.0.pause.as_millis(), expected);
+        }
+        run.rounds(60, 1);
+        assert_eq!(run.0.pause, Duration::from_secs(60));
+        (0..100).for_each(|_| run.0.brings());
+        assert_eq!(run.0.pause, Duration::from_secs(1));
+    }
+
+    #[test]
+    fn one_that_stood_still_is_barred_for_twice_as_long_each_time() {
+        let mut run = run();
+        for expected in [60, 120, 240, 480, 960, 1_920, 3_840, 7_680, 14_400, 14_400] {
+            run.until_still();
+            run.takes(1);
+            let barred = (0..100_000).find(|_| {
+                run.1 += Duration::from_secs(1);
+                run.0.passes(false, run.1);
+                !run.0.is_barred(0)
+            });
+            assert_eq!(barred, Some(expected - 1));
+            // (another one, which did not stand still, is left without a bar)
+            run.takes(0);
+            assert!(!run.0.is_barred(1));
+            // the first table of a parent may be that of the last round, and says nothing
+            run.0.brings();
+            assert_eq!(
+                (run.0.pause, run.0.idle()),
+                (Duration::ZERO, Duration::ZERO)
+            );
+        }
+        run.rounds(1, 1);
+        assert!(run.0.left.is_empty() && run.0.pause >= Duration::from_secs(1));
+    }
+
+    #[test]
+    fn what_stood_still_itself_counts_little_and_what_is_spoiled_comes_back() {
+        let mut run = run();
+        run.1 += LONGEST;
+        assert!(!run.0.passes(true, run.1));
+        assert_eq!(run.0.idle(), STEP);
+        (run.0.idle, run.0.pause) = (Duration::MAX, Duration::MAX);
+        run.1 += Duration::from_secs(1);
+        run.0.passes(true, run.1);
+        assert!(run.0.idle <= LONGEST * 10 && run.0.pause <= LONGEST * 10);
+        let far = Left {
+            times: u32::MAX,
+            until: run.1 + LONGEST * 1_000,
+            is_barred: true,
+        };
+        run.0.left.insert(1, far);
+        run.0.passes(true, run.1);
+        run.0.passes(true, run.1 + LONGEST);
+        assert!(!run.0.is_barred(1));
+        // (of other parents nothing is known)
+        run.0.left.clear();
+        (run.0.at, run.0.idle, run.0.pause) = (1, LONGEST, STEP);
+        run.takes(0);
+        assert!(run.0.is_barred(1));
+        run.0.begins_anew(2);
+        assert!(!run.0.is_barred(1) && run.0.at == 2);
     }
 
     #[test]
