@@ -131,6 +131,29 @@ mod tests {
     }
 
     #[test]
+    fn who_was_calm_for_long_has_no_more_lines_at_once_and_what_is_spoiled_comes_back() {
+        let begun = Instant::now();
+        let after = |seconds| begun + Duration::from_secs(seconds);
+        let mut repeats = Repeats::default();
+        let written = |repeats: &mut Repeats, at| {
+            (0..100).filter(|_| repeats.says("closed", "evil: it left", at).is_some()).count()
+        };
+        for hour in 0..3 {
+            assert_eq!(written(&mut repeats, after(hour * 3_600)), LINES as usize, "{hour}");
+            assert!(repeats.says("closed", "evil: it left", after(hour * 3_600 + 45)).is_some());
+        }
+        for lines in repeats.all.values_mut() {
+            (lines.room.since, lines.said) = (after(1 << 20), after(1 << 20));
+        }
+        // (of 15 that had come back one was written)
+        assert_eq!(written(&mut repeats, after(10_000)), 14);
+        assert_eq!(written(&mut repeats, after(10_003)), 1);
+        repeats.all.values_mut().for_each(|it| it.said = after(1 << 20));
+        assert_eq!(repeats.passes(after(10_100)).len(), 0);
+        assert_eq!(repeats.passes(after(10_130)).len(), 1);
+    }
+
+    #[test]
     fn however_many_others_there_are_lines_and_memory_are_bounded() {
         let begun = Instant::now();
         let (mut repeats, mut written) = (Repeats::default(), 0);
