@@ -44,7 +44,7 @@ def nothing_is_everywhere_before_it_is_applied(tree, root, left, inner, leaf):
 @of_tree({"left": "root", "leaf": "left", "relay": "left"}, runs=False, needs="cc")
 def files_that_differ_are_seen(tree, root, left, leaf, relay):
     """A disk spoils what an agent gives it: the agent's numbers say that all is applied. And of a
-    folder that is gone, and in whose place a file lies, nothing is known."""
+    folder that is gone, and in whose place a link to nowhere lies, nothing is known."""
     del relay.tables["apply"]
     spoils = preload(leaf, "write")
     root.tables["root"]["round"] = "500ms"
@@ -77,9 +77,9 @@ def files_that_differ_are_seen(tree, root, left, leaf, relay):
     tree.wait(number)
     sure(leaf.files()["colour"] == b"blue", leaf.files())
     is_seen("same")
-    # (what lies there the agent does not take away)
+    # (the disk may come back to which a link there leads)
     shutil.rmtree(leaf.settings)
-    leaf.settings.write_text("somebody's")
+    leaf.settings.symlink_to("missing")
     is_seen("not-known")
     sure(leaf.status()["failing"] and root.lacks("--everywhere"), leaf.status())
     leaf.settings.unlink()
