@@ -119,7 +119,9 @@ mod tests {
                 assert_eq!(repeats.says("connected", "left", now), Some(0));
             }
         }
-        assert!(written <= 2 * (u64::from(LINES) + 10), "{written}");
+        // (however often it is asked, what comes back comes back)
+        let most = 2 * (u64::from(LINES) + 10);
+        assert!((most - 2..=most).contains(&written), "{written}");
         let end = begun + Duration::from_secs(99);
         let rest = repeats.passes(end);
         assert_eq!(rest.len(), 2);
@@ -163,5 +165,13 @@ mod tests {
             written += u32::from(repeats.says("refused", &words, now).is_some());
         }
         assert!(written <= ALL_LINES + 3_000 && repeats.all.len() <= ENDS + 1, "{written}");
+        // (who is known keeps lines of its own)
+        let later = begun + Duration::from_secs(60);
+        let known = |repeats: &mut Repeats| repeats.says("refused", "n7 is refused", later);
+        let others = |repeats: &mut Repeats| repeats.says("refused", "n99999 is refused", later);
+        for _ in 0..2 * LINES {
+            others(&mut repeats);
+        }
+        assert_eq!((others(&mut repeats), known(&mut repeats)), (None, Some(0)));
     }
 }
