@@ -6,7 +6,9 @@ row is. A program is the one that ./rignolda or ./stab starts, or else the one t
 left in crates/rignolda/out or crates/stab_cli/out; PROGRAM_RIGNOLDA and PROGRAM_STAB in the
 environment name others. The examples run by the build of LLVM as well, where the gate has just made
 it. The faults of the rows of stab, with their statuses, have to be those of the tables of
-docs/FORMATS.md, but for a few that no row brings about. The last line is 'N passed, M failed'.
+docs/FORMATS.md, but for a few that no row brings about. The manual of rignolda and the crates for
+Rust have to have the version of the release, as the program has. The last line is 'N passed, M
+failed'.
 """
 
 import os
@@ -23,6 +25,7 @@ sys.path.insert(0, str(Path(__file__).resolve().parent.parent / "tools"))
 
 from programs import BUILT, TOP, answered, counted, run_with
 from tables import stab_examples
+from tables.rignolda_lines import VERSION
 
 # The tables of each program, and each row with its program.
 TABLES = {"rignolda": "lines explain bounds check draw files jobs scenario",
@@ -93,6 +96,15 @@ def faults_otherwise(file):
     return f"these are on the page or answered, and not both: {differ}" if differ else None
 
 
+def version_otherwise():
+    """Which files have another version than the release, or None."""
+    its = re.escape(VERSION)
+    own = re.compile(rf'^(\.TH .*"rignolda {its}"|version = "{its}"$)', re.M)
+    files = [TOP / "man/rignolda.1", *sorted(TOP.glob("rust/*/Cargo.toml"))]
+    others = [str(file.relative_to(TOP)) for file in files if not own.search(file.read_text())]
+    return f"these have not the version {VERSION} of CHANGELOG.md: {others}" if others else None
+
+
 def script_otherwise(file):
     """How examples/check.sh differs by a launcher that says where the manual is, as ./stab does, or
     None."""
@@ -120,6 +132,7 @@ def main(*files):
         names = (f"{called}: {row.name}, by {Path(file).name}" for called, file, row in runs)
         lists = [("the list of the examples", stab_examples.listed_otherwise()),
                  ("the faults of docs/FORMATS.md", faults_otherwise(files["stab"])),
+                 ("the version of the release", version_otherwise()),
                  ("examples/check.sh", script_otherwise(files["stab"]))]
         return counted([*lists, *zip(names, faults)], quiet=True)
 

@@ -1,6 +1,12 @@
 """Command lines: the texts of help, of the version and of mistakes."""
 
+import re
+
+from programs import TOP
 from tables.rows import Row, like
+
+# The version of the release, which its archive has in its name.
+VERSION = re.search(r"^## ([0-9.]+),", (TOP / "CHANGELOG.md").read_text(), re.M)[1]
 
 # How the help begins and ends, and that of two commands, and how many lines it has. (What it says
 # of each command and option, tools/completions.py compares.)
@@ -48,7 +54,7 @@ MISTAKEN = {
 ROWS = [
     Row("without words there is the help, as a mistake", [], status=2, err=HELP),
     Row("help", ["--help"], out=HELP),
-    Row("the version", ["--version"], out="rignolda 0.1.0\n"),
+    Row("the version", ["--version"], out=f"rignolda {VERSION}\n"),
     Row("help on worst", ["worst", "--help"], out=WORST_HELP),
     Row("help on random", ["random", "--help"], out=RANDOM_HELP),
     *(Row(f"a mistake: {line}", line.split(), status=2,
