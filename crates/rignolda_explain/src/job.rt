@@ -10,6 +10,7 @@ use crate::openings::{look_at_opening_lists, look_at_openings};
 use crate::schedule::{look_at_root_steps, look_at_schedule};
 use crate::scripts::look_at_made_scripts;
 use crate::steps::look_at_steps;
+use crate::strikes::look_at_members_of_strikes;
 use crate::tree::{look_at_nodes, look_at_tree};
 use rignolda_findings::{
     Known, Notes, Piece, Place, count_of, list_of, list_or_absent, look_at_items, look_at_members,
@@ -81,6 +82,7 @@ pub(crate) fn look_at_job(notes: &mut Notes, value: &Value) -> Result<(), AllocE
     }
     look_at_nodes(notes, value.get("tree"))?;
     look_at_members_of_links(notes, value)?;
+    look_at_members_of_strikes(notes, value.get("steps"))?;
     look_at_members(
         notes,
         Place::whole(),

@@ -19,6 +19,7 @@
 #![tactic(auto)]
 
 mod backlogs;
+mod changes;
 mod explained;
 mod found;
 mod job;

@@ -4,7 +4,7 @@ use crate::scripts::{look_at_script, look_at_script_members};
 use crate::strikes::capacity_at;
 use rignolda_findings::{
     Known, Notes, Piece, Place, START_MEMBERS, count_of, list_or_absent, look_at_begin,
-    look_at_members, look_at_numbers, look_at_params, look_at_start,
+    look_at_members, look_at_numbers, look_at_params, look_at_start, uncut,
 };
 use serde_json::Value;
 use stab_job::JobFault;
@@ -160,7 +160,7 @@ pub(crate) fn look_at_starts(
         if notes.is_done() {
             break;
         }
-        if let Some(capacity) = capacity_at(value, i) {
+        if let Some(capacity) = uncut(capacity_at(value, i)) {
             look_at_begin(notes, place_of_link("starts", i, tree), start, capacity)?;
         }
     }

@@ -2,7 +2,8 @@
 
 use crate::backlogs::{add_number, look_at_lists};
 use crate::found::add_found;
-use rignolda_findings::{Notes, Place};
+use crate::openings::place_of_node;
+use rignolda_findings::{Matter, Notes, Piece, Place};
 use serde_json::Value;
 use stab_json::item;
 use stab_tree::Tree;
@@ -23,7 +24,7 @@ const PLACE: &str = "a place is a whole number from 0 to 4294967295";
 /// Looks at the logs of a job, where it has some, and at where the counts of the nodes begin.
 pub fn look_at_logs(notes: &mut Notes, job: &Value, tree: &Tree) -> Result<(), AllocError> {
     look_at_received(notes, job.get("received"), tree)?;
-    look_at_places(notes, job.get("from"), tree)
+    look_at_places(notes, job, tree)
 }
 
 /// Looks at each log, and how many there are.
@@ -45,23 +46,61 @@ fn look_at_received(
     }
 }
 
-/// Looks at each place, and how many there are: there may be none.
-fn look_at_places(
-    notes: &mut Notes,
-    places: Option<&Value>,
-    tree: &Tree,
-) -> Result<(), AllocError> {
-    match places {
+/// Looks at each place, how many there are, and whether each is among the items.
+fn look_at_places(notes: &mut Notes, job: &Value, tree: &Tree) -> Result<(), AllocError> {
+    match job.get("from") {
         None => Ok(()),
         Some(Value::Array(places)) => {
             look_at_each(notes, places.as_slice())?;
-            if places.is_empty() || places.len() == usize::from(tree.len()) {
-                return Ok(());
+            if places.len() != usize::from(tree.len()) {
+                add_number(notes, "from", places.len(), " places for ", tree)?;
             }
-            add_number(notes, "from", places.len(), " places for ", tree)
+            look_at_ends(notes, job.get("items"), places.as_slice(), tree)
         }
         Some(value) => add_found(notes, Place::member("from"), value, FROM),
     }
+}
+
+/// Looks whether each place is among the items, or just behind them.
+fn look_at_ends(
+    notes: &mut Notes,
+    items: Option<&Value>,
+    places: &[Value],
+    tree: &Tree,
+) -> Result<(), AllocError> {
+    let Some(Value::Array(items)) = items else {
+        return Ok(());
+    };
+    for (i, place) in places.iter().enumerate() {
+        if notes.is_done() {
+            break;
+        }
+        match item(place) {
+            Some(place) if place as usize > items.len() => {
+                add_end(notes, place_of_node("from", i, tree), place, items.len())?
+            }
+            _ => {}
+        }
+    }
+    Ok(())
+}
+
+/// Adds that a place is past the end of the items.
+fn add_end(
+    notes: &mut Notes,
+    place: Place<'_>,
+    found: u32,
+    items: usize,
+) -> Result<(), AllocError> {
+    notes.add(
+        Matter::Command,
+        &place,
+        &[
+            Piece::Number(u64::from(found)),
+            Piece::Words(" is past the end of the items, of which there are "),
+            Piece::Number(items as u64),
+        ],
+    )
 }
 
 /// Looks whether each of these is a place.

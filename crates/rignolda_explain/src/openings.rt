@@ -5,13 +5,12 @@ use rignolda_findings::{
 };
 use serde_json::Value;
 use stab_job::JobFault;
-use stab_json::u16_member;
 use stab_tree::{NodeId, Tree};
 use stab_treecore::OpeningFault;
 use std::alloc::AllocError;
 
 /// The most items that an opening may have.
-const MAX_HOLD: u16 = 64;
+const MAX_HOLD: u64 = 64;
 
 /// What `h` is.
 const HOLD: &str = "\"h\" is a whole number from 0 to 64, the most items that an opening has";
@@ -43,7 +42,7 @@ pub(crate) fn look_at_openings(
     value: &Value,
     tree: &Tree,
 ) -> Result<(), AllocError> {
-    let hold = u16_member(value, "h");
+    let hold = hold_of(value);
     look_at_hold(notes, hold)?;
     let Some(Value::Array(openings)) = value.get("openings") else {
         return Ok(());
@@ -56,13 +55,22 @@ pub(crate) fn look_at_openings(
     }
 }
 
+/// The number that `h` is.
+fn hold_of(value: &Value) -> Option<u64> {
+    value.get("h")?.as_u64()
+}
+
 /// Looks whether `h` is in its range.
-fn look_at_hold(notes: &mut Notes, hold: Option<u16>) -> Result<(), AllocError> {
+fn look_at_hold(notes: &mut Notes, hold: Option<u64>) -> Result<(), AllocError> {
     match hold {
         Some(hold) if hold > MAX_HOLD => notes.refuse(
             JobFault::Opening(OpeningFault::HoldOutOfRange),
             &Place::member("h"),
-            &[Piece::Words("out of range; "), Piece::Words(HOLD)],
+            &[
+                Piece::Number(hold),
+                Piece::Words(" is out of range; "),
+                Piece::Words(HOLD),
+            ],
         ),
         _ => Ok(()),
     }
@@ -89,9 +97,9 @@ fn look_at_count_of_openings(
     )
 }
 
-/// The place of a node's opening, with the name of the node.
-fn place_of_node<'a>(entry: usize, tree: &'a Tree) -> Place<'a> {
-    let place = Place::member("openings").entry(entry);
+/// The place of a node's entry, with the name of the node.
+pub(crate) fn place_of_node<'a>(member: &'a str, entry: usize, tree: &'a Tree) -> Place<'a> {
+    let place = Place::member(member).entry(entry);
     if entry < usize::from(tree.len()) {
         place.of_node(tree.name(NodeId::new(entry as u16)))
     } else {
@@ -137,7 +145,7 @@ fn look_at_places(notes: &mut Notes, openings: &[Value], tree: &Tree) -> Result<
         if length_of(opening) > 0 && !is_inner(tree, i) {
             notes.refuse(
                 JobFault::Opening(OpeningFault::OpeningPlace),
-                &place_of_node(i, tree),
+                &place_of_node("openings", i, tree),
                 &[Piece::Words("only a node with a parent and a child may have an opening")],
             )?;
         }
@@ -150,20 +158,20 @@ fn look_at_lengths(
     notes: &mut Notes,
     openings: &[Value],
     tree: &Tree,
-    hold: u16,
+    hold: u64,
 ) -> Result<(), AllocError> {
     for (i, opening) in openings.iter().enumerate() {
         if notes.is_done() {
             break;
         }
-        if length_of(opening) > usize::from(hold) {
+        if length_of(opening) as u64 > hold {
             notes.refuse(
                 JobFault::Opening(OpeningFault::OpeningTooLong),
-                &place_of_node(i, tree),
+                &place_of_node("openings", i, tree),
                 &[
                     Piece::Number(length_of(opening) as u64),
                     Piece::Words(" items, and \"h\" allows "),
-                    Piece::Number(u64::from(hold)),
+                    Piece::Number(hold),
                 ],
             )?;
         }

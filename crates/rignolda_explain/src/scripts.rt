@@ -39,7 +39,7 @@ const REPEAT: &str = "the repeat is a whole number up to 1000, how many of a tho
 /// The members of a script that is written out.
 const WRITTEN_MEMBERS: Known = Known {
     what: "a script",
-    names: &["frames_out", "frames_in", "acks_out", "acks_in"],
+    names: &["frames_out", "frames_in", "acks_out", "acks_in", "seed"],
     idle: &["length", "loss", "repeat"],
     reason: "without a \"seed\"",
 };

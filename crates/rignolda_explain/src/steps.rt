@@ -6,6 +6,7 @@ ghost use Rattle.serde_json.specs.Data.{Data};
 ghost use Rattle.serde_json.specs.Find.{as_array, get};
 ghost use Rattle.serde_json.specs.View.{view};
 
+use crate::changes::look_at_number_of_changes;
 use crate::found::{add_found, look_at_list};
 use crate::names::{Whole, look_at_link, look_at_name};
 use crate::strikes::{is_label, look_at_strike};
@@ -64,16 +65,18 @@ pub fn look_at_steps(notes: &mut Notes, job: &Value, tree: &Tree) -> Result<(), 
     let Value::Array(steps) = steps else {
         return add_found(notes, Place::member("steps"), steps, STEPS);
     };
+    let whole = Whole { job, tree };
+    look_at_each(notes, whole, steps.as_slice())?;
+    look_at_number_of_changes(notes, whole, steps.as_slice())
+}
+
+/// Looks at each step.
+fn look_at_each(notes: &mut Notes, whole: Whole<'_>, steps: &[Value]) -> Result<(), AllocError> {
     for (i, step) in steps.iter().enumerate() {
         if notes.is_done() {
             break;
         }
-        look_at_one(
-            notes,
-            Whole { job, tree },
-            Place::member("steps").entry(i),
-            step,
-        )?;
+        look_at_one(notes, whole, Place::member("steps").entry(i), step)?;
     }
     Ok(())
 }

@@ -6,7 +6,9 @@ ghost use Rattle.serde_json.specs.View.{view};
 ghost use Rattle.rignolda_explain.specs.Capacities.{capacity_at, entry_capacity};
 
 use crate::names::{Whole, look_at_link};
-use rignolda_findings::{Matter, Notes, Piece, Place, START_MEMBERS, count_of, look_at_members};
+use rignolda_findings::{
+    Matter, Notes, Piece, Place, START_MEMBERS, count_of, look_at_members, uncut,
+};
 use serde_json::Value;
 use stab_json::{item, label, pair, u16_member};
 use std::alloc::AllocError;
@@ -31,10 +33,37 @@ pub(crate) fn look_at_strike(
     let (name, start) = strike;
     let link = look_at_link(notes, whole, place.item(1), name)?;
     match fault_of_start(start) {
-        Some(want) => notes.add(Matter::Command, &place.item(2), &[Piece::Words(want)])?,
-        None => look_at_queues(notes, whole, place.item(2), link, start)?,
+        Some(want) => notes.add(Matter::Command, &place.item(2), &[Piece::Words(want)]),
+        None => look_at_queues(notes, whole, place.item(2), link, start),
     }
-    look_at_members(notes, place, start, START_MEMBERS)
+}
+
+/// Looks for members of the starts of strikes that are not known.
+pub(crate) fn look_at_members_of_strikes(
+    notes: &mut Notes,
+    steps: Option<&Value>,
+) -> Result<(), AllocError> {
+    let Some(Value::Array(steps)) = steps else {
+        return Ok(());
+    };
+    for (i, step) in steps.iter().enumerate() {
+        if notes.is_done() {
+            break;
+        }
+        if let Some(start) = struck(step) {
+            let place = Place::member("steps").entry(i).item(2);
+            look_at_members(notes, place, start, START_MEMBERS)?;
+        }
+    }
+    Ok(())
+}
+
+/// The start of a step that is a strike.
+fn struck(step: &Value) -> Option<&Value> {
+    match step.as_array()?.as_slice() {
+        [_, _, Value::Object(_)] => step.get(2),
+        _ => None,
+    }
 }
 
 /// What is wanted of an object that is no start.
@@ -96,7 +125,7 @@ fn look_at_queues(
     let Some(link) = link else {
         return Ok(());
     };
-    let Some(capacity) = capacity_at(whole.job, usize::from(link)) else {
+    let Some(capacity) = uncut(capacity_at(whole.job, usize::from(link))) else {
         return Ok(());
     };
     let frames = count_of(start.get("frames"));

@@ -34,5 +34,5 @@ pub use place::Place;
 pub use refusal::{Kind, Refusal};
 pub use shape::{
     list_of, list_or_absent, look_at_items, look_at_numbers, look_at_params, look_at_start,
-    look_at_whole,
+    look_at_whole, uncut,
 };

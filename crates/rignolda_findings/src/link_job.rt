@@ -7,7 +7,7 @@ use crate::known::{Known, look_at_members};
 use crate::notes::{Notes, Piece};
 use crate::place::Place;
 use crate::refusal::Refusal;
-use crate::shape::{list_of, look_at_numbers, look_at_params, look_at_start};
+use crate::shape::{list_of, look_at_numbers, look_at_params, look_at_start, uncut};
 use serde_json::Value;
 use stab_json::u16_member;
 use stab_script::{LinkJobFault, MAX_EVENTS};
@@ -94,7 +94,7 @@ fn look_at_link_start(notes: &mut Notes, value: &Value) -> Result<(), AllocError
     let Some(start) = value.get("start") else {
         return Ok(());
     };
-    if let Some(capacity) = u16_member(value, "capacity") {
+    if let Some(capacity) = uncut(u16_member(value, "capacity")) {
         look_at_begin(notes, Place::member("start"), start, capacity)?;
     }
     look_at_members(notes, Place::member("start"), start, START_MEMBERS)

@@ -40,8 +40,12 @@ impl<'a> Nearest<'a> {
         }
     }
 
-    /// Takes this name, where it is nearer.
+    /// Takes this name, where it is nearer; the same name in other letters is the nearest.
     pub fn offer(&mut self, alloc: Global, name: &str, known: &'a str) -> Result<(), AllocError> {
+        if self.fewer_than >= 1 && name.eq_ignore_ascii_case(known) {
+            self.fewer_than = 0;
+            self.near = Some(known);
+        }
         if self.fewer_than <= 1 || known.len() > MAX_KNOWN {
             return Ok(());
         }

@@ -1,5 +1,7 @@
 //! Where bytes are no JSON.
 
+ghost use Rattle.std.specs.Prelude.{◌≤◌};
+
 use crate::notes::{Notes, Piece};
 use crate::place::Place;
 use serde_json::{Error, Value};
@@ -19,7 +21,8 @@ fn add_error(notes: &mut Notes, bytes: &[u8], error: &Error) -> Result<(), Alloc
     let place = if bytes.is_empty() {
         Place::whole()
     } else {
-        Place::spot(error.line(), error.column())
+        let (line, column) = spot_of(bytes, error.line(), error.column());
+        Place::spot(line, column)
     };
     notes.add(
         notes.of_json(),
@@ -29,6 +32,49 @@ fn add_error(notes: &mut Notes, bytes: &[u8], error: &Error) -> Result<(), Alloc
             Piece::Words(hint_of(bytes, error)),
         ],
     )
+}
+
+/// The line and the column of a fault that the reader has at these, both counted from 1. Behind the
+/// last byte that is no white space there is nothing to be found, so that byte stands for the end.
+fn spot_of(bytes: &[u8], line: usize, column: usize) -> (usize, usize)
+    ensures line { 1 ≤ result.0 }
+    ensures column { 1 ≤ result.1 }
+{
+    if is_end(bytes, offset_of(bytes, line, column)) {
+        last_spot(bytes)
+    } else {
+        (line.max(1), column.max(1))
+    }
+}
+
+/// Whether there is only white space from this offset on.
+fn is_end(bytes: &[u8], at: usize) -> bool {
+    bytes.iter().skip(at).all(|byte| is_white(*byte))
+}
+
+/// The line and the column of the last byte that is no white space, or of the first byte.
+fn last_spot(bytes: &[u8]) -> (usize, usize)
+    ensures line { 1 ≤ result.0 }
+    ensures column { 1 ≤ result.1 }
+{
+    let mut last: (usize, usize) = (1, 1);
+    let mut next: (usize, usize) = (1, 1);
+    for byte in bytes {
+        if !is_white(*byte) {
+            last = next;
+        }
+        next = if *byte == b'\n' {
+            (next.0.saturating_add(1), 1)
+        } else {
+            (next.0, next.1.saturating_add(1))
+        };
+    }
+    last
+}
+
+/// Whether JSON takes this byte for white space.
+fn is_white(byte: u8) -> bool {
+    matches!(byte, b' ' | b'\t' | b'\n' | b'\r')
 }
 
 /// What is probably wrong with bytes that are no JSON.
@@ -75,7 +121,7 @@ fn offset_of(bytes: &[u8], line: usize, column: usize) -> usize {
 fn last_before(bytes: &[u8], at: usize) -> Option<u8> {
     let mut last = None;
     for byte in bytes.iter().take(at) {
-        if !matches!(*byte, b' ' | b'\t' | b'\n' | b'\r') {
+        if !is_white(*byte) {
             last = Some(*byte);
         }
     }

@@ -14,6 +14,8 @@ pub struct Place<'a> {
     item: Option<usize>,
     /// The place in the list that this item is.
     half: Option<usize>,
+    /// The member of the object that this item is.
+    inner: Option<&'a str>,
     /// The line and the column of a text that is no JSON.
     spot: Option<(usize, usize)>,
     /// What the entry is for: the words before the name of a node, and the name.
@@ -29,6 +31,7 @@ impl<'a> Place<'a> {
             part: None,
             item: None,
             half: None,
+            inner: None,
             spot: None,
             owner: None,
         }
@@ -58,12 +61,16 @@ impl<'a> Place<'a> {
         }
     }
 
-    /// This member of the object.
+    /// This member of the object: of the whole, of an entry, or of an item.
     pub fn part(self, name: &'a str) -> Place<'a> {
-        match self.member {
-            None => Place::member(name),
-            Some(_) => Place {
+        match (self.member, self.item) {
+            (None, _) => Place::member(name),
+            (Some(_), None) => Place {
                 part: Some(name),
+                ..self
+            },
+            (Some(_), Some(_)) => Place {
+                inner: Some(name),
                 ..self
             },
         }
@@ -111,19 +118,11 @@ impl<'a> Place<'a> {
         };
         push_member(line, member)?;
         push_index(line, self.entry)?;
-        self.push_part(line)?;
+        push_part(line, self.part)?;
         push_index(line, self.item)?;
         push_index(line, self.half)?;
+        push_part(line, self.inner)?;
         self.push_owner(line)
-    }
-
-    /// Adds the member of the object so far.
-    fn push_part(&self, line: &mut String) -> Result<(), AllocError> {
-        let Some(part) = self.part else {
-            return Ok(());
-        };
-        line.push_str(".")?;
-        push_member(line, part)
     }
 
     /// Adds what the entry is for.
@@ -144,6 +143,15 @@ fn push_spot(line: &mut String, row: usize, column: usize) -> Result<(), AllocEr
     push_number(line, row as u64)?;
     line.push_str(", column ")?;
     push_number(line, column as u64)
+}
+
+/// Adds the member of an object.
+fn push_part(line: &mut String, part: Option<&str>) -> Result<(), AllocError> {
+    let Some(part) = part else {
+        return Ok(());
+    };
+    line.push_str(".")?;
+    push_member(line, part)
 }
 
 /// Adds the place in a list.

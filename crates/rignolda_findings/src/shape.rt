@@ -248,7 +248,23 @@ pub fn look_at_params(
     };
     match Params::new(capacity, labels) {
         Ok(_) => Ok(()),
-        Err(fault) => refuse_params(notes, place, fault, (capacity, labels), owner),
+        Err(fault) => refuse_params(notes, place, fault, value, owner),
+    }
+}
+
+/// The number that is written there, where [`u16_member`] has one, which cuts it to 16 bits.
+fn whole_at(value: &Value, member: &str) -> u64 {
+    match value.get(member) {
+        Some(number) => number.as_u64().unwrap_or(0),
+        None => 0,
+    }
+}
+
+/// A number of 16 bits that was not cut to these.
+pub fn uncut(number: Option<u16>) -> Option<u16> {
+    match number {
+        Some(u16::MAX) => None,
+        _ => number,
     }
 }
 
@@ -257,16 +273,17 @@ fn refuse_params(
     notes: &mut Notes,
     place: Place<'_>,
     fault: ParamsFault,
-    found: (u16, u16),
+    value: &Value,
     owner: Option<NodeId>,
 ) -> Result<(), AllocError> {
     let matter = notes.of_params(fault, owner);
+    let (capacity, labels) = (whole_at(value, "capacity"), whole_at(value, "labels"));
     match fault {
         ParamsFault::CapacityOutOfRange => notes.add(
             matter,
             &place.part("capacity"),
             &[
-                Piece::Number(u64::from(found.0)),
+                Piece::Number(capacity),
                 Piece::Words(" is out of range; "),
                 Piece::Words(CAPACITY),
             ],
@@ -275,9 +292,9 @@ fn refuse_params(
             matter,
             &place.part("labels"),
             &[
-                Piece::Number(u64::from(found.1)),
+                Piece::Number(labels),
                 Piece::Words(" are too few for the capacity "),
-                Piece::Number(u64::from(found.0)),
+                Piece::Number(capacity),
                 Piece::Words("; "),
                 Piece::Words(LABELS),
             ],
@@ -286,7 +303,7 @@ fn refuse_params(
             matter,
             &place.part("labels"),
             &[
-                Piece::Number(u64::from(found.1)),
+                Piece::Number(labels),
                 Piece::Words(" are too many; "),
                 Piece::Words(LABELS),
             ],
