@@ -6,9 +6,10 @@
 Each draw is a tree with links of their own, items of which many may be equal, and what each node
 received: strays, and then items of its parent, with some of the first ones missing. Every second
 one is spoiled. `rignolda judge` has to print what tests/faults/logs.py says, and to refuse what is
-no log as man/rignolda.1 says. Of all runs of a chain of two links of capacity 1, found by a search
-through all states of a link, it has to accept what two items come to, and some of what three come
-to; and of one link and three items exactly what a run gives. By the logs of agents that
+no log as man/rignolda.1 says; and `rignolda explain` has to find something of a job with logs where
+`judge` refuses it, and else nothing. Of all runs of a chain of two links of capacity 1, found by a
+search through all states of a link, `judge` has to accept what two items come to, and some of what
+three come to; and of one link and three items exactly what a run gives. By the logs of agents that
 tests/daemon/long.py has by hand it has to say what stands beside them.
 
 The program is the one of check_tables.py. The last line is 'N passed, M failed'.
@@ -134,6 +135,12 @@ def of_runs(draw):
             yield {**JOB, "items": items, "received": [[], has]}, has in right
 
 
+def finds(file, job):
+    """Whether `explain` finds something."""
+    *found, _ = answered(file, "explain", given=job, timeout=600)[1].splitlines()
+    return bool(found)
+
+
 def tried(file):
     """Tries all logs with this program."""
     count, seed = asked(1500, 1)
@@ -153,6 +160,8 @@ def tried(file):
           f"{len(runs)} of all that runs give, and {len(long.CASES)} of agents")
     tried = [(json.dumps(job), has, want)
              for (job, _), has, want in zip(cases + runs, said, wanted)]
+    tried += [(f"explain: {json.dumps(job)}", finds(file, job), text.startswith("rignolda: "))
+              for job, text in cases[:count:10] + cases[count:] if "received" in job]
     tried += [(f"agents: {name}", long.judged(file, *parts, broken=[*broken, ()][0]), want)
               for name, parts, want, *broken in long.CASES]
     return counted(((name, None if has == want else f"{has}\nwanted {want}")

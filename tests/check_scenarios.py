@@ -8,7 +8,7 @@ Of each scenario `rignolda scenario` and `draw` have to print what tests/faults/
 of that run in their order, and `rignolda explain` has to find nothing. Then one value of a step is
 spoiled: where `rignolda scenario` refuses a step, the first thing that `explain` finds has to be at
 that step, and else nothing. One in twenty is continued to 1,000,000 changes, or to one more, which
-is refused.
+is refused, and which is all that `explain` finds.
 
 The program is the one of check_tables.py. The last line is 'N passed, M failed'.
 """
@@ -30,6 +30,8 @@ from programs import answered, counted, run_with
 
 VALUES = [None, True, -1, 0, 1, 70000, 0.5, "", "x", "offer", "publish", "lose_frame", [], [0],
           [[0]], {}, {"send": 0, "recv": 1}, {"send": 0, "recv": 1, "acks": [1, 1, 1, 1]}]
+
+TOO_MANY = "acts, publications and faults are too many; at most 1000000 are allowed"
 
 
 def rows_of_text(text):
@@ -111,8 +113,12 @@ def fault_of_count(file, draw, job):
     job = dict(job, steps=[*job["steps"], *steps, *[["publish", []]] * (rest + more)])
     status, _, err = answered(file, "scenario", given=job, timeout=600)
     wanted = (1, "rignolda: scenario: too many events\n") if more else (0, "")
-    said = f"scenario says {err!r} with {more} more changes than the most, of {json.dumps(job)}"
-    return None if (status, err) == wanted else said
+    if (status, err) != wanted:
+        return f"scenario says {err!r} with {more} more changes than the most, of {json.dumps(job)}"
+    *found, last = answered(file, "explain", given=job, timeout=600)[1].splitlines()
+    wanted = [f"steps: 1000001 {TOO_MANY}"] * more
+    is_same = (found, last) == (wanted, "stab tree: accepted")
+    return None if is_same else f"explain finds {found} with {more} more, of {json.dumps(job)}"
 
 
 def fault_of(file, seed):
