@@ -45,6 +45,7 @@ BAD = [
     {"steps": [["reading_rounds", [1]]]}, {"backlogs": {}}, {"backlogs": [7]},
     {"backlogs": [[], [-1]]}, {"received": None}, {"received": [[], 1]}, {"received": [[], ["x"]]},
     {"received": [[], [4294967296]]}, {"from": 1}, {"from": [0, -1]}, {"from": ["x"]},
+    {"from": []}, {"from": [0, 4294967296]},
     # (a number with a point is a whole one to a schema)
     *({"steps": [step]} for step in REFUSED["wrong shape"] if step != ["rounds", 1.0]),
 ]
