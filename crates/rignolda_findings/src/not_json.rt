@@ -40,23 +40,33 @@ fn spot_of(bytes: &[u8], line: usize, column: usize) -> (usize, usize)
     ensures line { 1 ≤ result.0 }
     ensures column { 1 ≤ result.1 }
 {
-    if is_end(bytes, offset_of(bytes, line, column)) {
+    let (line, column) = if is_end(bytes, offset_of(bytes, line, column)) {
         last_spot(bytes)
     } else {
-        (line.max(1), column.max(1))
-    }
+        (line, column)
+    };
+    (from_one(line), from_one(column))
+}
+
+/// This number, or 1 in place of 0.
+fn from_one(number: usize) -> usize
+    ensures { 1 ≤ result }
+{
+    if number == 0 { 1 } else { number }
 }
 
 /// Whether there is only white space from this offset on.
 fn is_end(bytes: &[u8], at: usize) -> bool {
-    bytes.iter().skip(at).all(|byte| is_white(*byte))
+    for (place, byte) in bytes.iter().enumerate() {
+        if place >= at && !is_white(*byte) {
+            return false;
+        }
+    }
+    true
 }
 
 /// The line and the column of the last byte that is no white space, or of the first byte.
-fn last_spot(bytes: &[u8]) -> (usize, usize)
-    ensures line { 1 ≤ result.0 }
-    ensures column { 1 ≤ result.1 }
-{
+fn last_spot(bytes: &[u8]) -> (usize, usize) {
     let mut last: (usize, usize) = (1, 1);
     let mut next: (usize, usize) = (1, 1);
     for byte in bytes {
