@@ -147,7 +147,7 @@ def threats(cases):
     said, tried = cells("docs/DAEMON.md"), cells("tests/README.md")
     cases.holds("each threat has its tests", said.keys() == tried.keys(),
                 said.keys() ^ tried.keys())
-    files = [*HERE.iterdir(), *HOME.glob("rust/*/tests/*.rs"), *HOME.glob("rust/*/src/*.rs")]
+    files = [*HERE.iterdir(), *HOME.glob("rust/*/tests/*.rs"), *HOME.glob("rust/*/src/**/*.rs")]
     text = "\n".join(file.read_text() for file in files if file.is_file())
     there = set(re.findall(r"\b(?:def|fn) (\w+)\b|^(\w+)\(\)", text, re.MULTILINE))
     for who in list(said)[2:]:

@@ -56,10 +56,16 @@ USUAL = 15.0
 
 
 def until(what, seconds=USUAL, pause=0.01):
-    """Whether something comes to hold within `seconds` seconds, and some patience."""
-    end = time.monotonic() + seconds * PATIENCE
-    while not (holds := what()) and time.monotonic() < end:
+    """Whether something comes to hold within `seconds` seconds, and some patience. Where a pause
+    takes longer than it should, the machine has much else to do, and time counts the less for it,
+    down to a tenth."""
+    left, before = seconds * PATIENCE, time.monotonic()
+    while not (holds := what()) and left > 0:
+        begun = time.monotonic()
         time.sleep(pause)
+        now = time.monotonic()
+        left -= (now - before) * min(1, max(2 * pause / (now - begun), 0.1))
+        before = now
     return bool(holds)
 
 
