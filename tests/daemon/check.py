@@ -56,7 +56,7 @@ def settings_reach_all_and_what_is_removed_is_gone(tree):
 def connections_that_break_lose_nothing():
     """Whoever connects, also by TLS; and there is no round that would mend what was lost."""
     for secure in [], [by_tls]:
-        # (and nobody is left behind, however slow the machine is: it would wait for a round)
+        # (nobody is left behind since the machine is slow: what breaks is to be all there is)
         with Tree(None, root_has(round="1h"), patient, *secure) as tree:
             relays = [between(tree[name], name == "right", cuts=(0.02, 0.25), seed=seed)
                       for seed, name in enumerate(("left", "right1", "left2", "right"))]
