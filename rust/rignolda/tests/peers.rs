@@ -661,19 +661,29 @@ fn who_acknowledges_what_was_not_sent_is_closed() {
     net.step();
     assert!(net.said("root", "closed a: it acknowledges what was not sent"));
     drop(end);
-    // (a report that makes no sense closes the connection too, and one that does is heard)
-    let greeting = [
-        hello("a", "root"),
-        wire::report(b"well"),
-        wire::report(b"bad"),
-    ]
-    .concat();
-    let end = net.stranger("root", "a", &greeting);
-    net.step();
-    assert!(
-        net.said("root", "report of a well") && net.said("root", "closed a: it sent no report")
-    );
-    drop(end);
+}
+
+/// What there is to watch changes no step of a link, whatever it is.
+#[test]
+fn no_report_closes_its_connection() {
+    let mut net = path([false, false]);
+    net.agents.remove("a");
+    net.publish("root", "T0");
+    let reports = [&b"well"[..], b"", b"\xff\xff", b"[", &[b'['; 700]];
+    let all = reports.map(wire::report).concat();
+    let end = net.stranger("root", "a", &[hello("a", "root"), all].concat());
+    net.steps(3);
+    for report in reports {
+        let text = String::from_utf8_lossy(report);
+        assert!(net.said("root", &format!("report of a {}", text)));
+    }
+    // (and what is published goes on by it)
+    assert!(!net.said("root", "closed a") && !end.from.borrow().closed);
+    next(&end, Expect::Hello);
+    match next(&end, Expect::Frames) {
+        Some(Message::Frame(_, body)) => assert_eq!(body.bytes, b"T0"),
+        other => panic!("{:?}", other),
+    }
 }
 
 #[test]
@@ -1235,4 +1245,73 @@ fn a_child_is_called_in_version_1_where_it_left_twice_without_a_word() {
         net.steps(100);
         assert_eq!(net.agent("a").peers.way(), &way(1, &["root", "a"]));
     }
+}
+
+#[test]
+fn who_looks_at_itself_is_answered_and_whatever_becomes_of_that_is_not_counted() {
+    let mut net = path([false, false]);
+    net.steps(100);
+    let counts = |net: &mut Net| {
+        let peers = &net.agent("a").peers;
+        (peers.refused(), peers.last_refused().to_string())
+    };
+    let before = (counts(&mut net), net.agent("a").said.facts.clone());
+    let look = |from: &str, to: &str| hello_2(from, to, 0).look();
+    let own = net.stranger_at(Origin::Own, "a", "a", &look("a", "a"));
+    net.step();
+    assert!(matches!(next(&own, Expect::Hello), Some(Message::Look(it)) if it.from == "a"));
+    let says = Some(Message::Way(way(1, &["root", "a"])));
+    assert_eq!(next(&own, Expect::Way), says);
+    // (a look is no link: neither a hello of that name, nor a look by another certificate)
+    let hello = net.stranger_at(Origin::Own, "a", "a", &hello_2("a", "a", 9).bytes());
+    let other = net.stranger_at(Origin::Own, "a", "b", &look("a", "a"));
+    let silent = net.stranger_at(Origin::Own, "a", "nobody", b"\x16\x03\x01\x02");
+    drop(net.stranger_at(Origin::Own, "a", "nobody", b""));
+    net.steps(2);
+    assert!([&hello, &other, &silent]
+        .iter()
+        .all(|it| it.from.borrow().closed));
+    drop(own);
+    net.steps(2);
+    assert_eq!(
+        (counts(&mut net), net.agent("a").said.facts.clone()),
+        before
+    );
+    // (from anywhere else it is counted, and said)
+    net.stranger("a", "b", &look("a", "a"));
+    net.steps(2);
+    assert_eq!(counts(&mut net).0, before.0 .0 + 1);
+    assert!(net.said("a", "refused"));
+}
+
+#[test]
+fn it_is_known_since_when_no_connection_comes_about_and_whether_a_parent_answers() {
+    let mut net = path([false, false]);
+    net.steps(100);
+    let fails = |net: &mut Net| net.agent("a").peers.fails_since();
+    assert_eq!(fails(&mut net), None);
+    let begun = net.now;
+    for _ in 0..3 {
+        drop(net.stranger("a", "b", b""));
+        net.steps(50);
+    }
+    assert_eq!(fails(&mut net), Some(begun + STEP));
+    // (the agent itself comes otherwise, so it does not count)
+    net.stranger_at(Origin::Own, "a", "a", &hello_2("a", "a", 0).look());
+    net.steps(2);
+    assert_eq!(fails(&mut net), Some(begun + STEP));
+    net.cut("b");
+    net.steps(100);
+    assert_eq!(fails(&mut net), None, "a child came");
+    drop(net.stranger_at(Origin::Own, "a", "nobody", b""));
+    net.steps(2);
+    assert_eq!(fails(&mut net), None);
+    let answers = |net: &mut Net| net.agent("a").peers.looks_answered();
+    let before = answers(&mut net);
+    net.cut("a");
+    net.steps(100);
+    assert_eq!(answers(&mut net), before + 1);
+    net.agents.remove("root");
+    net.steps(400);
+    assert_eq!(answers(&mut net), before + 1, "nobody answers");
 }

@@ -70,9 +70,8 @@ impl Handler for Came {
         table
     }
 
-    fn on_report(&mut self, _: &str, report: &[u8], _: Instant) -> bool {
+    fn on_report(&mut self, _: &str, report: &[u8], _: Instant) {
         self.reports.push(report.to_vec());
-        true
     }
 
     fn on_report_request(&mut self) {

@@ -187,9 +187,7 @@ impl Handler for Said {
         text.starts_with('T')
     }
 
-    fn on_report(&mut self, _: &str, report: &[u8], _: Instant) -> bool {
-        report == b"well"
-    }
+    fn on_report(&mut self, _: &str, _: &[u8], _: Instant) {}
 
     fn on_gone(&mut self, _: &str) {}
 

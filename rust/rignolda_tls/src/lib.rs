@@ -17,6 +17,7 @@ mod certificate;
 mod handshakes;
 mod line;
 mod listener;
+mod reach;
 mod secure;
 
 pub use aside::moved_aside;
@@ -25,6 +26,7 @@ pub use certificate::{unix_time, Fault};
 pub use handshakes::Handshakes;
 pub use line::{Line, Maker, TlsError};
 pub use listener::Listener;
+pub use reach::{ask, By, Looked, Looker, Own};
 pub use secure::Secure;
 
 /// O_NONBLOCK of Linux.

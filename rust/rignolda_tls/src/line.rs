@@ -3,9 +3,11 @@ use crate::certificate::{
     distrusted, has_revoked, names, private_key, read, reason, unix_time, REVOKED,
 };
 use crate::handshakes::Job;
+use crate::reach::Own;
 use crate::secure::{Bounded, READ, WRITE};
 use crate::{Handshakes, Listener, Secure, Tls};
 use openssl::error::ErrorStack;
+use openssl::sha::Sha256;
 use openssl::ssl::{
     Ssl, SslContext, SslMethod, SslMode, SslOptions, SslSessionCacheMode, SslStream, SslVerifyMode,
     SslVersion,
@@ -34,6 +36,12 @@ const NAMES: usize = 3;
 #[derive(Clone, Debug, PartialEq, Eq)]
 pub struct TlsError(String);
 
+impl TlsError {
+    pub(crate) fn new(why: String) -> TlsError {
+        TlsError(why)
+    }
+}
+
 impl fmt::Display for TlsError {
     fn fmt(&self, to: &mut fmt::Formatter<'_>) -> fmt::Result {
         to.write_str(&self.0)
@@ -46,16 +54,68 @@ impl std::error::Error for TlsError {}
 #[derive(Debug)]
 pub struct Maker {
     tls: Option<SslContext>,
+    /// The same once more, as a [word](PLAIN): so that no fault of the memory turns TLS off.
+    is: u64,
+    /// What the files have that it was made of, as a SHA-256.
+    files: [u8; 32],
     timeout: Duration,
     asks: Option<mpsc::Sender<Job>>,
+    own: Own,
 }
+
+/// Whether lines over TCP are plain, or by TLS: in each bit these are different.
+const PLAIN: u64 = 0x5ca1_ab1e_0ddb_a11d;
+const SECURE: u64 = !PLAIN;
+/// Why no line is made where the two say different things.
+const SPOILED: &str = "whether it uses TLS is not known";
 
 impl Maker {
     /// Reads the certificates. `timeout` is how long sent bytes may stay without an answer of the
     /// other machine.
     pub fn new(tls: Option<&Tls>, timeout: Duration) -> Result<Maker, TlsError> {
-        let tls = tls.map(context).transpose().map_err(TlsError)?;
-        Ok(Maker { tls, timeout, asks: None })
+        let context = tls.map(context).transpose().map_err(TlsError)?;
+        let (files, is) =
+            (digest(tls).map_err(TlsError)?, if tls.is_some() { SECURE } else { PLAIN });
+        let tls = context;
+        Ok(Maker { tls, is, files, timeout, asks: None, own: Own::default() })
+    }
+
+    /// The same made anew, by files that have what they had when it was made; nothing where they
+    /// have something else, since whoever put it there says when it counts.
+    ///
+    /// # Errors
+    ///
+    /// As those of [`Maker::new`].
+    pub fn renewed(&self, tls: Option<&Tls>) -> Result<Option<Maker>, TlsError> {
+        let new = Maker::new(tls, self.timeout)?;
+        let new = Maker { asks: self.asks.clone(), own: self.own.clone(), ..new };
+        Ok(Some(new).filter(|new| new.files == self.files))
+    }
+
+    /// What it makes plain or by TLS, where that is to be so: else it makes no lines.
+    fn context(&self) -> io::Result<Option<&SslContext>> {
+        match (&self.tls, self.is) {
+            (Some(context), SECURE) => Ok(Some(context)),
+            (None, PLAIN) => Ok(None),
+            _ => Err(io::Error::other(SPOILED)),
+        }
+    }
+
+    /// How its lines are secured, if they are.
+    pub(crate) fn secure(&self) -> Option<&SslContext> {
+        self.context().ok()?
+    }
+
+    /// What cannot be, where something cannot: whether it is to make lines by TLS is said.
+    pub fn fault(&self, is_secure: bool) -> Option<&'static str> {
+        let is_so = self.context().is_ok_and(|it| it.is_some() == is_secure);
+        (!is_so).then_some(SPOILED)
+    }
+
+    /// The same, by which connections of the agent [itself](Origin::Own) are known.
+    #[must_use]
+    pub fn with_own(self, own: &Own) -> Maker {
+        Maker { own: own.clone(), ..self }
     }
 
     /// The same, whose lines have their handshakes done there; else whoever reads or writes a line
@@ -63,6 +123,11 @@ impl Maker {
     #[must_use]
     pub fn with_handshakes(self, handshakes: &Handshakes) -> Maker {
         Maker { asks: Some(handshakes.asks()), ..self }
+    }
+
+    /// By what connections of the agent itself are known.
+    pub fn own(&self) -> &Own {
+        &self.own
     }
 
     /// How long sent bytes may stay without an answer.
@@ -88,8 +153,14 @@ impl Maker {
     pub fn accept(&self, listener: &Listener) -> io::Result<Line> {
         let socket = serve::Listener::accept(listener)?;
         let address = socket.peer_addr().ok().and_then(|it| it.as_socket());
-        let origin = address.map_or(Origin::Here, |it| it.ip().into());
-        self.line(socket, origin, listener.is_unix(), false)
+        let origin = match address {
+            _ if self.own.is_other_end_of(&socket, address) => Origin::Own,
+            Some(it) => it.ip().into(),
+            None => Origin::Here,
+        };
+        // (of the socket itself: what is remembered of its listener may be spoiled)
+        let is_unix = socket.domain()? == Domain::UNIX;
+        self.line(socket, origin, is_unix, false)
     }
 
     /// A line of a socket. By TLS it is told which end it is.
@@ -108,8 +179,10 @@ impl Maker {
         let alive = TcpKeepalive::new().with_time(part).with_interval(part).with_retries(3);
         socket.set_tcp_keepalive(&alive)?;
         socket.set_tcp_user_timeout(Some(self.timeout))?;
-        let Some(context) = &self.tls else { return Ok(Line::Plain(socket, origin)) };
+        let Some(context) = self.context()? else { return Ok(Line::Plain(socket, origin)) };
         let mut ssl = Ssl::new(context)?;
+        // (whatever the context has become)
+        ssl.set_verify(VERIFIES);
         match is_called {
             true => ssl.set_connect_state(),
             false => ssl.set_accept_state(),
@@ -133,7 +206,23 @@ impl Maker {
     }
 }
 
-fn context(tls: &Tls) -> Result<SslContext, String> {
+/// Whoever has no certificate, or none of the authority, is refused.
+const VERIFIES: SslVerifyMode = SslVerifyMode::from_bits_truncate(
+    SslVerifyMode::PEER.bits() | SslVerifyMode::FAIL_IF_NO_PEER_CERT.bits(),
+);
+
+/// What the files have, as a SHA-256: each one's length in 8 bytes, and its bytes.
+fn digest(tls: Option<&Tls>) -> Result<[u8; 32], String> {
+    let mut sha = Sha256::new();
+    for (_, path) in tls.iter().flat_map(|it| it.files()) {
+        let bytes = read(path)?;
+        sha.update(&(bytes.len() as u64).to_be_bytes());
+        sha.update(&bytes);
+    }
+    Ok(sha.finish())
+}
+
+pub(crate) fn context(tls: &Tls) -> Result<SslContext, String> {
     let with = |path: &Path| {
         let path = format!("{}: ", path.display());
         move |e: ErrorStack| path + reason(&e).unwrap_or("nothing in it can be used")
@@ -154,7 +243,7 @@ fn context(tls: &Tls) -> Result<SslContext, String> {
         );
         context.set_session_cache_mode(SslSessionCacheMode::OFF);
         context.set_session_id_context(b"rignolda")?;
-        context.set_verify(SslVerifyMode::PEER | SslVerifyMode::FAIL_IF_NO_PEER_CERT);
+        context.set_verify(VERIFIES);
         Ok(context)
     };
     let mut context = make().map_err(|e| e.to_string())?;
@@ -300,5 +389,36 @@ impl Write for Line {
 
     fn flush(&mut self) -> io::Result<()> {
         Ok(())
+    }
+}
+
+#[cfg(test)]
+mod tests {
+    use super::*;
+
+    /// By a fault of the memory; else each maker knows which one it is.
+    #[test]
+    fn no_bit_turns_tls_off() {
+        let timeout = Duration::from_secs(9);
+        let address = SockAddr::from(std::net::SocketAddr::from(([127, 0, 0, 1], 9)));
+        let context = || SslContext::builder(SslMethod::tls()).unwrap().build();
+        for is_secure in [false, true] {
+            let maker = |is, has_one: bool| {
+                let plain = Maker::new(None, timeout).unwrap();
+                Maker { tls: has_one.then(context), is, ..plain }
+            };
+            let is = if is_secure { SECURE } else { PLAIN };
+            assert_eq!(maker(is, is_secure).fault(is_secure), None);
+            let bits = (0..64).map(|bit| maker(is ^ 1 << bit, is_secure));
+            for spoiled in bits.chain([0, u64::MAX, !is].map(|is| maker(is, is_secure))) {
+                assert!(spoiled.fault(is_secure).is_some());
+                let line = spoiled.connect(&address).map(drop);
+                assert_eq!(line.unwrap_err().to_string(), SPOILED);
+            }
+            // (a context that came or went)
+            let spoiled = maker(is, !is_secure);
+            assert_eq!(spoiled.fault(is_secure), Some(SPOILED));
+            assert_eq!(spoiled.connect(&address).map(drop).unwrap_err().to_string(), SPOILED);
+        }
     }
 }

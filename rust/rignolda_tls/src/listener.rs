@@ -4,9 +4,10 @@ use rignolda::net::{serve, Address};
 use socket2::{Domain, SockAddr, Socket, Type};
 use std::fs::{self, Permissions};
 use std::io::{self, ErrorKind};
-use std::net::TcpListener;
+use std::net::{SocketAddr, TcpListener};
 use std::os::unix::fs::{FileTypeExt, MetadataExt, PermissionsExt};
 use std::os::unix::io::{AsRawFd, RawFd};
+use std::os::unix::net::UnixListener;
 use std::path::{Path, PathBuf};
 
 /// How many connections may wait at a Unix socket.
@@ -128,8 +129,41 @@ impl Listener {
         Ok(())
     }
 
-    pub(crate) fn is_unix(&self) -> bool {
-        self.place.is_some()
+    /// Whether its descriptor is that of a socket which listens there, as the system knows it: of a
+    /// host that has a name it is not known at which address.
+    pub fn is_of(&self, address: &Address) -> bool {
+        let is = || self.socket.local_addr().ok()?.as_socket();
+        // (of what is no socket of a path, the system says no such address)
+        let at = || UnixListener::from(self.socket.try_clone().ok()?).local_addr().ok();
+        let is_there = match address {
+            Address::Tcp(text) => {
+                // (one that asked for any port has got some)
+                let is_one = |it: SocketAddr, is: SocketAddr| {
+                    it == is || it.port() == 0 && it.ip() == is.ip()
+                };
+                is().is_some_and(|is| text.parse().map_or(true, |it| is_one(it, is)))
+            }
+            Address::Unix(path) => at().is_some_and(|is| is.as_pathname() == Some(path)),
+            _ => false,
+        };
+        is_there && self.socket.is_listener().unwrap_or(false)
+    }
+
+    /// Where it listens at this address, as the system knows it.
+    pub fn place_of(&self, address: &Address) -> Address {
+        let is = self.socket.local_addr().ok().and_then(|it| it.as_socket());
+        is.map_or_else(|| address.clone(), |is| Address::Tcp(is.to_string()))
+    }
+
+    /// Has another descriptor of the same socket from now on, so that nothing is believed which was
+    /// remembered of it; whoever waits to be accepted is accepted.
+    ///
+    /// # Errors
+    ///
+    /// If the system refuses it, as it has no descriptor left: then it listens as before.
+    pub fn begins_anew(&mut self) -> io::Result<()> {
+        self.socket = self.socket.try_clone()?;
+        self.socket.set_nonblocking(true)
     }
 }
 

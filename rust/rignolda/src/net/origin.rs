@@ -15,6 +15,9 @@ pub enum Origin {
     V6([u8; 8]),
     /// An address that was called: whoever calls knows few, so each port is one by itself.
     Called(SocketAddr),
+    /// The agent itself, which looks from outside whether it can be reached: what becomes of that
+    /// is nobody's business but its own, so it is neither counted nor said.
+    Own,
 }
 
 /// ```

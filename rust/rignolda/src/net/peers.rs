@@ -87,6 +87,10 @@ pub struct Peers<L, A> {
     known: Known,
     /// How often a hello was late on a connection that was accepted: nobody knows whose.
     late: u32,
+    /// Since when connections end before a hello has come by one, where none had any since; and how
+    /// often a parent has answered anything.
+    fails: Option<Instant>,
+    answers: u64,
     /// How many connections may wait without a hello, whatever else allows more; and the same with
     /// each bit turned, since nobody else knows it.
     waiting: usize,
@@ -150,6 +154,8 @@ impl<L: Line, A: Clone + PartialEq + fmt::Display> Peers<L, A> {
             refusals: BTreeMap::new(),
             known: Known::default(),
             late: 0,
+            fails: None,
+            answers: 0,
             waiting: usize::MAX,
             not_waiting: 0,
             beat: now + BEAT,
@@ -344,6 +350,17 @@ impl<L: Line, A: Clone + PartialEq + fmt::Display> Peers<L, A> {
         all.filter_map(|(at, (why, _))| Some((self.candidate(*at)?, *why)))
     }
 
+    /// Since when connections have ended before the other end's hello came, where it has come by
+    /// none since then.
+    pub fn fails_since(&self) -> Option<Instant> {
+        self.fails
+    }
+
+    /// How often an end that was called as a parent has said its hello.
+    pub fn looks_answered(&self) -> u64 {
+        self.answers
+    }
+
     /// Whether a child or a parent connected from there last that proved its name by a certificate.
     pub fn knows(&self, origin: &Origin) -> bool {
         self.known.has(origin)
@@ -440,7 +457,9 @@ impl<L: Line, A: Clone + PartialEq + fmt::Display> Peers<L, A> {
     }
 
     fn open(&mut self, mut line: L, state: State, now: Instant, until: Instant) -> u64 {
-        self.made += 1;
+        // (no number is given twice, whatever is remembered of them)
+        let last = self.conns.keys().next_back().copied();
+        self.made = self.made.max(last.unwrap_or(0)) + 1;
         line.is_numbered(self.made);
         let conn = Conn::new(line, state, now, until);
         self.conns.insert(self.made, conn);
@@ -468,8 +487,13 @@ impl<L: Line, A: Clone + PartialEq + fmt::Display> Peers<L, A> {
         self.due.set(None);
         self.touched.retain(|it| *it != id);
         let place = conn.line.place();
+        let is_own = conn.line.origin() == Origin::Own;
+        if !conn.has_said && !is_own {
+            self.fails.get_or_insert(cx.now);
+        }
         match &conn.state {
             State::Answered => (),
+            State::Accepted | State::Comes(..) if is_own => (),
             State::Accepted | State::Comes(..) => {
                 self.refused += 1;
                 self.last_refused = format!("{place}{}: {why}", conn.says);

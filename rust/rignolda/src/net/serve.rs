@@ -101,6 +101,8 @@ pub struct Server<T, L: Listener> {
     idle: Duration,
     /// Until when nobody is accepted, since no descriptor was left.
     full: Option<Instant>,
+    /// How often somebody was not served, since there was no room.
+    turned_away: u64,
 }
 
 impl<T, L: Listener> fmt::Debug for Server<T, L> {
@@ -123,7 +125,18 @@ impl<T, L: Listener> Server<T, L> {
             most,
             idle,
             full: None,
+            turned_away: 0,
         }
+    }
+
+    /// Has these bounds from now on, as a new one would; its listener and clients stay.
+    pub fn begins_anew(&mut self, most: usize, idle: Duration, parse: Parse<T>) {
+        (self.most, self.idle, self.parse) = (most, idle, parse);
+    }
+
+    /// How often somebody was not accepted or was closed, since there was no room.
+    pub fn turned_away(&self) -> u64 {
+        self.turned_away
     }
 
     /// Where clients are accepted.
@@ -239,9 +252,12 @@ impl<T, L: Listener> Server<T, L> {
                 return;
             }
             match (self.listener.accept(), goes) {
-                (Ok(_), None) if is_full => (),
+                (Ok(_), None) if is_full => self.turned_away += 1,
                 (Ok(socket), goes) => {
-                    goes.filter(|_| is_full).map(|at| self.clients.remove(at));
+                    if let Some(at) = goes.filter(|_| is_full) {
+                        self.clients.remove(at);
+                        self.turned_away += 1;
+                    }
                     self.clients.push(Client {
                         number: MADE.fetch_add(1, Ordering::Relaxed),
                         socket,
@@ -258,6 +274,7 @@ impl<T, L: Listener> Server<T, L> {
                 (Err(error), _) if error.kind() == ErrorKind::WouldBlock => return,
                 (Err(_), _) => {
                     self.full = Some(now + FULL);
+                    self.turned_away += 1;
                     return;
                 }
             }

@@ -21,8 +21,7 @@ impl Random {
     }
 }
 
-/// What an agent was told. A text that begins with T is a whole table, and a report makes sense
-/// that says `well`.
+/// What an agent was told. A text that begins with T is a whole table.
 #[derive(Default)]
 pub struct Said {
     pub items: Vec<String>,
@@ -37,10 +36,9 @@ impl Handler for Said {
         is_table
     }
 
-    fn on_report(&mut self, child: &str, report: &[u8], _: Instant) -> bool {
+    fn on_report(&mut self, child: &str, report: &[u8], _: Instant) {
         let text = String::from_utf8_lossy(report);
         self.facts.push(format!("report of {child} {text}"));
-        report == b"well"
     }
 
     fn on_gone(&mut self, child: &str) {

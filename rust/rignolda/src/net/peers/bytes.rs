@@ -1,7 +1,8 @@
 //! What is read from connections, and written to them.
-use super::connection::{Chunk, Conn, Line};
+use super::connection::{Chunk, Conn, Line, State};
 use super::{Context, Handler, Peers, Result};
 use crate::net::wire::{self, Expect};
+use crate::net::Origin;
 use std::collections::BTreeSet;
 use std::io::ErrorKind;
 use std::sync::Arc;
@@ -154,7 +155,10 @@ impl<L: Line, A: Clone + PartialEq + fmt::Display> Peers<L, A> {
             if conn.output.len() > UNREAD {
                 return Err("it reads nothing".into());
             }
-            conn.has_said = true;
+            if !mem::replace(&mut conn.has_said, true) && conn.line.origin() != Origin::Own {
+                self.fails = None;
+                self.answers += u64::from(matches!(conn.state, State::Looks(..)));
+            }
             let expect = conn.expects();
             let message = conn.next(expect).map_err(|why| why.to_string())?;
             match (expect, &message) {

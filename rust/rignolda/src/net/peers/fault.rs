@@ -14,6 +14,8 @@ use std::error::Error;
 use std::fmt;
 use std::time::{Duration, Instant};
 
+/// The numbers of connections stay below this, of which no process has so many.
+const NUMBERS: u64 = 1 << 48;
 /// How long the look-up of an address takes at most.
 const LOOK_UP: Duration = Duration::from_secs(300);
 /// After how long at most somebody other than a candidate is called again, unless it is to connect.
@@ -104,6 +106,7 @@ impl<L: Line, A: Clone + PartialEq + fmt::Display> Peers<L, A> {
         }
         self.beat = self.beat.min(now + BEAT);
         self.late = self.late.min(LATER);
+        self.fails = self.fails.map(|at| at.min(now));
         let parents = self.setup.parents.len();
         self.refusals.retain(|at, _| *at < parents);
         let (relay, setup) = (&self.relay, &self.setup);
@@ -205,8 +208,89 @@ impl<L: Line, A: Clone + PartialEq + fmt::Display> Peers<L, A> {
             () if self.dials.len() != calls || !self.dials.keys().all(is_called) => {
                 Some("it calls other ones")
             }
+            () if self.made >= NUMBERS => Some("it had too many connections"),
             () if !are_known || !are_theirs || !has_above => Some("a connection is not found"),
             () => self.relay.fault(),
+        }
+    }
+}
+
+#[cfg(test)]
+mod tests {
+    use super::*;
+    use crate::net::{Body, Way};
+    use std::io::{self, ErrorKind, Read, Write};
+    use std::sync::Arc;
+
+    /// A line on which nothing comes.
+    struct Silent;
+
+    impl Read for Silent {
+        fn read(&mut self, _: &mut [u8]) -> io::Result<usize> {
+            Err(ErrorKind::WouldBlock.into())
+        }
+    }
+
+    impl Write for Silent {
+        fn write(&mut self, from: &[u8]) -> io::Result<usize> {
+            Ok(from.len())
+        }
+
+        fn flush(&mut self) -> io::Result<()> {
+            Ok(())
+        }
+    }
+
+    impl Line for Silent {
+        fn may_be(&self, _: &str) -> bool {
+            true
+        }
+    }
+
+    /// Who is told, and does nothing.
+    struct Nobody;
+
+    impl Handler for Nobody {
+        fn on_item(&mut self, _: &Arc<Body>, _: Instant) -> bool {
+            false
+        }
+        fn on_report(&mut self, _: &str, _: &[u8], _: Instant) {}
+        fn on_gone(&mut self, _: &str) {}
+        fn on_looked(&mut self, _: usize, _: Option<(&Way, u64)>) {}
+        fn on_fact(&mut self, _: &'static str, _: fmt::Arguments<'_>) {}
+    }
+
+    fn peers(now: Instant) -> Peers<Silent, String> {
+        let setup = Setup {
+            name: "root".into(),
+            parents: Vec::new(),
+            rank: None,
+            children: Children::Any,
+            ack_timeout: Duration::from_secs(9),
+            evict: Duration::from_secs(9),
+            poll: Duration::from_secs(9),
+        };
+        Peers::new(setup, 1, 64, now)
+    }
+
+    /// After a fault of the memory; else they are counted from 1.
+    #[test]
+    fn no_connection_has_a_number_that_another_one_has_or_that_is_none() {
+        let now = Instant::now();
+        let mut it = peers(now);
+        (0..9).for_each(|_| it.accept(Silent, now, &mut Nobody));
+        for spoiled in [0, 1, 2, 8] {
+            it.made = spoiled;
+            let (before, last) = (it.conns.len(), it.conns.keys().last().copied());
+            it.accept(Silent, now, &mut Nobody);
+            let new = it.conns.keys().last().copied();
+            assert_eq!(it.conns.len(), before + 1, "one took the place of another");
+            assert!(new > last && it.check(false, now, &mut Nobody).is_ok());
+        }
+        for bit in [48, 62, 63] {
+            let mut it = peers(now);
+            it.made |= 1 << bit;
+            assert!(it.check(false, now, &mut Nobody).is_err(), "{bit}");
         }
     }
 }

@@ -21,8 +21,9 @@ pub trait Handler {
         None
     }
     /// A child reports this: what there is to watch, and the numbers above which a root goes on.
-    /// Whether it makes sense; else its connection is closed.
-    fn on_report(&mut self, child: &str, report: &[u8], now: Instant) -> bool;
+    /// What makes no sense may be counted: its connection stays, since no step of a link depends on
+    /// a report. So nothing that is done about one may cost much, or send much.
+    fn on_report(&mut self, child: &str, report: &[u8], now: Instant);
     /// The parent lacks what the last report of changes was made from: the next one is to be whole.
     fn on_report_request(&mut self) {}
     /// A child is one no longer: what it said may be forgotten.

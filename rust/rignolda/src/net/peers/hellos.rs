@@ -3,7 +3,7 @@ use super::connection::{Conn, Line, State};
 use super::dials::LOOKED;
 use super::{fact, Children, Context, Parent, Peers, Result, Whom, BEAT, NONE};
 use crate::net::wire::{self, Expect, Hello, FIRST, OLD, VERSION};
-use crate::net::{Refusal, Relay, Shown, Way};
+use crate::net::{Origin, Refusal, Relay, Shown, Way};
 use crate::Connection;
 use std::fmt;
 use std::time::Instant;
@@ -138,6 +138,16 @@ impl<L: Line, A: Clone + PartialEq + fmt::Display> Peers<L, A> {
         }
     }
 
+    /// Whether the agent itself looks at this end, to see from outside that it can be reached.
+    fn is_its_own(&self, id: u64, Hello { from, to, .. }: &Hello) -> bool {
+        let is_own = |conn: &Conn<L>| {
+            let is_new = matches!(conn.state, State::Accepted);
+            is_new && conn.line.origin() == Origin::Own && conn.line.may_be(from)
+        };
+        let name = &self.setup.name;
+        [from, to] == [name, name] && self.conns.get(&id).map_or(false, is_own)
+    }
+
     /// An end says a hello, or looks at this one, or is a candidate that answers.
     pub(super) fn greets(
         &mut self,
@@ -146,6 +156,13 @@ impl<L: Line, A: Clone + PartialEq + fmt::Display> Peers<L, A> {
         is_look: bool,
         cx: &mut Context<'_>,
     ) -> Result {
+        if is_look && self.is_its_own(id, &hello) {
+            self.common(id, &hello, true, cx)?;
+            self.say(id, hello.from);
+            self.say_way(id);
+            self.answered(id, cx.now);
+            return Ok(());
+        }
         let (whom, at) = self.who(id, &hello, is_look)?;
         let version = self.common(id, &hello, is_look || whom == Whom::Parent, cx)?;
         let is_old = version == OLD;

@@ -74,9 +74,7 @@ impl<L: Line, A: Clone + PartialEq + fmt::Display> Peers<L, A> {
                 self.send_whole(id, patience, label, body, cx.now);
             }
             (Some((Whom::Child(name), _)), Message::Report(bytes)) => {
-                if !cx.to.on_report(&name, &bytes, cx.now) {
-                    return Err("it sent no report".into());
-                }
+                cx.to.on_report(&name, &bytes, cx.now);
             }
             (Some((Whom::Child(name), _)), Message::Goodbye) => {
                 self.relay.leave_behind(&name);

@@ -115,8 +115,9 @@ impl<L: Line, A: Clone + PartialEq + fmt::Display> Peers<L, A> {
             ("up", Whom::Child(_)) => peers.child_shown(words, bytes, cx),
             ("report", Whom::Child(name)) => {
                 words.more = false;
-                // (what makes no sense is left: there is no connection to be closed)
-                let _ = bytes.is_empty() || cx.to.on_report(name, &bytes, cx.now);
+                if !bytes.is_empty() {
+                    cx.to.on_report(name, &bytes, cx.now);
+                }
                 None
             }
             ("way", _) => Some(peers.way_shown(whom, words, bytes, cx)),
