@@ -453,6 +453,7 @@ pub fn status_text(status: &Status) -> String {
     fact("strays", &status.strays);
     fact("garbage", &status.garbage);
     fact("gaps", &status.gaps);
+    fact("bad reports", &status.bad_reports);
     fact("old frames", &status.old_frames);
     fact("reconnects", &status.reconnects);
     match status.refused {

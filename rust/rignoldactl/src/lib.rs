@@ -32,6 +32,8 @@ pub enum Request {
     Unset {
         key: String,
     },
+    /// Whether anybody answers: by this an agent looks whether it can be asked.
+    Ping,
     /// This agent.
     Status,
     /// This agent, and all that is known of the agents below it.
@@ -101,6 +103,7 @@ pub enum Response {
 #[serde(default)]
 pub struct Status {
     pub name: String,
+    #[serde(serialize_with = "sound::serialize")]
     pub is_root: bool,
     /// What it is where it may be promoted; and the other root that it has found, for which it
     /// stands by, where that is known.
@@ -108,10 +111,11 @@ pub struct Status {
     pub other_root: String,
     /// Its program's.
     pub version: String,
-    /// The parent that it is connected to, and its place in the list of parents, from 0; and why
-    /// none could be connected to last.
+    /// The parent that it is connected to, and its place in the list of parents, from 0; how many
+    /// there are in that; and why none could be connected to last.
     pub parent: Option<String>,
     pub place: u32,
+    pub parents: u32,
     pub no_parent: String,
     /// The parents that refuse it, each with its why.
     pub refusals: Vec<String>,
@@ -127,6 +131,7 @@ pub struct Status {
     pub applied: u64,
     /// Whether it keeps files of settings; the number up to which they are what bodies said, or 0;
     /// and the digest that they had when they were written, or looked at in a round.
+    #[serde(serialize_with = "sound::serialize")]
     pub applies: bool,
     pub files: u64,
     #[serde(with = "digits")]
@@ -136,7 +141,8 @@ pub struct Status {
     pub groups: Vec<String>,
     /// How many of them somebody else had changed and were put again.
     pub mended: u64,
-    /// The number that is furthest ahead, of its own, that of its files, and those below.
+    /// The number that is furthest ahead, of its own, that of its files, and those that connected
+    /// agents below say.
     pub ahead: u64,
     /// That of the last body which changed something.
     pub changed: u64,
@@ -145,9 +151,11 @@ pub struct Status {
     /// How many milliseconds ago that was.
     pub round_age: u64,
     /// Whether nothing is known to be missing: a whole table came, and no gap since.
+    #[serde(serialize_with = "sound::serialize")]
     pub whole: bool,
     /// How many settings there are.
     pub settings: u64,
+    #[serde(serialize_with = "sound::serialize")]
     pub draining: bool,
     /// At the root: of how many settings a change of the folder waits until it is confirmed.
     pub held: u64,
@@ -161,6 +169,8 @@ pub struct Status {
     /// Bodies that did not fit their items, or have no meaning.
     pub garbage: u64,
     pub gaps: u64,
+    /// Reports of children that were none.
+    pub bad_reports: u64,
     pub old_frames: u64,
     pub reconnects: u64,
     /// Connections that were refused: a hello that was bad, late, or of an unknown name.
@@ -191,6 +201,7 @@ pub struct Status {
 #[serde(default)]
 pub struct ChildStatus {
     pub name: String,
+    #[serde(serialize_with = "sound::serialize")]
     pub connected: bool,
     /// For how many milliseconds it has been connected, or away.
     pub since: u64,
@@ -198,6 +209,7 @@ pub struct ChildStatus {
     /// For how many milliseconds its sender has had its item; 0 where it has none.
     pub oldest: u64,
     /// Whether what it needs next was forgotten: it begins anew when it is back.
+    #[serde(serialize_with = "sound::serialize")]
     pub left_behind: bool,
     pub reconnects: u64,
     pub acknowledged: u64,
@@ -225,6 +237,7 @@ impl Status {
             name: self.name.clone(),
             parent: self.parent.clone().unwrap_or_default(),
             place: self.place,
+            parents: self.parents,
             connected: true,
             sequence: self.sequence,
             applied: self.applied,
@@ -276,15 +289,19 @@ pub fn harmless_for(depth: u32) -> u32 {
 pub struct Seen {
     pub name: String,
     pub parent: String,
-    /// The place of that in its list of parents, from 0.
+    /// The place of that in its list of parents, from 0; and how many parents it may have.
     pub place: u32,
+    #[serde(skip_serializing_if = "is_zero")]
+    pub parents: u32,
     /// Whether its parent has a connection with it. Where not, the rest is as it was last.
+    #[serde(serialize_with = "sound::serialize")]
     pub connected: bool,
     pub sequence: u64,
     /// The last number up to which all is applied; 0 where it is not known that anything is.
     pub applied: u64,
     /// Whether it keeps files of settings, up to which number they are what bodies said, and their
     /// digest; and, where the root shows it, whether that is the digest of what it published.
+    #[serde(serialize_with = "sound::serialize")]
     pub applies: bool,
     pub files: u64,
     #[serde(with = "digits")]
@@ -292,21 +309,26 @@ pub struct Seen {
     pub compared: Compared,
     /// The groups whose values count for it, the first one's most.
     pub groups: Vec<String>,
-    /// The number that is furthest ahead, of its own, that of its files, and those below: the root
-    /// goes on above it.
+    /// The number that is furthest ahead, of its own, that of its files, and those that connected
+    /// agents below say: the root goes on above it.
     pub ahead: u64,
     /// The number of the last body that changed something.
     pub changed: u64,
     pub round: u64,
+    #[serde(serialize_with = "sound::serialize")]
     pub whole: bool,
+    #[serde(serialize_with = "sound::serialize")]
     pub draining: bool,
     /// Whether it may be promoted; or was the root, and stands by for another one.
+    #[serde(serialize_with = "sound::serialize")]
     pub standby: bool,
+    #[serde(serialize_with = "sound::serialize")]
     pub stands_by: bool,
     /// The longest backlog for a child of it, and the limit of each.
     pub backlog: u64,
     pub limit: u64,
     pub harmless: u64,
+    #[serde(serialize_with = "sound::serialize")]
     pub inner: bool,
     pub strays: u64,
     pub garbage: u64,
@@ -323,12 +345,20 @@ pub struct Seen {
     #[serde(skip_serializing_if = "is_zero")]
     pub expires: u32,
     /// Whether agents below it are left out, since the list was too long.
+    #[serde(serialize_with = "sound::serialize")]
     pub cut: bool,
     /// How many milliseconds ago it said so.
     pub age: u64,
 }
 
 impl Seen {
+    /// Each bool is [true or false](sound::is) from now on.
+    pub fn settles(&mut self) {
+        let Seen { connected, applies, whole, draining, standby, stands_by, inner, cut, .. } = self;
+        let bools = [connected, applies, whole, draining, standby, stands_by, inner, cut];
+        bools.into_iter().for_each(|it| *it = sound::is(*it));
+    }
+
     /// Whether it has said anything of itself since its parent began. (Each agent has a limit.)
     pub fn is_heard(&self) -> bool {
         self.limit > 0 || self.sequence > 0
@@ -494,6 +524,25 @@ mod digits {
             "" => Ok(0),
             digits => u64::from_str_radix(digits, 16).map_err(D::Error::custom),
         }
+    }
+}
+
+/// A bool that is true or false, also after a fault of memory put another byte there. What is
+/// compiled for a bool may count with its byte, as for the length of its text: then what is made as
+/// JSON is none.
+///
+/// No rule of the language says what becomes of such a byte. In practice it is this: the byte is
+/// copied, the compiler knows nothing of what [`black_box`](std::hint::black_box) returns, so what
+/// comes is compared with 0.
+pub mod sound {
+    use serde::Serializer;
+
+    pub fn is(it: bool) -> bool {
+        std::hint::black_box(u8::from(it)) != 0
+    }
+
+    pub fn serialize<S: Serializer>(it: &bool, to: S) -> Result<S::Ok, S::Error> {
+        to.serialize_bool(is(*it))
     }
 }
 

@@ -12,7 +12,9 @@ use crate::journal;
 use crate::label::Labels;
 use crate::metrics;
 use crate::page;
+use crate::reach::Reach;
 use crate::refused::Refused;
+use crate::renews::{self, Renews, Restarts, Step};
 use crate::repeats::Repeats;
 use crate::reports::{Told, WHOLE};
 use crate::root::Root;
@@ -22,10 +24,10 @@ use crate::tree::{Below, EACH};
 use mio::unix::SourceFd;
 use mio::{Events, Interest, Poll, Registry, Token, Waker};
 use rignolda::net::wire::HEAD_BYTES;
-use rignolda::net::{Body, Handler, Peers, ReportKind, Way};
+use rignolda::net::{Body, Handler, Origin, Peers, ReportKind, Way};
 use rignolda::settings::{furthest, older, table_of, Meaning, Table, Taker};
 use rignolda_redis::Stores;
-use rignolda_tls::{Caller, Handshakes, Line, Listener, Maker};
+use rignolda_tls::{Caller, Handshakes, Line, Listener, Maker, Own};
 use rignoldactl::{
     at, ChildStatus, Compared, ErrorAt, Request, Response, Seen, Standby as Role, Status,
 };
@@ -33,7 +35,9 @@ use std::collections::{BTreeMap, HashSet};
 use std::io::{self, ErrorKind, Read};
 use std::os::unix::io::{AsRawFd, RawFd};
 use std::os::unix::net::{UnixDatagram, UnixStream};
+use std::os::unix::process::CommandExt;
 use std::path::{Path, PathBuf};
+use std::process::Command;
 use std::sync::Arc;
 use std::time::{Duration, Instant, SystemTime, UNIX_EPOCH};
 
@@ -89,8 +93,9 @@ pub struct Agent {
     /// be written, and not read.
     others: Vec<(RawFd, u64, bool)>,
     listeners: Vec<Listener>,
-    /// Until when nobody is accepted, since no descriptor was left.
+    /// Until when nobody is accepted, since no descriptor was left, and how often that was so.
     full_until: Instant,
+    turned_away: u64,
     caller: Caller,
     peers: Peers<Line, Address>,
     stores: Stores,
@@ -106,6 +111,10 @@ pub struct Agent {
     /// What the children had not acknowledged when it last reported that.
     reported_backlog: u64,
     checked: Instant,
+    reach: Reach,
+    renews: Renews,
+    restarts: Restarts,
+    is_to_restart: bool,
     /// Which sockets are not at their places and cannot be made anew, and why.
     lost_sockets: String,
     /// What was not taken at the last reload, and why.
@@ -125,10 +134,16 @@ struct State {
     /// Where it may be promoted.
     standby: Option<Standby<Ticket>>,
     below: Below,
-    /// The number that was furthest ahead of its own when an agent below said that it has it.
+    /// The number that is furthest ahead of its own, of those that agents below say now; and of all
+    /// that they ever said, which counts where it is promoted.
     ahead: u64,
+    seen: u64,
+    /// Whether a connection ended since it was learned who has one.
+    ended: bool,
     received: u64,
     garbage: u64,
+    /// How many reports of children were none.
+    bad_reports: u64,
     round_at: Option<Instant>,
     /// Whether there is something new to say upwards.
     changed: bool,
@@ -176,11 +191,28 @@ pub fn run(path: &Path, config: Config) -> Result<(), ErrorAt> {
         }
         agent.turn(&fired, now)?;
         agent.check(now).map_err(at("its memory is spoiled"))?;
-        if watchdog.is_some_and(|part| now >= watched + part) {
+        if std::mem::take(&mut agent.is_to_restart) {
+            fact!("restart", "{}", agent.config.peers.name);
+            return Err(restarted());
+        }
+        if watchdog.is_some_and(|part| now >= watched + part) && agent.reach.is_sound(now) {
             watched = now;
             notify("WATCHDOG=1");
         }
     }
+}
+
+/// Puts a new process in the place of this one, which has its number and its words: why it could
+/// not.
+fn restarted() -> ErrorAt {
+    journal::flush();
+    // (what was upgraded meanwhile goes on as it was, until somebody restarts it)
+    let own = Path::new("/proc/self/exe");
+    let is_there = |it: &PathBuf| it.exists();
+    let program = std::fs::read_link(own).ok().filter(is_there).unwrap_or(own.into());
+    let mut words = std::env::args_os();
+    let name = words.next().unwrap_or_else(|| "rignoldad".into());
+    at("restart")(Command::new(program).arg0(name).args(words).exec())
 }
 
 struct Signals {
@@ -247,13 +279,18 @@ fn random() -> io::Result<u64> {
 impl State {
     /// Begins as an agent below a root, of which nothing has come yet.
     fn begins(&mut self, now: Instant) {
-        let taker = Taker::new(self.table.taker.floor);
+        self.restarts(self.table.taker.floor);
         self.is_root = false;
         self.published = Published::default();
+        (self.below, self.ahead, self.seen) = (Below::default(), 0, 0);
+        self.round_at = Some(now);
+    }
+
+    /// Its files are of this number, and nothing has come yet.
+    fn restarts(&mut self, floor: u64) {
         self.table = Table::default();
-        self.table.taker = taker;
-        (self.below, self.ahead) = (Below::default(), 0);
-        (self.round_at, self.changed) = (Some(now), true);
+        self.table.taker = Taker::new(floor);
+        self.changed = true;
     }
 
     /// Its own number, that of its files, and the one that is furthest ahead of those below.
@@ -277,22 +314,47 @@ impl State {
     fn knows_groups(&mut self) {
         if self.is_root {
             let own = self.applier.as_ref().map_or(Vec::new(), Applier::groups);
-            self.published.knows(&own, self.below.groups());
+            let groups = self.below.groups();
+            self.published.knows(&own, groups.iter().map(|all| all.iter().map(|it| &**it)));
         }
     }
 
-    /// Takes up what a child said.
-    fn heard(&mut self, child: &str) {
-        self.changed = true;
-        let numbers = self.below.numbers(child).into_iter().chain([self.ahead]);
-        self.ahead = furthest(self.table.taker.number, numbers);
+    /// Takes up what children said.
+    fn heard(&mut self) {
+        let (news, number) = (self.below.news(), self.table.taker.number);
+        for child in &news {
+            let numbers = self.below.seen(child).into_iter().chain([self.seen]);
+            self.seen = furthest(number, numbers);
+        }
+        if !news.is_empty() {
+            (self.changed, self.ahead) = (true, self.below.ahead(number));
+        }
         if self.below.has_other_groups() {
             self.knows_groups();
         }
+        for (child, count) in self.below.were_none() {
+            self.bad_reports += count;
+            let all = self.bad_reports;
+            self.on_fact("report", format_args!("{child} sent what is none ({all} in all)"));
+        }
+    }
+
+    /// These children there are, and whether each is connected: of others no number counts.
+    fn learns<'a>(&mut self, children: impl Iterator<Item = (&'a str, bool)>) {
+        self.ended = false;
+        self.below.learns(children);
+        let number = self.table.taker.number;
+        let (old, new) = (furthest(number, [self.ahead]), self.below.ahead(number));
+        (self.ahead, self.changed) = (new, self.changed || new != old);
     }
 
     /// Takes up what was done about settings.
     fn applied(&mut self, now: Instant) {
+        if let Some(floor) = self.applier.as_ref().and_then(Applier::found_later) {
+            let words = format_args!("its files have change {floor}, and its memory is older");
+            self.on_fact("numbers", words);
+            self.restarts(floor);
+        }
         let Some(applier) = &mut self.applier else { return };
         let done = applier.done();
         let is_busy = applier.is_busy();
@@ -370,10 +432,9 @@ impl Handler for State {
         table_of(head, since)
     }
 
-    fn on_report(&mut self, child: &str, report: &[u8], now: Instant) -> bool {
-        let is_one = self.below.heard(child, report, now);
-        self.heard(child);
-        is_one
+    fn on_report(&mut self, child: &str, report: &[u8], now: Instant) {
+        self.below.heard(child, report, now);
+        self.heard();
     }
 
     fn on_report_request(&mut self) {
@@ -381,7 +442,7 @@ impl Handler for State {
     }
 
     fn on_gone(&mut self, child: &str) {
-        self.changed = true;
+        (self.changed, self.ended) = (true, true);
         self.below.forget(child);
     }
 
@@ -391,6 +452,7 @@ impl Handler for State {
 
     fn on_fact(&mut self, fact: &'static str, words: std::fmt::Arguments<'_>) {
         self.changed = true;
+        self.ended |= fact == "closed";
         let mut words = words.to_string();
         match self.repeats.says(fact, &words, Instant::now()) {
             None if !self.traces => return,
@@ -431,7 +493,7 @@ impl Agent {
         };
         let mut table = Table::default();
         table.taker = Taker::new(applier.as_ref().map_or(0, Applier::floor));
-        let handshakes = Handshakes::new(wake.clone());
+        let (handshakes, own) = (Handshakes::new(wake.clone()), Own::default());
         let listeners: Vec<_> = config.listen.iter().map(listen).collect::<Result<_, _>>()?;
         let servers: Vec<_> = control.chain(counts).collect::<Result<_, _>>()?;
         for it in listeners.iter().chain(servers.iter().map(Server::listener)) {
@@ -440,9 +502,15 @@ impl Agent {
                 fact!("socket", "what lay at {path} was no socket: it is {to} now");
             }
         }
+        let peers = peers(&config, now)?;
+        let (tls, control) = (config.tls.as_ref(), config.control.clone());
+        let places = listeners.iter().zip(&config.listen).map(|(it, address)| it.place_of(address));
+        let maker = maker(&config)?.with_handshakes(&handshakes).with_own(&own);
+        let by = (tls, &maker);
+        let reach = Reach::new(&config.peers.name, by, control, places.collect(), own);
         Ok(Agent {
             path: path.into(),
-            maker: maker(&config)?.with_handshakes(&handshakes),
+            maker,
             handshakes,
             poll,
             events: Events::with_capacity(EVENTS),
@@ -454,8 +522,18 @@ impl Agent {
             others: Vec::new(),
             listeners,
             full_until: now,
+            turned_away: 0,
             caller: Caller::new(wake.clone()),
-            peers: peers(&config, now)?,
+            renews: Renews::new(peers.life(), renews::seconds("RIGNOLDA_RENEWS"), now),
+            restarts: Restarts::new(
+                &config.peers.name,
+                unix_now() as u64 / 86_400,
+                renews::seconds("RIGNOLDA_RESTARTS"),
+                now,
+            ),
+            is_to_restart: false,
+            reach: reach.map_err(at("its thread cannot be started"))?,
+            peers,
             stores: Stores::new(config.store.clone(), silence(&config), wake.clone()),
             state: State {
                 is_root: root.is_some(),
@@ -487,7 +565,8 @@ impl Agent {
     /// Waits until something can be done: the descriptors besides lines for which it can.
     fn wait(&mut self, signals: &Signals, most: Duration) -> io::Result<HashSet<RawFd>> {
         let now = Instant::now();
-        self.handshakes.go_on(now, |origin| self.peers.knows(origin));
+        let is_known = |origin: &Origin| *origin == Origin::Own || self.peers.knows(origin);
+        self.handshakes.go_on(now, is_known);
         let listeners = self.listeners.iter().filter(|_| now >= self.full_until);
         let reads = [signals.reload.as_raw_fd(), signals.end.as_raw_fd()].into_iter();
         let reads = reads.chain(listeners.map(|it| it.socket.as_raw_fd()));
@@ -574,10 +653,14 @@ impl Agent {
                 root.tick(now, || self.state.below.depth());
             }
             self.state.applied(now);
-            self.state.below.reads(now).iter().for_each(|child| self.state.heard(child));
+            self.state.below.reads(now);
+            self.state.heard();
             self.stand(now)?;
             self.serve(fired, now);
             self.report(now);
+        }
+        if self.state.ended {
+            self.learns();
         }
         self.publish(now);
         self.state.below.asked().iter().for_each(|child| self.peers.request_report(child));
@@ -648,6 +731,8 @@ impl Agent {
             return Ok(());
         }
         self.checked = now;
+        self.learns();
+        self.state.below.keeps(now);
         self.answers.passes(now);
         for (fact, words) in self.state.repeats.passes(now) {
             journal::lines(fact, [words]);
@@ -663,13 +748,17 @@ impl Agent {
             self.state.below.are_back(&status, now);
         }
         self.keep_sockets();
+        self.renew(now);
+        self.may_restart(now);
         // (all are looked at again)
         self.expires = i64::MAX;
         self.lines.retain(|id, _| self.peers.line(*id).is_some());
         let checked = self.peers.check(self.caller.looks_up(), now, &mut self.state);
         checked.map_err(|it| it.what())?;
-        let sockets = self.listeners.iter().chain(self.servers.iter().map(Server::listener));
-        let mut listen = sockets.map(|it| it.socket.is_listener().unwrap_or(false));
+        let parents = &self.config.peers.parents;
+        let has_parent = self.config.peers.is_root() || self.peers.parent().is_some();
+        let (tls, answers) = (self.config.tls.as_ref(), self.peers.looks_answered());
+        let misses = self.reach.misses((has_parent, answers), tls, parents, now);
         let is_same = self.config.peers == *self.peers.setup()
             && self.config.backlog == self.peers.relay().room()
             && silence(&self.config) == self.maker.timeout();
@@ -677,7 +766,9 @@ impl Agent {
         let root = self.root.as_ref().zip(self.config.root.as_ref());
         let faults = [
             (!is_same).then_some("its configuration is another one"),
-            (!listen.all(|it| it)).then_some("it does not listen"),
+            (!self.listens()).then_some("it does not listen where it is to"),
+            self.maker.fault(tls.is_some()),
+            misses.then_some("it has no parent, and one answers whoever comes anew"),
             applier.zip(apply).and_then(|(applier, config)| applier.fault(config)),
             root.and_then(|(root, config)| root.fault(config)),
             (!self.is_what_it_is()).then_some("it is the root, and is not"),
@@ -685,6 +776,72 @@ impl Agent {
             self.stores.fault(&self.peers),
         ];
         faults.into_iter().flatten().next().map_or(Ok(()), Err)
+    }
+
+    /// Whether each socket that it has is one that listens where it is configured to.
+    fn listens(&self) -> bool {
+        let Config { listen, control, metrics, .. } = &self.config;
+        let control = control.iter().map(|it| Address::Unix(it.clone()));
+        let counts = metrics.iter().map(|it| Address::Tcp(it.to_string()));
+        let served: Vec<Address> = control.chain(counts).collect();
+        let counts = [self.listeners.len(), self.servers.len()];
+        let sockets = self.listeners.iter().chain(self.servers.iter().map(Server::listener));
+        counts == [listen.len(), served.len()]
+            && sockets.zip(listen.iter().chain(&served)).all(|(it, address)| it.is_of(address))
+    }
+
+    /// Makes anew what was made once, and is used only if somebody connects. Links go on, and what
+    /// cannot be made now is as before.
+    fn renew(&mut self, now: Instant) {
+        let is_unwelcome = self.reach.is_unwelcome();
+        if !self.renews.are_due(self.peers.fails_since(), is_unwelcome, now) {
+            return;
+        }
+        let tls = self.config.tls.as_ref();
+        if let Ok(Some(maker)) = self.maker.renewed(tls) {
+            self.maker = maker;
+            self.reach.reload(tls, &self.maker);
+        }
+        let sockets = self.listeners.iter().chain(self.servers.iter().map(Server::listener));
+        let old: Vec<RawFd> = sockets.map(AsRawFd::as_raw_fd).collect();
+        // (else the system would go on to tell of the descriptors of before)
+        for fd in &old {
+            let _ = self.poll.registry().deregister(&mut SourceFd(fd));
+        }
+        self.others.retain(|it| !old.contains(&it.0));
+        self.listeners.iter_mut().for_each(|it| drop(it.begins_anew()));
+        let counts = self.config.control.iter().map(|_| None);
+        let counts = counts.chain(self.config.metrics.map(Some));
+        for (server, counts) in self.servers.iter_mut().zip(counts) {
+            let _ = control::begins_anew(server, counts);
+        }
+    }
+
+    /// Restarts as the last resort, if its time has come.
+    fn may_restart(&mut self, now: Instant) {
+        let relay = self.peers.relay();
+        let mut children = relay.children().filter(|(_, link)| link.is_connected());
+        let may = children.all(|(name, _)| self.state.below.parents(name) > 1);
+        // (what an operator has drained stays so)
+        let is_drained = self.root.as_ref().is_some_and(Root::is_draining);
+        let may = may && (self.restarts.drains() || !is_drained);
+        let number = self.state.table.taker.number;
+        let applied = self.state.applier.as_ref().map_or(number, |it| it.applied(number));
+        let is_idle = self.backlog() == 0
+            && applied == number
+            && !self.root.as_ref().is_some_and(Root::is_busy);
+        match self.restarts.step(may, is_idle, now) {
+            Step::Nothing => (),
+            Step::Drain => self.root.iter_mut().for_each(|it| it.drain(now)),
+            Step::Resume => self.root.iter_mut().for_each(Root::resume),
+            Step::Restart => self.is_to_restart = true,
+        }
+    }
+
+    /// Of which children what they said counts now.
+    fn learns(&mut self) {
+        let children = self.peers.relay().children();
+        self.state.learns(children.map(|(name, link)| (&**name, link.is_connected())));
     }
 
     /// Whoever connects to a socket's file comes to this agent, whatever was done to that.
@@ -735,6 +892,7 @@ impl Agent {
                     // (that connection is gone already, or no descriptor is left)
                     Err(_) => {
                         self.full_until = now + FULL;
+                        self.turned_away += 1;
                         break;
                     }
                 }
@@ -909,6 +1067,7 @@ impl Agent {
             no_parent: parent.map_or_else(|| self.peers.no_parent().into(), |_| String::new()),
             refusals: refusals.collect(),
             place: parent.map_or(0, |(parent, _)| place(&self.config.peers.parents, parent)),
+            parents: self.config.peers.parents.len() as u32,
             cost: self.peers.way().cost,
             way: self.peers.way().names.clone(),
             connected_since: parent.map_or(0, |(_, since)| millis(since) / 1_000),
@@ -934,6 +1093,7 @@ impl Agent {
             strays: table.strays,
             garbage: self.state.garbage,
             gaps: table.gaps,
+            bad_reports: self.state.bad_reports,
             old_frames: relay.old_frames(),
             reconnects: self.peers.reconnects(),
             refused: self.peers.refused(),
@@ -1003,7 +1163,10 @@ impl Agent {
 
     fn serve(&mut self, fired: &HashSet<RawFd>, now: Instant) {
         let asked = self.servers.iter_mut().flat_map(|server| server.ready(fired, now));
-        for (ticket, asked) in asked.collect::<Vec<_>>() {
+        let asked: Vec<_> = asked.collect();
+        let turned_away = self.servers.iter().map(Server::turned_away).sum::<u64>();
+        self.reach.was_full(self.turned_away + turned_away);
+        for (ticket, asked) in asked {
             match asked {
                 Asked::Shown(what) => {
                     let shown = match what {
@@ -1033,10 +1196,11 @@ impl Agent {
 
     /// Does what an operator asks for.
     fn request(&mut self, ticket: Ticket, request: Request, now: Instant) -> Answer {
-        if !matches!(request, Request::Status | Request::Tree) {
+        if !matches!(request, Request::Ping | Request::Status | Request::Tree) {
             self.answers.forget();
         }
         match (request, &mut self.root) {
+            (Request::Ping, _) => (),
             (Request::Status, _) => {
                 self.show(What::Status, ticket, now);
                 return Ok(None);
@@ -1072,7 +1236,8 @@ impl Agent {
             (Request::Promote { as_is }, _) => {
                 let digest = self.state.whole();
                 let taker = &self.state.table.taker;
-                let seen = furthest(taker.number, self.state.numbers());
+                let numbers = self.state.numbers().into_iter().chain([self.state.seen]);
+                let seen = furthest(taker.number, numbers);
                 let own = furthest(taker.floor, [taker.number]);
                 let newer = self.state.below.newer(own).map(|(who, newer)| {
                     format!("{who} has change {newer}, and this agent has none after {own}")
@@ -1134,9 +1299,11 @@ impl Agent {
         }
         new.peers.rank = self.config.peers.rank;
         let maker = maker(&new).map_err(|why| nothing(why.to_string()))?;
-        self.maker = maker.with_handshakes(&self.handshakes);
-        self.unsure = self.peers.lines().map(|(id, ..)| id).collect();
         let late = self.config.take(new).join(", ");
+        // (first it is known what is to be so, and then it is)
+        self.reach.reload(self.config.tls.as_ref(), &maker);
+        self.maker = maker.with_handshakes(&self.handshakes).with_own(self.maker.own());
+        self.unsure = self.peers.lines().map(|(id, ..)| id).collect();
         if let (Some(applier), Some(apply)) = (&mut self.state.applier, &self.config.apply) {
             applier.reload(apply);
         }

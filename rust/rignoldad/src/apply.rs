@@ -12,7 +12,9 @@
 //! folder; to choose one, nothing is read there, since each body has all that are set.
 //!
 //! The marker of the folder has the number up to which its files are, or are about to be: an agent
-//! that starts applies nothing older. It is there before any other file.
+//! that starts applies nothing older. It is there before any other file. It is read before files
+//! are changed, or a hook is told a value: if it is ahead of what is known here, as where the
+//! memory of a machine went back and its disk did not, the agent goes on as one that starts.
 //!
 //! What no setting names is removed, so a folder has to be [the agent's own](refusal). That it is,
 //! is known of one folder alone, and not of what comes to its place: each body is applied in a
@@ -26,8 +28,9 @@ use crate::hooks::{self, Hook, Runs, INPUT, PENDING};
 use crate::place::{has_mount, Identity, Place};
 use rignolda::net::LOST;
 use rignolda::settings::{
-    older, parts, shown, Change, Heard, Meaning, Waiting, SETTINGS, VALUE_BYTES,
+    is_newer, older, parts, shown, Change, Heard, Meaning, Waiting, SETTINGS, VALUE_BYTES,
 };
+use rignolda_tls::moved_aside;
 use rignoldactl::source::{read_folder, read_plain};
 use std::cell::Cell;
 use std::collections::{BTreeMap, BTreeSet};
@@ -155,6 +158,10 @@ struct State {
     /// that was to be applied.
     holds: bool,
     floor: u64,
+    /// The number of the files, where these are from a later body: then nothing more is taken until
+    /// the loop knows. And whether what the thread for files knows of them is to be forgotten.
+    later: Option<u64>,
+    forgets: bool,
     /// The first sequence number of what the thread for files has in hand.
     writing: Option<u64>,
     /// Whether files, or hooks, were taken in hand since the last look.
@@ -204,6 +211,16 @@ impl State {
             self.due.extend(waiting.map(|(key, _)| key).chain(running).chain(runs.due));
         }
         self.config = config.clone();
+    }
+
+    /// The files are from a later body, of this number: what is known here is as at a start, and
+    /// what waits is dropped. What hooks were to be told, they are by the next round.
+    fn is_behind(&mut self, number: u64) {
+        (self.files, self.writing, self.later) = (Waiting::default(), None, Some(number));
+        (self.holds, self.looks, self.forgets) = (true, true, true);
+        (self.digest, self.whole) = (None, None);
+        let hooks = std::mem::take(&mut self.hooks).in_order();
+        self.due.extend(hooks.into_iter().map(|(key, _)| key));
     }
 
     /// The oldest number of which hooks are still to be told.
@@ -333,6 +350,10 @@ impl Applier {
     /// it is. Whether there is room: what waits has not many more keys than there may be.
     pub fn take(&mut self, meaning: &Meaning<'_>, number: u64, heard: Heard) -> bool {
         let mut state = self.shared.lock();
+        if state.later.is_some() {
+            // (what is to be done with it was said without that)
+            return true;
+        }
         let runs = state.runs.values().map(|it| it.waiting.count());
         let hooks = runs.fold(state.hooks.count(), usize::max);
         let files = state.files.count();
@@ -363,6 +384,12 @@ impl Applier {
         drop(state);
         waits.then(|| self.shared.files.notify_one());
         has_room
+    }
+
+    /// The number of the files, where these were found to be from a later body than was handed
+    /// over: what comes from now on is to be what an agent takes that starts with such files.
+    pub fn found_later(&self) -> Option<u64> {
+        self.shared.lock().later.take()
     }
 
     /// What was done since it was asked last: changes, and what failed.
@@ -532,7 +559,8 @@ fn keep_files(shared: &Shared) {
         state.took_files = true;
         let (files, due) = (std::mem::take(&mut state.files), Due::of(state));
         let looks = std::mem::take(&mut state.looks) || !files.is_whole();
-        Some((files, due, looks, state.floor, state.config.clone()))
+        let forgets = std::mem::take(&mut state.forgets);
+        Some((files, due, looks, forgets, state.floor, state.config.clone()))
     };
     let (mut folder, mut others) = (Folder::new(shared.folder.clone()), Others::default());
     let mut marker = Marker::default();
@@ -547,7 +575,7 @@ fn keep_files(shared: &Shared) {
     loop {
         let waits = others.waits(&marker).or(may_go.then_some(LISTS));
         let Some(work) = shared.next_within(&shared.files, waits, take) else { break };
-        let Some((mut files, due, mut looks, floor, config)) = work else {
+        let Some((mut files, due, mut looks, forgets, floor, config)) = work else {
             marker.close();
             others.say_if_due(&folder);
             if std::mem::take(&mut may_go) {
@@ -560,6 +588,11 @@ fn keep_files(shared: &Shared) {
             folder = Folder::new(config.folder.clone());
             marker.close();
             grouped = Folder::new(config.folder.join(GROUPS));
+        }
+        if forgets {
+            folder.forget();
+            grouped = Folder::new(config.folder.join(GROUPS));
+            (digest, of_grouped) = (None, None);
         }
         if groups != config.groups {
             // (what it says was of the files of others)
@@ -577,8 +610,18 @@ fn keep_files(shared: &Shared) {
         let lacks = shared.lock().failing.get(MARKER).cloned().filter(|_| !files.is_whole());
         let refused = refused.map(Outcome::File).or(lacks);
         // (else older ones could follow what is written now, by a process that is ended meanwhile)
-        let outcome =
-            refused.unwrap_or_else(|| mark(&mut marker, &mut folder, floor, files.is_whole()));
+        let marked = refused
+            .map_or_else(|| mark(&mut marker, &mut folder, floor, files.is_whole()), Marked::Is);
+        let outcome = match marked {
+            Marked::Is(outcome) => outcome,
+            Marked::IsLater(number) => {
+                shared.lock().is_behind(number);
+                folder.close();
+                marker.close();
+                (shared.wake)();
+                continue;
+            }
+        };
         let is_taken = outcome == Outcome::Done;
         if !is_taken || shared.lock().failing.contains_key(MARKER) {
             let (mut state, sequence) = (shared.lock(), files.first().unwrap_or(0));
@@ -665,6 +708,9 @@ fn keep_files(shared: &Shared) {
         let digest = digest.as_ref().filter(|_| is_of_now);
         state.whole = digest.zip(of_grouped.as_ref()).map(|(own, it)| own.whole(it));
         state.digest = digest.map(|it| it.sum);
+        if state.forgets {
+            (state.whole, state.digest) = (None, None);
+        }
     }
 }
 
@@ -685,11 +731,18 @@ fn open_grouped(within: &Folder, folder: &mut Folder, all: &Waiting) -> io::Resu
     let is_first = folder.is().is_none();
     folder.begins_with(MARKER, Vec::new());
     if folder.is_at(place) {
+        // (one that may not be entered is opened, if it is the agent's)
+        let _ = folder.mend();
         let is_marked = fs::symlink_metadata(folder.at().join(MARKER)).is_ok();
         let is_known = is_marked || is_first && !has_mount(&at);
         let stranger = || folder.stranger(|name| all.value(name));
         if let Some(name) = (!is_known).then(stranger).flatten() {
-            return Err(io::Error::other(format!("another folder is in its place, with `{name}`")));
+            let why = |e| format!("another folder is in its place, with `{name}`: {e}");
+            let to = moved_aside(&at).map_err(|e| io::Error::other(why(e)))?;
+            let to = to.file_name().unwrap_or_default().to_string_lossy().into_owned();
+            fact!("settings", "what lay at {GROUPS} was another folder: it is {to} now");
+            folder.leave(None);
+            return open_grouped(within, folder, all);
         }
         folder.forget();
         folder.begins()?;
@@ -756,18 +809,29 @@ fn keep_grouped(
     is_kept
 }
 
+/// What came of it that a folder was to be marked.
+enum Marked {
+    Is(Outcome),
+    /// Its files are from a later body, of this number.
+    IsLater(u64),
+}
+
 /// Says in the folder that it is an agent's, and up to which number its files will be; and so it is
-/// before any of them is put there, too.
-fn mark(marker: &mut Marker, folder: &mut Folder, floor: u64, is_whole: bool) -> Outcome {
-    folder.begins_with(MARKER, floor::text(floor).into_bytes());
+/// before any of them is put there, too. Where they are from a later body, nothing is said.
+fn mark(marker: &mut Marker, folder: &mut Folder, floor: u64, is_whole: bool) -> Marked {
     // (a table looks at the folder itself too, and leaves nothing open)
     let mut once = Marker::default();
     let marker = if is_whole { &mut once } else { marker };
     let marked = marker.write(folder, MARKER, floor);
+    let later = *marked.as_ref().unwrap_or(&None);
+    folder.begins_with(MARKER, floor::text(later.unwrap_or(floor)).into_bytes());
+    if let Some(number) = later {
+        return Marked::IsLater(number);
+    }
     // (one that cannot be listed may have what no table names)
     let listed = || if is_whole { fs::read_dir(folder.at()).map(drop) } else { Ok(()) };
-    let marked = marked.and_then(|()| listed());
-    marked.map_or_else(|error| Outcome::File(error.to_string()), |()| Outcome::Done)
+    let marked = marked.and_then(|_| listed());
+    Marked::Is(marked.map_or_else(|error| Outcome::File(error.to_string()), |()| Outcome::Done))
 }
 
 /// What is in the folder and is nothing of the agent's, and not removed either.
@@ -913,6 +977,17 @@ fn run_hooks(shared: &Shared) {
 
 fn run_one(shared: &Shared, config: &Apply, key: &str, change: &Change) {
     let place = shared.place();
+    let number = place.as_ref().map_or(0, |it| read_floor(&it.at().join(MARKER)));
+    {
+        let mut state = shared.lock();
+        if is_newer(number, state.floor) {
+            // (its value is none of those that the files have)
+            state.running.remove(key);
+            state.busy = state.busy.saturating_sub(1);
+            state.due.insert(key.into());
+            return state.is_behind(number);
+        }
+    }
     let house = hooks::House::new(&shared.folder, place.as_ref().map(Place::at));
     let status = hooks::run(&house, config, key, change);
     drop(place);

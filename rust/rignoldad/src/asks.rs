@@ -23,33 +23,33 @@ impl Cost {
     }
 }
 
-/// What waits.
+/// What waits. It is counted each time, so that a wrong count lasts no longer than what it is of.
 #[derive(Debug, Default)]
 pub struct Asks(Cost);
+
+impl FromIterator<Cost> for Asks {
+    fn from_iter<I: IntoIterator<Item = Cost>>(all: I) -> Asks {
+        let add = |sum: Cost, more: Cost| Cost {
+            changes: sum.changes.saturating_add(more.changes),
+            keys: sum.keys.saturating_add(more.keys),
+            bytes: sum.bytes.saturating_add(more.bytes),
+        };
+        Asks(all.into_iter().fold(Cost::default(), add))
+    }
+}
 
 impl Asks {
     /// Whether there is room for one more beside these settings and what waits.
     pub fn has_room(&self, settings: &BTreeMap<String, Vec<u8>>, more: Cost) -> bool {
         let Cost { changes, keys, bytes } = self.0;
         // (one alone was looked at already, with what it takes the place of)
-        let has_keys = || more.keys == 0 || settings.len() + keys + more.keys <= SETTINGS;
-        let has_bytes =
-            || more.bytes == 0 || Publisher::bytes_of(settings) + bytes + more.bytes <= BODY_BYTES;
+        let fits = |all: [usize; 3], most| all.into_iter().fold(0, usize::saturating_add) <= most;
+        let has_keys = || more.keys == 0 || fits([settings.len(), keys, more.keys], SETTINGS);
+        let has_bytes = || {
+            let own = Publisher::bytes_of(settings);
+            more.bytes == 0 || fits([own, bytes, more.bytes], BODY_BYTES)
+        };
         changes == 0 || changes < CHANGES && has_keys() && has_bytes()
-    }
-
-    /// One more waits.
-    pub fn add(&mut self, more: Cost) {
-        self.0.changes += more.changes;
-        self.0.keys += more.keys;
-        self.0.bytes += more.bytes;
-    }
-
-    /// One of them is done, or refused.
-    pub fn remove(&mut self, less: Cost) {
-        self.0.changes -= less.changes;
-        self.0.keys -= less.keys;
-        self.0.bytes -= less.bytes;
     }
 }
 
@@ -61,21 +61,19 @@ mod tests {
     fn what_adds_nothing_has_room_beside_as_many_settings_as_may_be() {
         let mut settings: BTreeMap<String, Vec<u8>> =
             (1..SETTINGS).map(|at| (format!("k{at}"), Vec::new())).collect();
-        let mut asks = Asks::default();
+        let asks = |all: &[Cost]| all.iter().copied().collect::<Asks>();
         let cost = |settings: &_, key, value| Cost::of(settings, key, value);
         let old = cost(&settings, "k1", Some(&b"2"[..]));
         let (new, none) = (cost(&settings, "new", Some(&b"1"[..])), cost(&settings, "k2", None));
-        assert!([old, new, none].iter().all(|it| asks.has_room(&settings, *it)));
-        asks.add(old);
-        assert!([old, new, none].iter().all(|it| asks.has_room(&settings, *it)));
-        asks.add(new);
-        assert!(asks.has_room(&settings, old) && asks.has_room(&settings, none));
-        assert!(!asks.has_room(&settings, new));
-        asks.remove(new);
+        assert!([old, new, none].iter().all(|it| asks(&[]).has_room(&settings, *it)));
+        assert!([old, new, none].iter().all(|it| asks(&[old]).has_room(&settings, *it)));
+        let both = asks(&[old, new]);
+        assert!(both.has_room(&settings, old) && both.has_room(&settings, none));
+        assert!(!both.has_room(&settings, new));
         settings.insert("k0".into(), Vec::new());
-        assert!(asks.has_room(&settings, none) && !asks.has_room(&settings, new));
+        let one = asks(&[old]);
+        assert!(one.has_room(&settings, none) && !one.has_room(&settings, new));
         // (whatever it is, not too much of it waits)
-        (0..CHANGES).for_each(|_| asks.add(none));
-        assert!(!asks.has_room(&settings, none));
+        assert!(!asks(&[none; CHANGES + 1]).has_room(&settings, none));
     }
 }

@@ -55,11 +55,24 @@ pub type Server = serve::Server<Asked, Listener>;
 /// Listens for an operator at a socket of this path, for whom its file lets in.
 pub fn server(path: &Path) -> io::Result<Server> {
     let listener = Listener::new(&Address::Unix(path.into()), Some(0o660))?;
-    Ok(Server::new(listener, REQUEST_BYTES, IDLE, |bytes, seen| {
-        let end = seen + bytes[seen..].iter().position(|b| *b == b'\n')?;
-        let (request, by) = read(&bytes[..end]);
-        Some((Asked::Request(request.map_err(|e| why(&e.to_string())), by), end + 1))
-    }))
+    Ok(Server::new(listener, REQUEST_BYTES, IDLE, asked))
+}
+
+/// What a request asks for that is whole, and where it ends.
+fn asked(bytes: &[u8], seen: usize) -> Option<(Asked, usize)> {
+    let end = seen + bytes[seen..].iter().position(|b| *b == b'\n')?;
+    let (request, by) = read(&bytes[..end]);
+    Some((Asked::Request(request.map_err(|e| why(&e.to_string())), by), end + 1))
+}
+
+/// Makes a server anew that listens for operators, or else at this address for whoever asks for the
+/// counts: nothing is believed that was remembered of it, and its clients stay.
+pub fn begins_anew(server: &mut Server, counts: Option<SocketAddr>) -> io::Result<()> {
+    match counts {
+        None => server.begins_anew(REQUEST_BYTES, IDLE, asked),
+        Some(address) => server.begins_anew(COUNTS_BYTES, COUNTS_IDLE, parse_at(address)),
+    }
+    server.listener_mut().begins_anew()
 }
 
 /// What is asked for by a line, and by whom, where it says that.
@@ -88,8 +101,16 @@ fn why(error: &str) -> String {
 /// Listens at an address for whoever asks for the counts, or the page.
 pub fn counts(address: SocketAddr) -> io::Result<Server> {
     let listener = Listener::new(&Address::Tcp(address.to_string()), None)?;
-    let parse = if address.ip().is_loopback() { shown_here } else { shown };
-    Ok(Server::new(listener, COUNTS_BYTES, COUNTS_IDLE, parse))
+    Ok(Server::new(listener, COUNTS_BYTES, COUNTS_IDLE, parse_at(address)))
+}
+
+/// What reads a request of somebody who asks for the counts at this address.
+fn parse_at(address: SocketAddr) -> serve::Parse<Asked> {
+    if address.ip().is_loopback() {
+        shown_here
+    } else {
+        shown
+    }
 }
 
 /// What a request asks for that is whole, and where it ends.

@@ -1,5 +1,6 @@
 //! The file that keeps the number up to which an agent's files are.
 use crate::folder::{remove, Folder};
+use rignolda::settings::is_newer;
 use rignoldactl::source::{read_plain, AS_IT_IS};
 use std::fs::{self, File, Metadata, OpenOptions};
 use std::io;
@@ -16,7 +17,12 @@ pub fn text(floor: u64) -> String {
 
 /// The number in this file; 0 where there is none.
 pub fn read_floor(path: &Path) -> u64 {
-    let text = read_plain(path, BYTES).ok().and_then(|it| String::from_utf8(it).ok());
+    read_plain(path, BYTES).map_or(0, number)
+}
+
+/// The number that these bytes are; 0 where they are none.
+fn number(bytes: Vec<u8>) -> u64 {
+    let text = String::from_utf8(bytes).ok();
     text.and_then(|it| it.trim_end().parse().ok()).unwrap_or(0)
 }
 
@@ -49,16 +55,27 @@ impl Marker {
     /// folder. It is written in place, so that a full disk is no hindrance, and always with as many
     /// digits, so that whoever is ended meanwhile leaves a whole one. It is not synced to the disk.
     ///
+    /// A newer number stays there, and is returned: then nothing is done. It is read anew each
+    /// time, since the disk may be that of a later time than the memory.
+    ///
     /// # Errors
     ///
     /// Where the system refuses it.
-    pub fn write(&mut self, folder: &Folder, name: &str, floor: u64) -> io::Result<()> {
+    pub fn write(&mut self, folder: &Folder, name: &str, floor: u64) -> io::Result<Option<u64>> {
         let path = folder.at().join(name);
         let text = text(floor);
         let there = fs::symlink_metadata(&path).ok().map(|it| identity(&it));
         let own = self.file.as_ref().filter(|(_, is)| there == Some(*is));
+        let mut bytes = vec![0; BYTES];
+        let is = match own.map(|(file, _)| file.read_exact_at(&mut bytes, 0).is_ok()) {
+            Some(true) => number(bytes),
+            _ => read_floor(&path),
+        };
+        if is_newer(is, floor) {
+            return Ok(Some(is));
+        }
         if own.is_some_and(|(file, _)| file.write_all_at(text.as_bytes(), 0).is_ok()) {
-            return Ok(());
+            return Ok(None);
         }
         self.close();
         let _ = folder.mend();
@@ -67,7 +84,7 @@ impl Marker {
         file.set_len(BYTES as u64)?;
         let is = identity(&file.metadata()?);
         self.file = Some((file, is));
-        Ok(())
+        Ok(None)
     }
 }
 

@@ -14,6 +14,8 @@ use std::path::{Path, PathBuf};
 
 /// The file that is written before it takes the place of a setting.
 const NEW: &str = ".new";
+/// ELOOP of Linux.
+const LOOP: i32 = 40;
 /// The mode of the file that is there before any other one, at most.
 const FIRST: u32 = 0o644;
 
@@ -92,11 +94,14 @@ impl Folder {
         Ok(self.is_at(place?))
     }
 
-    /// Nothing is at its path, as far as is known: what is there and is no folder is moved aside. A
-    /// link to nowhere stays, since the disk that it leads to may be missing.
+    /// Nothing is at its path, as far as is known: what is there and is no folder is moved aside,
+    /// also a link to itself. A link to nowhere stays, since the disk that it leads to may be
+    /// missing.
     fn has_room_or(&self, error: io::Error) -> io::Result<()> {
-        match fs::metadata(&self.path) {
-            Ok(is) if !is.is_dir() => {
+        let there = fs::metadata(&self.path);
+        let is_loop = there.as_ref().is_err_and(|e| e.raw_os_error() == Some(LOOP));
+        match there {
+            _ if is_loop || there.as_ref().is_ok_and(|is| !is.is_dir()) => {
                 let (path, to) = (self.path.display(), moved_aside(&self.path)?);
                 fact!("settings", "what lay at {path} was no folder: it is {} now", to.display());
                 Ok(())

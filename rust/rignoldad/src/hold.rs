@@ -5,6 +5,7 @@ use openssl::sha::Sha256;
 use rignolda::settings::{shown, Entry};
 use rignoldactl::{Diff, Difference};
 use std::collections::{BTreeMap, BTreeSet};
+use std::hash::{DefaultHasher, Hash, Hasher};
 use std::time::{Duration, Instant};
 
 /// For how long a setting counts that went by a change of the folder: so it makes no difference
@@ -45,12 +46,29 @@ fn digest_of(changes: &[Entry<'_>]) -> String {
 }
 
 /// The settings that a change of the folder may take but a part of.
+///
+/// They are those of the last round, and not what is published now: what came since is no part of
+/// them. So they are a copy, and it is [looked at](Guard::mend) before it counts: one that is
+/// spoiled is made anew of what is published. It is never made of what the folder has, since a part
+/// of that may be missing.
 #[derive(Debug, Default)]
 pub struct Guard {
     /// Those of the last round, and those that went not long before.
     had: BTreeSet<String>,
     /// When those went that a change of the folder took, and nobody asked for that.
     gone: BTreeMap<String, Instant>,
+    /// The sums of the digests of these keys, and of those.
+    sums: [u64; 2],
+}
+
+/// The sum of the digests of these keys.
+fn sum<'a>(keys: impl IntoIterator<Item = &'a String>) -> u64 {
+    let digest = |key: &String| {
+        let mut hasher = DefaultHasher::new();
+        key.hash(&mut hasher);
+        hasher.finish()
+    };
+    keys.into_iter().map(digest).fold(0, u64::wrapping_add)
 }
 
 impl Guard {
@@ -61,7 +79,32 @@ impl Guard {
         now: Instant,
     ) -> Guard {
         let gone: BTreeMap<_, _> = gone.into_iter().map(|key| (key, now)).collect();
-        Guard { had: had.into_iter().chain(gone.keys().cloned()).collect(), gone }
+        let had: BTreeSet<_> = had.into_iter().chain(gone.keys().cloned()).collect();
+        Guard { sums: [sum(&had), sum(gone.keys())], had, gone }
+    }
+
+    fn sums(&self) -> [u64; 2] {
+        [sum(&self.had), sum(self.gone.keys())]
+    }
+
+    /// To be called before it counts: what is spoiled of it is made anew. These keys are published:
+    /// so they are what it had without what went, and of what it had the others went.
+    pub fn mend<'a>(&mut self, published: impl IntoIterator<Item = &'a String>, now: Instant) {
+        let are = self.sums();
+        if are == self.sums {
+            return;
+        }
+        let published: BTreeSet<&String> = published.into_iter().collect();
+        if are[0] == self.sums[0] {
+            let had = &self.had;
+            self.gone.retain(|key, _| had.contains(key));
+            for key in had.iter().filter(|key| !published.contains(key)) {
+                self.gone.entry(key.clone()).or_insert(now);
+            }
+        } else {
+            self.had = published.into_iter().chain(self.gone.keys()).cloned().collect();
+        }
+        self.sums = self.sums();
     }
 
     /// Whether there is nothing that could go.
@@ -88,17 +131,20 @@ impl Guard {
         for key in self.had.iter().filter(|key| !is_there(key)) {
             self.gone.entry(key.clone()).or_insert(now);
         }
+        self.sums[1] = sum(self.gone.keys());
     }
 
     /// Somebody asked for this one to be unset.
     pub fn unset(&mut self, key: &str) {
-        self.had.remove(key);
-        self.gone.remove(key);
+        let taken = [self.had.take(key), self.gone.remove_entry(key).map(|it| it.0)];
+        for (sum_of, taken) in self.sums.iter_mut().zip(taken) {
+            *sum_of = sum_of.wrapping_sub(sum(&taken));
+        }
     }
 
     /// Somebody confirmed that these are all.
     pub fn confirmed(&mut self, keys: impl IntoIterator<Item = String>) {
-        *self = Guard { had: keys.into_iter().collect(), gone: BTreeMap::new() };
+        *self = Guard::new(keys, [], Instant::now());
     }
 
     /// A round of these ends: what went long ago counts no more.
@@ -111,6 +157,7 @@ impl Guard {
             now.saturating_duration_since(*at) < WINDOW && !had.contains(key)
         });
         had.extend(self.gone.keys().cloned());
+        self.sums = self.sums();
     }
 }
 
@@ -194,5 +241,28 @@ mod tests {
         guard.confirmed(["a".to_string()]);
         assert_eq!(guard.lacks(None, |_| false), None);
         assert_eq!(guard.lacks(Some(0), |_| false), Some(1));
+    }
+
+    #[test]
+    fn what_is_spoiled_is_made_anew_of_what_is_published() {
+        let (now, keys) = (Instant::now(), ["a", "b", "c", "d"].map(String::from));
+        let made = || Guard::new(keys[..3].iter().cloned(), keys[3..].iter().cloned(), now);
+        let spoil: [&dyn Fn(&mut Guard); 6] = [
+            &|it| assert!(it.had.remove("a") && it.had.insert("\u{e1}".into())),
+            &|it| it.had.clear(),
+            &|it| it.sums[0] ^= 1,
+            &|it| it.sums[1] ^= 1,
+            &|it| assert_eq!(it.gone.insert("junk".into(), now), None),
+            &|it| it.gone.clear(),
+        ];
+        for (at, spoil) in spoil.iter().enumerate() {
+            let mut guard = made();
+            spoil(&mut guard);
+            guard.mend(&keys[..3], now);
+            assert_eq!(guard.had.iter().collect::<Vec<_>>(), keys.each_ref(), "{at}");
+            guard.ends_round(keys[..3].iter().cloned(), now);
+            assert_eq!(guard.gone().collect::<Vec<_>>(), ["d"], "{at}");
+            assert_eq!(guard.lacks(Some(1), |key| ["b", "c"].contains(&key)), Some(2), "{at}");
+        }
     }
 }

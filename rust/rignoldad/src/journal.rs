@@ -113,7 +113,7 @@ fn priority(fact: &str, words: &str) -> &'static str {
         "certificate" | "failed" | "settings" => "<3>",
         "reload" if words != "done" => "<3>",
         "child" | "closed" | "evicted" | "garbage" | "journal" | "left-behind" | "mended"
-        | "parent" | "refused" | "stray" => "<4>",
+        | "parent" | "refused" | "report" | "stray" => "<4>",
         "applied" | "published" | "received" => "<6>",
         _ => "<5>",
     }

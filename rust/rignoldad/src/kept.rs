@@ -73,12 +73,30 @@ impl Record {
         self.each.keys()
     }
 
+    /// Whether this key was published.
+    pub fn has(&self, key: &str) -> bool {
+        self.each.contains_key(key)
+    }
+
     /// This value is published, or without one, that there is none.
     pub fn put(&mut self, key: &str, value: Option<&[u8]>) {
         match value {
             Some(value) => drop(self.each.insert(key.into(), sha256(value))),
             None => drop(self.each.remove(key)),
         }
+    }
+
+    /// These settings are published, and no others: whether another key was kept, or one was not.
+    pub fn follows(&mut self, settings: &Settings) -> bool {
+        let before = self.each.len();
+        self.each.retain(|key, _| settings.contains_key(key));
+        let kept = self.each.len();
+        for (key, value) in settings {
+            if !self.each.contains_key(key) {
+                self.put(key, Some(value));
+            }
+        }
+        before != kept || self.each.len() != kept
     }
 
     /// What has to be changed to make it these settings. A value that was applied was published,

@@ -5,7 +5,7 @@ use std::fmt::Write;
 /// A number of an agent: its name, its kind, what it is, and how to get it.
 type Number<T> = (&'static str, &'static str, &'static str, fn(&T) -> u64);
 
-const OF_AGENT: [Number<Status>; 30] = [
+const OF_AGENT: [Number<Status>; 31] = [
     ("connected", "gauge", "Whether the agent has its parent; 1 at the root.", |s| {
         u64::from(s.parent.is_some() || s.is_root)
     }),
@@ -31,6 +31,7 @@ const OF_AGENT: [Number<Status>; 30] = [
     ("strays_total", "counter", "Bodies older than the last one.", |s| s.strays),
     ("garbage_total", "counter", "Bodies that did not fit their items.", |s| s.garbage),
     ("gaps_total", "counter", "Gaps in the sequence numbers.", |s| s.gaps),
+    ("bad_reports_total", "counter", "Reports of children that were none.", |s| s.bad_reports),
     ("old_frames_total", "counter", "Frames that were not fresh.", |s| s.old_frames),
     ("reconnects_total", "counter", "Connections made to parents.", |s| s.reconnects),
     ("refused_total", "counter", "Connections that were refused.", |s| s.refused),

@@ -58,9 +58,9 @@ macro_rules! members {
 }
 
 members! {
-    parent place connected sequence applied applies files digest groups ahead changed round whole
-    draining standby stands_by backlog limit harmless inner strays garbage gaps failing why mended
-    version expires cut
+    parent place parents connected sequence applied applies files digest groups ahead changed round
+    whole draining standby stands_by backlog limit harmless inner strays garbage gaps failing why
+    mended version expires cut
 }
 
 /// What the parent was told last by a connection on which it reads changes, if there is one.

@@ -101,8 +101,6 @@ pub struct Root<W> {
     looking: Vec<W>,
     rounding: Vec<W>,
     answers: Vec<Answer<W>>,
-    /// What is not written yet.
-    waiting: Asks,
     /// Whether it was time for a round while one was under way.
     overdue: bool,
     /// How often its numbers went on above others since the last round began.
@@ -183,7 +181,6 @@ impl<W> Root<W> {
             looking: Vec::new(),
             rounding: Vec::new(),
             answers: Vec::new(),
-            waiting: Asks::default(),
             overdue: false,
             went_above: 0,
             faults: Faults::default(),
@@ -506,12 +503,17 @@ impl<W> Root<W> {
         let ends = was_in_a_round && !self.publisher.is_in_a_round();
         // (what is held is counted from what there was before)
         if ends && self.held.is_none() {
+            self.mend_guard(now);
             self.guard.ends_round(self.publisher.settings().keys().cloned(), now);
         }
         if ends {
             self.answers.extend(self.rounding.drain(..).map(|who| (who, Ok(()))));
         }
         self.records(&next.keys, now);
+        if ends && self.known && self.record.follows(self.publisher.settings()) {
+            // (the memory was spoiled, and what is kept may be so too)
+            self.keeps.get_or_insert(now);
+        }
         self.fresh = self.fresh.filter(|_| !next.is_table);
         for (key, who) in std::mem::take(&mut self.written) {
             match next.keys.contains(&key) {
@@ -557,12 +559,11 @@ impl<W> Root<W> {
         let cost = Cost::of(settings, &key, value.as_deref());
         match &value {
             Some(value) if !self.publisher.has_room(&key, value) => Err("it is too long"),
-            _ if !self.waiting.has_room(settings, cost) => {
+            _ if !self.waiting().has_room(settings, cost) => {
                 Err("too much waits for the disk: try again")
             }
             _ => Ok(()),
         }?;
-        self.waiting.add(cost);
         let change = ((key, value), (who, cost));
         match self.asked.last_mut() {
             Some(Asked::Changes(batch)) if batch.iter().all(|it| it.0 .0 != change.0 .0) => {
@@ -571,6 +572,19 @@ impl<W> Root<W> {
             _ => self.asked.push(Asked::Changes(vec![change])),
         }
         Ok(())
+    }
+
+    /// What is not written yet.
+    fn waiting(&self) -> Asks {
+        let asked = self.asked.iter().flat_map(|asked| match asked {
+            Asked::Changes(changes) => &changes[..],
+            Asked::Promote(..) => &[],
+        });
+        let writing = self.writing.iter().flat_map(|writing| match writing {
+            Writing::Changes(all) => &all[..],
+            Writing::Promote(_) => &[],
+        });
+        asked.map(|(_, who)| who.1).chain(writing.map(|who| who.1)).collect()
     }
 
     /// Makes the value that a setting has for a group the one for all, after [`Root::commit`]: by
@@ -650,8 +664,7 @@ impl<W> Root<W> {
         others.then(|| self.notified(now));
         match self.writing.take() {
             Some(Writing::Changes(writing)) => {
-                for (((key, value), done), (who, cost)) in all.into_iter().zip(writing) {
-                    self.waiting.remove(cost);
+                for (((key, value), done), (who, _)) in all.into_iter().zip(writing) {
                     let done = match done {
                         // (the folder lacks it, and that is held)
                         Err(Refused::NotSet) if self.is_published_before(&key) => Ok(()),
@@ -706,7 +719,22 @@ impl<W> Root<W> {
         self.publisher.put(key, value);
     }
 
+    /// What may go but a part of is looked at before it counts.
+    ///
+    /// Once all is known, what is published is what the publisher has and the record does, too: of
+    /// a name that is spoiled in one of them the other one does not know. Before that it is what
+    /// was kept, or applied here: of the folder a part may be missing from the first moment on.
+    fn mend_guard(&mut self, now: Instant) {
+        let (known, before) = (self.known, self.before.keys().filter(|_| !self.known));
+        let published =
+            self.publisher.settings().keys().filter(|key| known && self.record.has(key));
+        self.guard.mend(published.chain(before), now);
+    }
+
     fn have_changed(&mut self, changes: Vec<Kept>, now: Instant) {
+        if changes.iter().any(|it| it.1.is_none()) {
+            self.mend_guard(now);
+        }
         let settings = self.publisher.settings();
         let differs = |(key, value): &Kept| settings.get(key) != value.as_ref();
         let changes: Vec<Kept> = changes.into_iter().filter(differs).collect();
@@ -778,6 +806,7 @@ impl<W> Root<W> {
         holds: bool,
         now: Instant,
     ) -> Option<String> {
+        self.mend_guard(now);
         let changes = match self.known {
             true => differences(self.publisher.settings(), &found),
             false => self.before.changes(&found, &self.applied),

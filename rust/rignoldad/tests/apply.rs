@@ -1,8 +1,9 @@
 //! The files of settings and their hooks.
-use rignolda::settings::{Heard, Meaning, Table};
+use rignolda::settings::{furthest, Heard, Meaning, Publisher, Table};
 use rignoldad::apply::{refusal, Applied, Applier, Outcome};
 use rignoldad::config::Apply;
 use rignoldad::hooks::Hook;
+use std::cell::Cell;
 use std::collections::BTreeMap;
 use std::fs::{self, Permissions};
 use std::io;
@@ -629,17 +630,23 @@ fn what_comes_to_the_place_of_the_agents_own_names_is_not_changed() {
     let untouched = || all.iter().all(|(name, path)| fs::read(path).unwrap() == name.as_bytes());
     assert!(untouched() && fs::read_dir(&other).unwrap().count() == names.len());
     assert_eq!((applier.floor(), applier.failing()), (3, 0));
-    // another folder, moved there
+    // another folder, moved there, is moved aside and kept
     fs::rename(folder.join(".groups"), place.0.join("away")).unwrap();
     fs::rename(&other, folder.join(".groups")).unwrap();
     applier.table(table, 4);
     applied(&mut applier, 4);
-    assert_eq!(applier.failing(), 1);
-    fs::rename(folder.join(".groups"), &other).unwrap();
+    assert_eq!(applier.failing(), 0);
+    assert_eq!(fs::read(folder.join(".groups/a..canary")).unwrap(), b"2");
+    fs::rename(folder.join(".groups.aside1"), &other).unwrap();
+    assert!(untouched() && fs::read_dir(&other).unwrap().count() == names.len());
+    // (the agent's own is opened, if it may not be entered)
+    drop(applier);
+    fs::set_permissions(folder.join(".groups"), Permissions::from_mode(0o000)).unwrap();
+    let mut applier = start(&config);
     applier.table(table, 5);
     applied(&mut applier, 5);
-    assert_eq!(applier.failing(), 0);
-    assert!(untouched());
+    let mode = fs::metadata(folder.join(".groups")).unwrap().permissions().mode();
+    assert_eq!((applier.failing(), mode & 0o700), (0, 0o700));
 }
 
 /// A folder in the place of a file that is set goes, unless it is a mount; one that has the name of
@@ -712,7 +719,7 @@ fn what_is_wrong_with_the_folder_itself_is_mended() {
 
 #[test]
 fn what_lies_where_the_folder_was_is_moved_aside_and_kept() {
-    for kind in ["file", "pipe", "link", "file of others"] {
+    for kind in ["file", "pipe", "link", "link to itself", "file of others"] {
         let place = Place::new();
         let (folder, aside) = (place.folder(), place.0.join("settings.aside1"));
         let mut applier = start(&place.config());
@@ -722,6 +729,7 @@ fn what_lies_where_the_folder_was_is_moved_aside_and_kept() {
         match kind {
             "pipe" => assert!(Command::new("mkfifo").arg(&folder).status().unwrap().success()),
             "link" => symlink(place.0.join("away/a"), &folder).unwrap(),
+            "link to itself" => symlink(&folder, &folder).unwrap(),
             _ => fs::write(&folder, "mine").unwrap(),
         }
         let is_own = kind != "file of others";
@@ -1102,4 +1110,132 @@ fn nothing_in_the_folder_stays_open() {
         at.and_then(|at| fs::read_link(at.path())).is_ok_and(|it| it.starts_with(&place.0))
     };
     until(|| !fs::read_dir("/proc/self/fd").unwrap().any(is_there));
+}
+
+/// As where the memory of a machine goes back to an older time, and its disk does not.
+#[test]
+fn an_agent_whose_files_are_from_later_than_its_memory_applies_nothing_older() {
+    for (name, is_table) in [("as it was", true), ("as it was", false), ("another file", false)] {
+        let place = Place::new();
+        let (marker, new) = (place.folder().join(".rignolda"), place.0.join("new"));
+        let mut life = Life::begins(&place.config());
+        life.table(100, "colour", "red");
+        match is_table {
+            true => life.table(101, "colour", "blue"),
+            false => life.changes(101, "colour", "blue"),
+        }
+        fs::write(place.folder().join("colour"), "late").unwrap();
+        match name {
+            "as it was" => fs::write(&marker, format!("{:020}\n", 110)).unwrap(),
+            _ => {
+                fs::write(&new, "110").unwrap();
+                fs::rename(&new, &marker).unwrap();
+            }
+        }
+        let change = Meaning::Changes(vec![("colour", Some(b"old"))]);
+        for number in 102..104 {
+            assert!(life.0.takes(number, &change) && life.0.heard.applies);
+            assert!(life.1.take(&change, number, life.0.heard));
+            until(|| !life.1.is_busy());
+        }
+        // (until the loop knows, a newer one is as little what it would be to an agent that starts)
+        let table = Meaning::Table(vec![("colour", Some(b"old"))]);
+        assert!(life.0.takes(120, &table) && life.1.take(&table, 120, life.0.heard));
+        let says = (life.1.is_busy(), life.1.applied(120), life.1.files(120));
+        assert_eq!((place.files(), says), (map([("colour", "late")]), (false, 0, None)));
+        assert_eq!((life.1.found_later(), life.1.found_later()), (Some(110), None), "{name}");
+        life.0 = Table::default();
+        life.0.taker.floor = life.1.floor();
+        assert_eq!(life.0.taker.floor, 110);
+        life.changes(105, "colour", "old");
+        assert_eq!(place.files(), map([("colour", "late")]));
+        life.changes(111, "size", "1");
+        assert_eq!(place.files(), map([("colour", "late"), ("size", "1")]));
+        assert_eq!(life.1.files(111), None, "of files that nobody looked at no digest is known");
+        life.table(112, "colour", "newest");
+        assert_eq!((place.files(), life.1.floor()), (map([("colour", "newest")]), 112));
+        assert_eq!((life.1.files(112).map(|it| it.0), life.1.mended()), (Some(112), 0));
+    }
+}
+
+#[test]
+fn a_hook_is_told_no_value_that_is_older_than_the_files() {
+    let place = Place::new();
+    let config = place.with_hook(&format!("{LOG}\nuntil [ -e go ]; do sleep 0.01; done"));
+    let mut life = Life(Table::default(), start(&config));
+    let hears = |life: &mut Life, number, value: &str| {
+        let table = Meaning::Table(vec![("colour", Some(value.as_bytes()))]);
+        assert!(life.0.takes(number, &table) && life.1.take(&table, number, life.0.heard));
+        until(|| !life.1.is_busy() || life.1.files(number).is_some_and(|it| it.0 == number));
+    };
+    hears(&mut life, 1, "first");
+    until(|| place.calls().len() == 1);
+    // (it waits for the first one to end)
+    hears(&mut life, 2, "old");
+    fs::write(place.folder().join("colour"), "late").unwrap();
+    fs::write(place.folder().join(".rignolda"), "9").unwrap();
+    fs::write(place.0.join("go"), "").unwrap();
+    let later = Cell::new(None);
+    until(|| {
+        later.set(later.get().or(life.1.found_later()));
+        later.get().is_some()
+    });
+    assert_eq!(later.get(), Some(9));
+    life.0 = Table::default();
+    life.0.taker.floor = life.1.floor();
+    life.table(10, "colour", "late");
+    assert_eq!(place.calls(), ["set colour first 1", "set colour late 10"]);
+}
+
+/// Somebody changes the marker of an agent while it runs: all comes right as where it starts with
+/// that, the root goes on above it, and no other agent is passed.
+#[test]
+fn a_marker_that_is_changed_while_the_agent_runs_comes_right() {
+    let begun = 1_800_000_000_000_000_u64;
+    let moved = [1_000_000, 1 << 40, 1 << 62, (1 << 63) - 1, 1 << 63, (1 << 63) + 1, u64::MAX - 9];
+    let moved = moved.map(|by| begun.wrapping_add(by).to_string());
+    let others = ["0", "1", "18446744073709551615", "garbage", ""].map(String::from);
+    for text in moved.iter().chain(&others) {
+        let place = Place::new();
+        let marker = place.folder().join(".rignolda");
+        let mut life = Life(Table::default(), start(&place.config()));
+        let (mut publisher, mut other) = (Publisher::new(begun), Table::default());
+        for (round, value) in [(0, "one"), (1, "two"), (2, "three"), (3, "three"), (4, "three")] {
+            if round == 1 {
+                match &**text {
+                    "" => fs::remove_file(&marker).unwrap(),
+                    text => fs::write(&marker, text).unwrap(),
+                }
+            }
+            publisher.set("colour", value.into());
+            publisher.begin_round(3);
+            let mut above = 0;
+            while let Some(published) = publisher.next(100) {
+                let (number, meaning) = published.body.meaning().unwrap();
+                assert!(other.takes(number, &meaning), "{text}: {number} is passed");
+                if life.0.takes(number, &meaning) {
+                    assert!(life.1.take(&meaning, number, life.0.heard));
+                    until(|| life.1.applied(number) == number || !life.1.is_busy());
+                    life.1.done();
+                }
+                if let Some(floor) = life.1.found_later() {
+                    life.0 = Table::default();
+                    life.0.taker.floor = floor;
+                }
+                let taker = &life.0.taker;
+                let ahead = furthest(number, [taker.number, taker.floor]);
+                above += u32::from(above < 2 && publisher.go_above(ahead));
+            }
+            let (last, is) = (other.taker.number, fs::read_to_string(&marker).unwrap());
+            if round == 0 || round == 4 {
+                assert_eq!(place.files(), map([("colour", value)]), "{text}, round {round}");
+                assert_eq!(
+                    (life.0.taker.number, is.trim_end().parse()),
+                    (last, Ok(last)),
+                    "{text}"
+                );
+                assert_eq!(life.1.files(last).map(|it| it.0), Some(last), "{text}");
+            }
+        }
+    }
 }

@@ -1,12 +1,16 @@
 //! The root's folder, and what is published of it.
+use openssl::sha::sha256;
 use rignolda::net::{checksum, Body};
 use rignolda::settings::{Meaning, Published, VALUE_BYTES};
 use rignoldad::config;
 use rignoldad::refused::Refused;
 use rignoldad::root::Root;
 use std::collections::BTreeMap;
-use std::fs;
+use std::fs::{self, File, OpenOptions};
+use std::io::BufRead;
+use std::os::unix::fs::FileExt;
 use std::path::{Path, PathBuf};
+use std::process::Command;
 use std::sync::Arc;
 use std::time::{Duration, Instant};
 
@@ -1093,4 +1097,147 @@ fn a_file_with_a_dot_in_front_has_that_setting_read_alone_which_it_becomes() {
     assert_eq!(all(&mut root), [vec![entry("a", Some("2"))]]);
     root.tick(now + ROUND);
     assert_eq!(all(&mut root).last(), Some(&vec![entry("a", Some("2")), entry("b", Some("2"))]));
+}
+
+/// Where this process has these bytes in memory that it may write. They are given with all bits the
+/// other way, so that they are not found in the test itself.
+fn copies(inverted: &[u8]) -> Vec<u64> {
+    const PIECE: usize = 1 << 16;
+    let maps = fs::read_to_string("/proc/self/maps").unwrap();
+    let memory = File::open("/proc/self/mem").unwrap();
+    let (mut piece, mut found) = (vec![0; PIECE + inverted.len()], Vec::new());
+    let own = piece.as_ptr_range();
+    let own = own.start as u64..own.end as u64;
+    for line in maps.lines().filter(|line| line.contains(" rw")) {
+        let (start, end) = line.split_once(' ').unwrap().0.split_once('-').unwrap();
+        let [start, end] = [start, end].map(|it| u64::from_str_radix(it, 16).unwrap());
+        for at in (start..end).step_by(PIECE) {
+            let length = piece.len().min((end - at) as usize);
+            let Ok(length) = memory.read_at(&mut piece[..length], at) else { continue };
+            let (mut rest, mut skipped) = (&piece[..length], Vec::new());
+            let mut ends = Vec::new();
+            while rest.read_until(!inverted[0], &mut skipped).unwrap() > 0 {
+                ends.push(length - rest.len());
+                skipped.clear();
+            }
+            let is_one = |it: &[u8]| it.iter().zip(inverted).all(|(one, other)| *one == !other);
+            let all = ends.into_iter().map(|end| end - 1..end - 1 + inverted.len());
+            let places = all.filter(|it| piece.get(it.clone()).is_some_and(is_one));
+            let places = places.map(|it| at + it.start as u64);
+            found.extend(places.filter(|place| !own.contains(place)));
+        }
+    }
+    piece.fill(0);
+    found.sort_unstable();
+    found.dedup();
+    found
+}
+
+/// Writes over one of these places from this byte of it on, if it has the same bytes still.
+fn spoil(at: u64, inverted: &[u8], from: usize, bytes: &[u8]) {
+    let memory = OpenOptions::new().read(true).write(true).open("/proc/self/mem").unwrap();
+    let mut there = [0; 64];
+    memory.read_exact_at(&mut there[..inverted.len()], at).unwrap();
+    if there.iter().zip(inverted).all(|(one, other)| *one == !other) {
+        memory.write_all_at(bytes, at + from as u64).unwrap();
+    }
+    there.fill(0);
+}
+
+/// Does this in a process of its own, which runs this test alone: what is spoiled is nobody else's.
+fn alone(test: &str, act: impl FnOnce()) {
+    const ALONE: &str = "RIGNOLDA_ALONE";
+    if std::env::var_os(ALONE).is_some() {
+        return act();
+    }
+    let mut process = Command::new(std::env::current_exe().unwrap());
+    let done = process.args([test, "--exact", "--nocapture"]).env(ALONE, "").output().unwrap();
+    let said = [done.stdout, done.stderr].concat();
+    assert!(done.status.success(), "{}", String::from_utf8_lossy(&said));
+}
+
+#[test]
+fn a_name_that_is_spoilt_holds_no_change_for_longer_than_a_round() {
+    let test = "a_name_that_is_spoilt_holds_no_change_for_longer_than_a_round";
+    alone(test, name_is_spoilt);
+}
+
+/// In each of the places where it is in the memory of a root, mostly several times, since they are
+/// others each time.
+fn name_is_spoilt() {
+    let name = |at: usize| format!("Qspoilt-by-a-fault-of-memory-{at:03}");
+    for at in 0..60 {
+        let folder = Folder::new(&format!("spoilt{at}"));
+        put(&folder, &["b", "c"]);
+        fs::write(folder.0.join(name(at)), "1").unwrap();
+        let config = config::Root { unsets: Some(0), ..config(&folder.0) };
+        let (mut root, now) = root_of(config.clone(), BTreeMap::new(), true);
+        let kept = folder.0.join(".rignolda/published");
+        let is_kept = |root: &mut Tried, later: Instant, value: &[u8]| {
+            let (until, sha) = (Instant::now() + Duration::from_secs(60), sha256(value));
+            let digits: String = sha.iter().map(|byte| format!("{byte:02x}")).collect();
+            while !fs::read_to_string(&kept).is_ok_and(|text| text.contains(&digits)) {
+                root.tick(later + Duration::from_secs(30));
+                assert!(Instant::now() < until, "{at}: it is not kept");
+                std::thread::sleep(Duration::from_millis(1));
+            }
+        };
+        is_kept(&mut root, now, b"c");
+        let inverted: Vec<u8> = name(at).bytes().map(|byte| !byte).collect();
+        let places = copies(&inverted);
+        assert!((3..20).contains(&places.len()), "a root has it {} times", places.len());
+        // (what is free has words of who gives it away in front)
+        spoil(places[at % places.len()], &inverted, 20, b"S");
+        // (this one may be held until the round is over)
+        fs::write(folder.0.join("b"), "2").unwrap();
+        root.begin_round(now);
+        all(&mut root);
+        root.tick(now + ROUND);
+        let table = all(&mut root).pop().unwrap();
+        let own = || entry(&name(at), Some("1"));
+        let right = |c| vec![own(), entry("b", Some("2")), entry("c", Some(c))];
+        assert_eq!((root.held(), table), (0, right("c")), "{at}");
+        fs::write(folder.0.join("c"), "3").unwrap();
+        root.begin_round(now + ROUND);
+        let table = all(&mut root).pop().unwrap();
+        assert_eq!((root.held(), table), (0, right("3")), "{at}");
+        // (and what is kept is right, too)
+        is_kept(&mut root, now + ROUND, b"3");
+        drop(root);
+        let (mut root, _) = root_of(config, BTreeMap::new(), false);
+        assert_eq!((root.held(), all(&mut root).len()), (0, 2), "{at}");
+    }
+}
+
+#[test]
+fn a_count_that_is_spoilt_refuses_nothing_for_longer_than_what_waits() {
+    let test = "a_count_that_is_spoilt_refuses_nothing_for_longer_than_what_waits";
+    alone(test, count_is_spoilt);
+}
+
+/// Of all places where it is in the memory of a root, one after the other.
+fn count_is_spoilt() {
+    // (a setting takes 6 bytes more than its name and value)
+    let bytes = |at: usize| 700_001 + 16 * at;
+    for at in 0.. {
+        let folder = Folder::new(&format!("count{at}"));
+        let (mut root, _) = root(&folder.0, true);
+        root.ask("a", Some(&vec![b'x'; bytes(at)])).unwrap();
+        let inverted = (!(bytes(at) as u64 + 7)).to_le_bytes();
+        let places = copies(&inverted);
+        let Some(place) = places.get(at) else {
+            assert!(at > 0);
+            break;
+        };
+        spoil(*place, &inverted, 0, &(1_u64 << 50).to_le_bytes());
+        // (as long as that waits, it may be refused)
+        let _ = root.ask("a", Some(b"1"));
+        assert_eq!(root.commit(), []);
+        all(&mut root);
+        for key in ["b", "c", "d"] {
+            root.ask(key, Some(b"1")).unwrap();
+        }
+        assert_eq!(root.commit(), []);
+        assert_eq!(root.settings(), 4, "{at}");
+    }
 }

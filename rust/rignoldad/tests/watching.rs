@@ -138,12 +138,15 @@ fn of_a_list_the_number_that_is_furthest_ahead_counts() {
     assert_eq!(heard(r#"[{"name":"a","sequence":7,"ahead":70}]"#), 70);
     // (agents of before say none)
     assert_eq!(heard(r#"[{"name":"a","sequence":7}]"#), 7);
-    let below = r#"{"name":"b","parent":"a","sequence":12}"#;
+    let below = r#"{"name":"b","parent":"a","connected":true,"sequence":12}"#;
     assert_eq!(heard(&format!(r#"[{{"name":"a","sequence":7}},{below}]"#)), 12);
     assert_eq!(heard(&format!(r#"[{{"name":"a","sequence":7,"ahead":9}},{below}]"#)), 12);
     assert_eq!(heard(&format!(r#"[{{"name":"a","sequence":50}},{below}]"#)), 50);
     let last = u64::MAX;
     assert_eq!(heard(&format!(r#"[{{"name":"a","sequence":{last}}},{below}]"#)), 12);
+    // (who is not connected there may be elsewhere, and have another number now)
+    let away = r#"{"name":"c","parent":"a","sequence":13,"ahead":14}"#;
+    assert_eq!(heard(&format!(r#"[{{"name":"a","sequence":7}},{away},{below}]"#)), 12);
     assert_eq!(Below::default().numbers("a"), [0, 0]);
 }
 

@@ -1,0 +1,522 @@
+//! Whether the agent can be reached. A thread of its own looks at it from outside every ten
+//! seconds, as its neighbours and operators do: at its control socket, and at the addresses where
+//! it listens. The watchdog has its sign after that alone. So it is seen if the loop hangs, and
+//! what no look at the state sees: what was made once, and is used only if somebody connects.
+//!
+//! *Reached* is: the end that listens proved the agent's key. What it makes of the certificate does
+//! not count, nor that it has no room: nobody outside can end an agent by that. But if anybody is
+//! answered without TLS, or without a certificate, the agent ends at once.
+use crate::fact;
+use rignolda::net::parents::NONE;
+use rignolda::net::{Address, Parent, Way};
+use rignolda_tls::{ask, By, Looked, Looker, Maker, Own, Tls};
+use rignoldactl::{Request, Response};
+use std::io::Write;
+use std::path::PathBuf;
+use std::sync::atomic::{AtomicBool, AtomicU64, Ordering};
+use std::sync::{mpsc, Arc, Mutex, MutexGuard, PoisonError};
+use std::thread;
+use std::time::{Duration, Instant};
+
+/// How often it looks; if it listens nowhere, since then less can be wrong, and has a parent; and
+/// how soon again after it failed.
+const EVERY: Duration = Duration::from_secs(10);
+const EVERY_OF_LEAF: Duration = Duration::from_secs(30);
+const AGAIN: Duration = Duration::from_secs(5);
+/// How long a look takes at most, also on a machine that has much else to do.
+const WITHIN: Duration = Duration::from_secs(10);
+/// At which of its looks it comes by TLS, and with its certificate, too, since each of that costs
+/// more: else it comes without TLS, and is to be refused. While it fails, it always comes so.
+const BY_TLS: u64 = 6;
+const NAMED: u64 = 30;
+/// For how long, and in how many looks, nothing is reached before the agent ends.
+const FAILS: (Duration, u32) = (Duration::from_secs(60), 4);
+/// For how long it waits to be told that there was no room: the loop counts that as it comes to it.
+const TOLD: Duration = Duration::from_secs(3);
+/// After how long without a look the thread itself counts as lost.
+const LOST: Duration = Duration::from_secs(180);
+/// For how long an agent has no parent before it looks for one by new connections; and how often
+/// it then does.
+const ALONE: Duration = Duration::from_secs(180);
+const ALONE_EVERY: Duration = Duration::from_secs(60);
+/// How often in turn it finds one that answers before it ends.
+const FINDS: u32 = 2;
+const STACK_BYTES: usize = 512 << 10;
+
+/// What all looks of one time came to.
+#[derive(Clone, Debug, PartialEq, Eq)]
+enum Round {
+    /// Each end was reached. Whether each has answered, too.
+    Reached(bool),
+    /// One could not be tried.
+    Unknown,
+    /// One was not reached, for this.
+    Failed(String),
+    /// One answers whoever has no certificate.
+    Open(String),
+}
+
+/// What follows from these.
+#[derive(Debug)]
+struct Judge {
+    /// In how many looks in turn nothing was reached, and since when.
+    fails: u32,
+    since: Instant,
+}
+
+impl Judge {
+    fn new(now: Instant) -> Judge {
+        Judge { fails: 0, since: now }
+    }
+
+    /// Whether it can be reached, as far as is known; or why it is to end.
+    fn hears(&mut self, round: &Round, now: Instant) -> Result<bool, String> {
+        match round {
+            Round::Open(why) => return Err(why.clone()),
+            Round::Failed(why) => {
+                self.fails = self.fails.saturating_add(1);
+                if self.fails >= FAILS.1 && now >= self.since + FAILS.0 {
+                    return Err(format!("it cannot be reached: {why}"));
+                }
+            }
+            Round::Reached(_) | Round::Unknown => *self = Judge::new(now),
+        }
+        Ok(self.fails == 0)
+    }
+}
+
+/// What is looked at, and what is known of it.
+struct Shared {
+    name: String,
+    own: Own,
+    control: Option<PathBuf>,
+    /// The addresses where it listens, as the system knows them.
+    listens: Vec<Address>,
+    /// (Nobody has the lock while it looks, since the loop takes it.)
+    looker: Mutex<Option<Arc<Looker>>>,
+    /// How often somebody was not let in since there was no room.
+    turned_away: AtomicU64,
+    /// Whether it can be reached; when the last look ended, in milliseconds since the first began;
+    /// and whether an end did not answer that was reached.
+    is_sound: AtomicBool,
+    /// Whether it has no parent, and needs one.
+    is_alone: AtomicBool,
+    begun: Instant,
+    looked: AtomicU64,
+    is_unwelcome: AtomicBool,
+}
+
+/// Looks at the agent from outside.
+pub struct Reach {
+    shared: Arc<Shared>,
+    /// Since when it has no parent, and how often parents had answered then.
+    alone: Option<(Instant, u64)>,
+    /// When it looked for one last, what that found, and how often in turn.
+    sought: Option<(Instant, mpsc::Receiver<bool>)>,
+    finds: u32,
+}
+
+impl Reach {
+    /// Looks at an agent of this name from now on, which listens there.
+    pub fn new(
+        name: &str,
+        (tls, maker): (Option<&Tls>, &Maker),
+        control: Option<PathBuf>,
+        listens: Vec<Address>,
+        own: Own,
+    ) -> std::io::Result<Reach> {
+        let shared = Arc::new(Shared {
+            name: name.into(),
+            own,
+            control,
+            listens,
+            looker: Mutex::new(None),
+            turned_away: AtomicU64::new(0),
+            is_sound: AtomicBool::new(true),
+            is_alone: AtomicBool::new(false),
+            begun: Instant::now(),
+            looked: AtomicU64::new(0),
+            is_unwelcome: AtomicBool::new(false),
+        });
+        let reach = Reach { shared, alone: None, sought: None, finds: 0 };
+        reach.reload(tls, maker);
+        let shared = reach.shared.clone();
+        let work = move || shared.work();
+        let thread = thread::Builder::new().name("reach".into()).stack_size(STACK_BYTES);
+        thread.spawn(work)?;
+        Ok(reach)
+    }
+
+    /// Takes up certificates that count from now on, and what lines are made by. (If they cannot be
+    /// read any more, those of before count.)
+    pub fn reload(&self, tls: Option<&Tls>, maker: &Maker) {
+        let (shared, name) = (&self.shared, &self.shared.name);
+        let looker = match shared.listens.is_empty() {
+            true => Some(Looker::of(name, maker, WITHIN)),
+            false => Looker::new(name, tls, WITHIN).ok(),
+        };
+        if let Some(looker) = looker {
+            *shared.lock() = Some(Arc::new(looker));
+        }
+    }
+
+    /// So often somebody was not let in, since there was no room.
+    pub fn was_full(&self, times: u64) {
+        self.shared.turned_away.store(times, Ordering::Relaxed);
+    }
+
+    /// Whether it can be reached, as far as is known.
+    pub fn is_sound(&self, now: Instant) -> bool {
+        let looked = Duration::from_millis(self.shared.looked.load(Ordering::Relaxed));
+        let is_lost = now.saturating_duration_since(self.shared.begun) > looked + LOST;
+        self.shared.is_sound.load(Ordering::Relaxed) && !is_lost
+    }
+
+    /// Whether an end did not answer since this was asked last, though it was reached.
+    pub fn is_unwelcome(&self) -> bool {
+        self.shared.is_unwelcome.swap(false, Ordering::Relaxed)
+    }
+
+    /// To be told each second or two: whether the agent has a parent, or needs none, and how often
+    /// parents have answered. If it has none for long, and none answered, it looks for one of these
+    /// by connections of another making: whether it found one twice, so that it is to end.
+    pub fn misses(
+        &mut self,
+        (has_parent, answers): (bool, u64),
+        tls: Option<&Tls>,
+        parents: &[Parent<Address>],
+        now: Instant,
+    ) -> bool {
+        self.shared.is_alone.store(!has_parent, Ordering::Relaxed);
+        if has_parent || self.alone.is_none_or(|(since, before)| before != answers || since > now) {
+            (self.alone, self.finds) = ((!has_parent).then_some((now, answers)), 0);
+            return false;
+        }
+        let found = self.sought.as_ref().and_then(|(_, found)| found.try_recv().ok());
+        if let Some(found) = found {
+            self.finds = if found { self.finds + 1 } else { 0 };
+        }
+        let is_long = self.alone.is_some_and(|(since, _)| now >= since + ALONE);
+        let is_due = self.sought.as_ref().is_none_or(|(at, _)| now >= *at + ALONE_EVERY);
+        if is_long && is_due {
+            self.seek(tls, parents, now);
+        }
+        self.finds >= FINDS
+    }
+
+    /// Looks at the parents, in a thread that nobody waits for.
+    fn seek(&mut self, tls: Option<&Tls>, parents: &[Parent<Address>], now: Instant) {
+        let (to, found) = mpsc::channel();
+        let (name, tls, parents) = (self.shared.name.clone(), tls.cloned(), parents.to_vec());
+        let seek = move || {
+            let looker = Looker::new(&name, tls.as_ref(), WITHIN).ok();
+            let is_one = |it: &Parent<Address>| {
+                looker.as_ref().is_some_and(|looker| answers(looker, &name, it))
+            };
+            let _ = to.send(parents.iter().any(is_one));
+        };
+        // (without a thread nothing is found)
+        let _ = thread::Builder::new().name("parents".into()).stack_size(STACK_BYTES).spawn(seek);
+        self.sought = Some((now, found));
+    }
+}
+
+/// Whether a parent answers that the agent would take.
+fn answers(looker: &Looker, name: &str, parent: &Parent<Address>) -> bool {
+    let is_way = |way: &Way| way.cost < NONE && way.names.iter().all(|it| it != name);
+    let at = parent.address.as_ref();
+    match at.map(|at| looker.at_parent(at, parent.name.as_deref())) {
+        Some(Looked::Answered(way)) => is_way(&way),
+        _ => false,
+    }
+}
+
+impl Shared {
+    fn lock(&self) -> MutexGuard<'_, Option<Arc<Looker>>> {
+        self.looker.lock().unwrap_or_else(PoisonError::into_inner)
+    }
+
+    fn looker(&self) -> Option<Arc<Looker>> {
+        self.lock().clone()
+    }
+
+    /// The thread that looks. It goes on as long as the process does.
+    fn work(&self) {
+        let (mut judge, mut count) = (Judge::new(Instant::now()), 0);
+        loop {
+            let was_sound = self.is_sound.load(Ordering::Relaxed);
+            let round = self.round(if was_sound { count } else { 0 });
+            count += 1;
+            let now = Instant::now();
+            let is_sound = judge.hears(&round, now).unwrap_or_else(|why| end(&why));
+            self.is_sound.store(is_sound, Ordering::Relaxed);
+            match &round {
+                Round::Failed(why) if was_sound => fact!("reach", "{why}"),
+                Round::Reached(_) if !was_sound => fact!("reach", "it can be reached again"),
+                _ => (),
+            }
+            let millis = now.saturating_duration_since(self.begun).as_millis();
+            self.looked.store(millis as u64, Ordering::Relaxed);
+            if matches!(round, Round::Reached(false) | Round::Failed(_)) {
+                self.is_unwelcome.store(true, Ordering::Relaxed);
+            }
+            thread::sleep(match is_sound {
+                true if self.listens.is_empty() && !self.is_alone.load(Ordering::Relaxed) => {
+                    EVERY_OF_LEAF
+                }
+                true => EVERY,
+                false => AGAIN,
+            });
+        }
+    }
+
+    /// Looks at all once, or until one was not reached.
+    fn round(&self, count: u64) -> Round {
+        let before = self.turned_away.load(Ordering::Relaxed);
+        let mut round = self.at_control();
+        for (address, by) in self.listens.iter().flat_map(|it| self.looks(it, count)) {
+            if matches!(round, Round::Failed(_)) {
+                break;
+            }
+            round = worse(round, self.at(address, by));
+        }
+        if !matches!(round, Round::Failed(_)) {
+            round = worse(round, self.at_itself());
+        }
+        if matches!(round, Round::Failed(_)) {
+            // (who was not let in for lack of room could be reached)
+            thread::sleep(TOLD);
+            if self.turned_away.load(Ordering::Relaxed) != before {
+                return Round::Unknown;
+            }
+        }
+        round
+    }
+
+    /// Looks at the control socket, by its path.
+    fn at_control(&self) -> Round {
+        let Some(path) = &self.control else { return Round::Reached(true) };
+        let request = serde_json::to_vec(&Request::Ping).unwrap_or_default();
+        let done = serde_json::to_vec(&Response::Done).unwrap_or_default();
+        match ask(path, &[&request[..], b"\n"].concat(), WITHIN) {
+            Ok(answer) if answer == done => Round::Reached(true),
+            Ok(_) => Round::Failed(format!("{} answers otherwise", path.display())),
+            Err(Looked::NotTried(_)) => Round::Unknown,
+            Err(Looked::Nothing(why) | Looked::Closed(why) | Looked::Proved(why)) => {
+                Round::Failed(format!("{}: {why}", path.display()))
+            }
+            Err(Looked::Answered(_)) => Round::Unknown,
+        }
+    }
+
+    /// As whom it looks at an address this time. (Whoever has no certificate sees as well whether
+    /// the end has the key.)
+    fn looks<'a>(&self, address: &'a Address, count: u64) -> Vec<(&'a Address, By)> {
+        let is_secure = self.looker().is_some_and(|it| it.is_secure());
+        let all = match address {
+            Address::Tcp(_) if is_secure && count % NAMED == 0 => {
+                vec![By::Plain, By::Nameless, By::Own]
+            }
+            Address::Tcp(_) if is_secure && count % BY_TLS == 0 => vec![By::Plain, By::Nameless],
+            Address::Tcp(_) if is_secure => vec![By::Plain],
+            _ => vec![By::Own],
+        };
+        all.into_iter().map(|by| (address, by)).collect()
+    }
+
+    /// Looks at its own TLS, if it has no parent and nobody else can see that.
+    fn at_itself(&self) -> Round {
+        let is_alone = self.listens.is_empty() && self.is_alone.load(Ordering::Relaxed);
+        match self.looker().filter(|_| is_alone).map(|it| it.at_itself()) {
+            Some(Looked::Nothing(why)) => Round::Failed(format!("its own TLS: {why}")),
+            _ => Round::Reached(true),
+        }
+    }
+
+    /// Looks at an address where it listens.
+    fn at(&self, address: &Address, by: By) -> Round {
+        let Some(looker) = self.looker() else { return Round::Unknown };
+        let what = if by == By::Plain { "TLS" } else { "a certificate" };
+        match looker.at_own(address, by, &self.own) {
+            Looked::Answered(_) if by == By::Own => Round::Reached(true),
+            // (it may have become so meanwhile, and is to be)
+            Looked::Answered(_) if !self.looker().is_some_and(|it| Arc::ptr_eq(&it, &looker)) => {
+                Round::Unknown
+            }
+            Looked::Answered(_) => {
+                Round::Open(format!("{address} answers whoever comes without {what}"))
+            }
+            Looked::Closed(_) if by == By::Plain => Round::Reached(true),
+            Looked::Proved(_) => Round::Reached(by != By::Own),
+            Looked::Closed(why) | Looked::Nothing(why) => {
+                Round::Failed(format!("{address}: {why}"))
+            }
+            Looked::NotTried(_) => Round::Unknown,
+        }
+    }
+}
+
+/// Of what two looks came to, what counts.
+fn worse(one: Round, other: Round) -> Round {
+    let rank = |it: &Round| match it {
+        Round::Reached(true) => 0,
+        Round::Reached(false) => 1,
+        Round::Unknown => 2,
+        Round::Failed(_) => 3,
+        Round::Open(_) => 4,
+    };
+    if rank(&other) > rank(&one) {
+        other
+    } else {
+        one
+    }
+}
+
+/// Ends the process as a watchdog does, whatever the loop does meanwhile or whoever reads what it
+/// says.
+fn end(why: &str) -> ! {
+    let (to, said) = mpsc::channel();
+    let line = format!("rignoldad: {why}\n");
+    let say = move || {
+        crate::journal::flush();
+        let _ = std::io::stderr().write_all(line.as_bytes());
+        let _ = to.send(());
+    };
+    let _ = thread::Builder::new().stack_size(STACK_BYTES).spawn(say);
+    let _ = said.recv_timeout(TOLD);
+    std::process::abort()
+}
+
+#[cfg(test)]
+mod tests {
+    use super::*;
+    use rignolda::net::wire::{self, Expect, Hello, Message};
+    use std::io::Read;
+    use std::net::TcpListener;
+    use std::sync::atomic::AtomicU32;
+
+    fn failed() -> Round {
+        Round::Failed("nobody accepts".into())
+    }
+
+    #[test]
+    fn it_ends_after_a_minute_in_which_nothing_was_reached_and_at_once_where_anybody_is_answered() {
+        let begun = Instant::now();
+        let at = |seconds| begun + Duration::from_secs(seconds);
+        // what each look comes to, when, and whether it can be reached then, or ends
+        let rows: [&[(Round, u64, Option<bool>)]; 4] = [
+            &[
+                (failed(), 15, Some(false)),
+                (failed(), 30, Some(false)),
+                (failed(), 45, Some(false)),
+                (failed(), 59, Some(false)),
+                (failed(), 60, None),
+            ],
+            // (a process that was stopped for long has not looked meanwhile)
+            &[
+                (failed(), 900, Some(false)),
+                (failed(), 901, Some(false)),
+                (failed(), 902, Some(false)),
+                (failed(), 903, None),
+            ],
+            &[
+                (failed(), 30, Some(false)),
+                (failed(), 40, Some(false)),
+                (failed(), 50, Some(false)),
+                (Round::Unknown, 59, Some(true)),
+                (failed(), 70, Some(false)),
+                (Round::Reached(false), 80, Some(true)),
+                (Round::Reached(true), 90, Some(true)),
+                (failed(), 140, Some(false)),
+                (failed(), 150, Some(false)),
+                (failed(), 151, Some(false)),
+                (failed(), 152, None),
+            ],
+            &[(Round::Reached(true), 10, Some(true)), (Round::Open("open".into()), 20, None)],
+        ];
+        for row in rows {
+            let mut judge = Judge::new(begun);
+            for (round, seconds, expected) in row {
+                let heard = judge.hears(round, at(*seconds));
+                assert_eq!(heard.as_ref().ok(), expected.as_ref(), "{round:?} at {seconds}");
+                let is_open = matches!(round, Round::Open(_));
+                assert!(heard.is_ok() || is_open || heard.unwrap_err().ends_with("nobody accepts"));
+            }
+        }
+        let all = [Round::Reached(true), Round::Reached(false), Round::Unknown, failed()];
+        for (at, one) in all.iter().enumerate() {
+            for other in &all[..=at] {
+                assert_eq!(worse(one.clone(), other.clone()), *one);
+                assert_eq!(worse(other.clone(), one.clone()), *one);
+            }
+        }
+    }
+
+    /// Answers each look at it with a way of this cost; and how often.
+    fn parent(cost: u16, name: &'static str) -> (Address, Arc<AtomicU32>) {
+        let listener = TcpListener::bind("127.0.0.1:0").unwrap();
+        let address = Address::Tcp(listener.local_addr().unwrap().to_string());
+        let looks = Arc::new(AtomicU32::new(0));
+        let count = looks.clone();
+        thread::spawn(move || {
+            for line in listener.incoming() {
+                let (mut line, mut input, mut space) = (line.unwrap(), Vec::new(), [0; 99]);
+                let look = loop {
+                    let read = line.read(&mut space).unwrap();
+                    input.extend_from_slice(&space[..read]);
+                    if let Some(Message::Look(it)) = wire::take(&mut input, Expect::Hello).unwrap()
+                    {
+                        break it;
+                    }
+                };
+                let hello = Hello { from: name.into(), to: look.from.clone(), ..look };
+                let way = Way { cost, names: vec!["root".into(), name.into()] };
+                // (first it counts, since whoever looked goes on once it is answered)
+                count.fetch_add(1, Ordering::SeqCst);
+                line.write_all(&[hello.look(), wire::way(&way)].concat()).unwrap();
+            }
+        });
+        (address, looks)
+    }
+
+    /// After how many seconds it is to end, if parents answer as often as is said at each time.
+    fn ends(at: &(Address, Arc<AtomicU32>), name: &str, answers: fn(u64) -> u64) -> Option<u64> {
+        let maker = Maker::new(None, WITHIN).unwrap();
+        let reach = Reach::new("leaf", (None, &maker), None, Vec::new(), Own::default());
+        let (mut reach, begun) = (reach.unwrap(), Instant::now());
+        let parents =
+            [Parent { name: Some(name.into()), address: Some(at.0.clone()), price: None }];
+        (0..600).step_by(2).find(|seconds| {
+            let now = begun + Duration::from_secs(*seconds);
+            let was_sought = reach.sought.as_ref().map(|it| it.0);
+            let told = (false, answers(*seconds));
+            let misses = reach.misses(told, None, &parents, now);
+            // (here a look is over before the next second)
+            if let Some((at, found)) = &mut reach.sought {
+                if was_sought != Some(*at) {
+                    let (to, again) = mpsc::channel();
+                    let _ = to.send(found.recv().unwrap_or(false));
+                    *found = again;
+                }
+            }
+            misses
+        })
+    }
+
+    #[test]
+    fn who_has_no_parent_for_minutes_ends_if_one_answers_that_it_never_heard() {
+        let there = parent(1, "hub");
+        let alone = ends(&there, "hub", |_| 7);
+        assert_eq!(alone, Some(ALONE.as_secs() + ALONE_EVERY.as_secs() + 2));
+        assert_eq!(there.1.load(Ordering::SeqCst), 2);
+        // not if it is another one, or has no root itself; nor if the agent hears it, too: then it
+        // is the parent that does not take it
+        assert_eq!(ends(&there, "other", |_| 7), None);
+        assert_eq!(ends(&parent(NONE, "hub"), "hub", |_| 7), None);
+        assert_eq!(ends(&parent(1, "leaf"), "leaf", |_| 7), None);
+        assert_eq!(ends(&there, "hub", |seconds| seconds / 100), None);
+        let nobody = TcpListener::bind("127.0.0.1:0").unwrap().local_addr().unwrap().to_string();
+        let nobody = (Address::Tcp(nobody), Arc::default());
+        assert_eq!(ends(&nobody, "hub", |_| 7), None);
+    }
+}
