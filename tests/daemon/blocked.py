@@ -14,10 +14,13 @@ from runner import sure, test
 # Calls of the system that do something else while there is a file that is named for them: most of
 # them wait, and say so by another file.
 PRELOADED = r"""
+#include <errno.h>
 #include <fcntl.h>
 #include <stdio.h>
 #include <stdlib.h>
 #include <string.h>
+#include <sys/epoll.h>
+#include <sys/socket.h>
 #include <sys/syscall.h>
 #include <unistd.h>
 static int is_on(const char *call)
@@ -56,6 +59,16 @@ ssize_t write(int file, const void *bytes, size_t length)
     if (length == 4 && !memcmp(bytes, "blue", 4) && is_on("of_write"))
         bytes = "glue";         /* and the call says that all is well */
     return syscall(SYS_write, file, bytes, length);
+}
+int accept4(int listener, struct sockaddr *from, socklen_t *length, int flags)
+{
+    errno = EAGAIN;             /* and nobody is there, by what the call says */
+    return is_on("of_accept4") ? -1 : syscall(SYS_accept4, listener, from, length, flags);
+}
+int epoll_wait(int poll, struct epoll_event *events, int most, int timeout)
+{
+    waits("of_epoll_wait");     /* the loop hangs, and no other thread does */
+    return syscall(SYS_epoll_pwait, poll, events, most, timeout, NULL, 8);
 }
 """
 
@@ -182,14 +195,15 @@ def what_lies_where_a_socket_is_to_be_is_moved_aside_and_kept(tree, root):
             make(root.socket)
             was = os.lstat(root.socket)
             root.start()
+            kept = around / ("control.aside1" if is_own else "control")
             if is_own:
                 sure(until(root.status), kind, root.text())
-                root.kill()
             else:
                 sure(until(lambda: not root.alive()), kind, "it runs")
                 sure(root.process.returncode == 1, kind, root.process.returncode)
-            kept = around / ("control.aside1" if is_own else "control")
-            sure(root.said(str(kept)) == 1, kind, root.text())
+            # (the journal is written beside the answers)
+            sure(until(lambda: root.said(str(kept)) == 1), kind, root.text())
+            root.kill()
             sure(os.path.samestat(os.lstat(kept), was), kind, "is another one")
     sure((tree.home / "fileTrue/control.aside1").read_text() == "mine")
 

@@ -30,7 +30,7 @@ from runner import sure, test
 
 # (each of them tells its tests)
 for name in ("blocked", "floods", "groups", "hooks", "hostile", "memory_faults", "operating",
-             "packaging", "parents", "roots", "rounds", "store", "watching"):
+             "packaging", "parents", "reached", "roots", "rounds", "store", "watching"):
     importlib.import_module(name)
 
 

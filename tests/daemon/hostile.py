@@ -90,6 +90,39 @@ def what_a_child_reports_of_others_harms_nobody(tree, root, left, right, evil):
     tree.is_well()
 
 
+@of_tree({"left": "root", "evil": "left", "leaf": "left"}, patient, without=["evil"])
+def a_number_that_nobody_has_any_more_counts_no_more(tree, root, left):
+    """A root that publishes nothing goes above none, so each stays ahead as long as it counts."""
+    root.ask("drain")
+    number = left.status()["sequence"]
+    far = number + (1 << 40)
+
+    def says(child, number):
+        child.send(report([{"name": "evil", "connected": True, "sequence": number}]))
+
+    def counts(number):
+        for agent in left, root:
+            agent.becomes(ahead=number)
+    child = Child(left, "evil")
+    says(child, far)
+    counts(far)
+    says(child, number)
+    counts(number)
+    says(child, far)
+    counts(far)
+    child.close()
+    counts(number)
+    # (nor does that of an agent below it that is connected elsewhere, or nowhere)
+    child = Child(left, "evil")
+    child.send(report([{"name": "evil", "connected": True, "sequence": number},
+                       {"name": "far", "parent": "evil", "sequence": far, "ahead": far}]))
+    sure(until(lambda: any(it["name"] == "far" for it in root.ask("tree"))), root.ask("tree"))
+    counts(number)
+    child.close()
+    root.ask("resume")
+    tree.reaches("leaf")
+
+
 def fill(tree):
     """Large settings come to an honest child."""
     for at in range(15):
@@ -371,6 +404,31 @@ def untraced(tree):
     """As agents are that are not tried."""
     for agent in tree:
         agent.env = {}
+
+
+@of_tree({"left": "root", "evil": "left", "leaf": "left"}, patient, counted, untraced,
+         without=["evil"])
+def a_child_whose_reports_are_none_keeps_its_connection_and_is_counted(tree, root, left):
+    """What there is to watch cuts nobody off: each goes on to be sent what is published."""
+    child, sent = Child(left, "evil"), 0
+    kinds = b"[", b"\xff", b"", b'[{"name":"root"}]', b"[" * 10_000, b'[{"name":"evil\xff"}]'
+    with bounded(left, 32):
+        for sent in during(3):
+            child.send(report(kinds[sent % len(kinds)]))
+            if sent % 1_000 == 0:
+                tree.reaches("leaf")
+    count = lambda: left.status()["bad_reports"]
+    sure(until(lambda: count() > 20), "of", sent, "it counted", count())
+    sure(f"rignolda_bad_reports_total {count()}" in left.counts(), left.counts())
+    lines = left.said("report evil sent what is none")
+    sure(0 < lines < 40, "of", sent, "reports it wrote", lines, "lines")
+    sure(not child.closed.is_set() and not left.said("closed evil"), left.text()[-500:])
+    # (and one that is one is heard)
+    child.send(report([{"name": "evil", "strays": 77}]))
+    heard = lambda: any(it["strays"] == 77 for it in root.ask("tree"))
+    sure(until(heard), root.ask("tree"))
+    tree.reaches("leaf")
+    child.close()
 
 
 @of_tree({"left": "root", "evil": "root"}, patient, untraced, without=["evil"])

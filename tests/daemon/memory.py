@@ -16,11 +16,12 @@ def stands_still(process):
     return all(stat.rsplit(") ", 1)[1][0] in "Tt" for stat in stats)
 
 
-def writable(process):
-    """Where the mappings of a process begin and end that it may write, and what they are called."""
+def writable(process, rights="rw"):
+    """Where the mappings of a process begin and end that it may write, and what they are called; or
+    those of which it has other rights."""
     for line in pathlib.Path(f"/proc/{process}/maps").read_text().splitlines():
-        place, rights, *_, name = (line + " ").split(" ")[:2] + [line[73:].strip()]
-        if rights.startswith("rw"):
+        place, own, *_, name = (line + " ").split(" ")[:2] + [line[73:].strip()]
+        if own.startswith(rights):
             yield (*(int(word, 16) for word in place.split("-")), name)
 
 

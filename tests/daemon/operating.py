@@ -204,7 +204,7 @@ def who_is_refused_by_one_of_its_parents_says_so_to_the_root(tree, root, left, l
     why = "refused by root: it refuses this agent: its `children` do not name it"
     row = lambda: [line for line in root.run("tree").stdout.splitlines() if "leaf " in line]
     sure(until(lambda: why in row()[0]), row(), leaf.text()[-500:])
-    sure(leaf.said("its `children` do not name it") == 1, leaf.text())
+    sure(until(lambda: leaf.said("its `children` do not name it") == 1), leaf.text())
     root.ask("child", "add", "leaf")
     leaf.becomes(parent="root", refusals=[])
     sure(until(lambda: why not in row()[0]), row())
@@ -315,7 +315,7 @@ def what_somebody_else_did_to_files_is_counted_and_named(tree, root, _, leaf):
     (leaf.settings / "stranger").write_text("1")
     leaf.becomes(mended=3)
     tree.settles()
-    sure(leaf.said("mended "), leaf.text()[-500:])
+    sure(until(lambda: leaf.said("mended ")), leaf.text()[-500:])
     stays(0, 0, 3)
     sure("\nrignolda_mended_total 3\n" in leaf.counts(), leaf.counts())
     becomes(lambda: [it["mended"] for it in root.ask("tree")], [0, 0, 3])
@@ -566,7 +566,9 @@ def also_below(tree):
          root_has(round="1h"), also_below, without=["rack", "left"])
 def the_page_says_what_the_tree_is(tree, root, left, right, leaf):
     leaf.becomes(place=1)
-    root.ask("publish", "last", "1")
+    last = root.ask("publish", "last", "1")["sequence"]
+    have = lambda: {it["name"] for it in root.ask("tree") if it["applied"] >= last}
+    becomes(have, {"root", "right", "leaf"})
     tree.settles(root, tree["right"], leaf)
     child = Child(root, "rack")
     child.send(report(many(root, 296)))
@@ -589,7 +591,7 @@ def the_page_says_what_the_tree_is(tree, root, left, right, leaf):
     notes = lambda name: agents[name][2]
     sure("never heard of" in notes("left") and "parent 2" in notes("leaf"), notes("leaf"))
     sure("files differ" in notes("host-0004") and "1 failing" in notes("host-0003"))
-    sure(notes("right") == [""] and notes("host-0014") != [""], notes("host-0014"))
+    sure(notes("right") == [""] and notes("host-0014") != [""], notes("right"), notes("host-0014"))
     sure(any(it.startswith("away ") for it in notes("host-0031")), notes("host-0031"))
     # (what is asked for otherwise is none of it)
     sure(root.counts().startswith("# HELP") and root.page("/x")[0] == 404)

@@ -29,7 +29,7 @@ def who_has_another_parent_leaves_one_that_lost_the_root(tree, root, rack0, rack
     becomes(lambda: {it["name"]: it["parent"] for it in root.ask("tree")}["leaf"], "rack0")
     rack1.becomes(cost=128, way=["rack1"])
     # (who has moved says so, and holds nothing back at its old parent)
-    sure(rack1.said("closed leaf: it takes another parent"), rack1.text())
+    sure(until(lambda: rack1.said("closed leaf: it takes another parent")), rack1.text())
     sure(rack1.status()["children"][0]["left_behind"], rack1.status())
     # (and it is back where it was once that has the root again)
     root.ask("child", "add", "rack1")

@@ -5,9 +5,10 @@
     tests/daemon/planted.py --fits [NAME..]  whether each fits the code and names a test, at once
 
 A file has the lines `file:`, `old:`, `new:`, as the planted bugs of the crates, and `by:`, the test
-that finds it, and that the daemon passes as it is: one of check.py; of the library or the daemon's
-crate, as FILE::TEST; or a target of fuzz.py in two minutes, as fuzz::TARGET. The copy is built in
-PLANTED_TARGET, or in a folder beside other temporary files.
+that finds it, and that the daemon passes as it is: one of check.py; of the library or a crate of
+the daemon, as FILE::TEST, or CRATE/FILE::TEST in sources; or a target of fuzz.py in two minutes, as
+fuzz::TARGET. The copy is built in PLANTED_TARGET, or in a folder beside other temporary
+files.
 """
 import os
 import pathlib
@@ -42,7 +43,7 @@ class Edit:
         if file == "fuzz":
             is_there = name in fuzz.TARGETS
         elif file:
-            is_there = f"\nfn {name}()" in crate_of(file, rust)[1].read_text()
+            is_there = f"fn {name}()" in crate_of(file, rust)[1].read_text()
         else:
             is_there = name in {function.__name__ for function in TESTS}
         if times != 1 or not is_there:
@@ -51,11 +52,17 @@ class Edit:
 
 
 def crate_of(file, rust):
-    """What names the crate of a file of tests to cargo, and the file."""
+    """What names the tests of a file to cargo, the file, and what is before their names."""
     library = rust / f"rignolda/tests/{file}.rs"
     if library.exists():
-        return ["--manifest-path", "rignolda/Cargo.toml"], library
-    return ["-p", "rignoldad"], rust / f"rignoldad/tests/{file}.rs"
+        return ["--manifest-path", "rignolda/Cargo.toml", "--test", file], library, ""
+    for crate in "rignoldad", "rignolda_tls":
+        path = rust / crate / f"tests/{file}.rs"
+        if path.exists():
+            return ["-p", crate, "--test", file], path, ""
+    crate, _, file = file.partition("/")
+    named = ["--manifest-path", "rignolda/Cargo.toml"] if crate == "rignolda" else ["-p", crate]
+    return [*named, "--lib"], rust / crate / f"src/{file}.rs", file.replace("/", "::") + "::tests::"
 
 
 def fuzzed(name, rust):
@@ -82,13 +89,13 @@ def run(test, rust):
         return ran("cargo", *words, cwd=rust, env={
             **os.environ, "CARGO_TARGET_DIR": TARGET, "CARGO_PROFILE_DEV_DEBUG": "0"})
 
-    library = *crate_of(file, rust)[0], "--test", file
+    library, _, before = crate_of(file, rust)
     status, said = cargo(*(["test", "-q", "--no-run", *library] if file
                            else ["build", "-q", "-p", "rignoldad", "-p", "rignoldactl"]))
     if status:
         return None, said[-2000:]
     if file:
-        said = cargo("test", *library, name, "--", "--exact")[1]
+        said = cargo("test", *library, before + name, "--", "--exact")[1]
     else:
         of_copy = {**os.environ, "RIGNOLDAD_BIN": f"{TARGET}/debug"}
         said = ran(HERE / "check.py", test, env=of_copy)[1]

@@ -14,15 +14,16 @@ import itertools
 import pathlib
 import random
 import shutil
+import signal
 import struct
 import subprocess
 import tempfile
 import time
 
 from blocked import preload
-from daemons import (HOME, Tree, becomes, by_tls, chain, of_tree, root_has, until,
+from daemons import (HOME, Tree, becomes, by_tls, chain, during, of_tree, root_has, until,
                      very_patient)
-from memory import write_over
+from memory import stands_still, write_over
 from protocol import listener, look, take_hello
 from relay import between, turn
 from runner import sure, test
@@ -30,6 +31,8 @@ from runner import sure, test
 # The commit of the last release, and the digest of its daemon.
 LAST = ("3e41939f23d676da77edb332d6bf757c95fc7404",
         "6c4ff3723fcad4f52d7e57fe2a9e75f459f9ef8a7d48ab3219be2b037cfd0d90")
+# What somebody makes of a marker: by how much it is moved, or what it has; or it is gone.
+MOVED = (10**6, 2**40, 2**62, 2**63 - 1, 2**63, 2**63 + 1, "0", "1", str(2**64 - 1), "spoilt", None)
 # How many bytes the settings of a test have, and how many a round may come to, on each line.
 BULK, FEW = 1 << 18, 4_000
 
@@ -275,6 +278,45 @@ def a_wrong_number_in_a_marker_or_in_memory_is_healed_by_two_rounds():
             sure(write_over(agent.process.pid, wrong) > 0, agent.name)
             tree.write("colour", int(tree.truth()["colour"]) + 1)
             two_rounds(tree)
+
+
+@test
+def nothing_older_follows_where_a_memory_goes_back_and_the_disk_does_not():
+    """An agent is stopped, and its disk is that of a later time: it has all but the last change."""
+    with begun({"leaf": "root", "other": "root"}) as tree:
+        root, leaf, other = tree
+        leaf.signal(signal.SIGSTOP)
+        sure(until(lambda: stands_still(leaf.process.pid)))
+        numbers = {it: root.ask("publish", "colour", it)["sequence"] for it in range(2, 22)}
+        colour(other, 21)
+        (leaf.settings / ".rignolda").write_text(f"{numbers[20]:020}\n")
+        (leaf.settings / "colour").write_text("20")
+        with open(leaf.home / "applied", "a") as applied:
+            applied.write("20\n")
+        leaf.signal(signal.SIGCONT)
+        seen = {leaf.files().get("colour") for _ in during(1)}
+        sure(seen <= {b"20", b"21"}, seen)
+        leaf.says(f"numbers its files have change {numbers[20]}, and its memory is older")
+        two_rounds(tree)
+        sure(leaf.files()["colour"] == b"21" and not leaf.status()["mended"], leaf.status())
+        # (and it goes on)
+        for value in range(22, 30):
+            tree.publish("colour", value)
+
+
+@test
+def a_marker_that_is_changed_while_an_agent_runs_is_healed_by_two_rounds():
+    with begun({"middle": "root", "leaf": "middle"}) as tree:
+        for agent, by in itertools.product(tree, MOVED):
+            marker = agent.settings / ".rignolda"
+            if by is None:
+                marker.unlink()
+            else:
+                there = int(marker.read_text())
+                marker.write_text(by if isinstance(by, str) else str((there + by) % 2**64))
+            tree.write("colour", int(tree.truth()["colour"]) + 1)
+            two_rounds(tree)
+            becomes(lambda: int(marker.read_text()), number(agent), agent.name, by)
 
 
 @test(needs="cc")

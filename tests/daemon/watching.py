@@ -220,7 +220,7 @@ def two_agents_of_one_name_are_counted(tree, root, left):
     twin.name = "left"
     twin.start()
     sure(until(lambda: clashes()[0] > 2), clashes())
-    sure(clashes()[1] == 0 and root.said("clash left") == 1, clashes())
+    sure(clashes()[1] == 0 and until(lambda: root.said("clash left") == 1), clashes())
     # (and they do not connect without end)
     before, begun = root.said("connected left"), time.monotonic()
     time.sleep(2)

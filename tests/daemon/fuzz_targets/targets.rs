@@ -179,6 +179,10 @@ fn passed_on(reports: &[&[u8]], now: Instant) {
     assert!(report.len() <= REPORT_BYTES);
     assert!(Below::default().heard("inner", &report, now));
     let list = below.tree(&status, now);
+    // (what is kept of who is away is the same)
+    below.learns([("child", false)].into_iter());
+    below.keeps(now);
+    assert_eq!(below.tree(&status, now), list);
     let text = tree_text(&list) + &bounds_text(&list);
     assert!(text.contains("child"));
 }
@@ -340,9 +344,9 @@ impl Handler for Shell {
         matches!(body.meaning(), Some((_, Meaning::Table(_))))
     }
 
-    fn on_report(&mut self, child: &str, report: &[u8], now: Instant) -> bool {
+    fn on_report(&mut self, child: &str, report: &[u8], now: Instant) {
         assert!(CHILDREN.iter().any(|(name, _)| *name == child));
-        self.0.heard(child, report, now)
+        self.0.heard(child, report, now);
     }
 
     fn on_gone(&mut self, child: &str) {
@@ -395,6 +399,9 @@ fn agent(bytes: &[u8]) {
             7 => {
                 now += Duration::from_millis(u64::from(*length) * 10);
                 assert_eq!(peers.check(false, now, to), Ok(()));
+                let children = peers.relay().children();
+                to.0.learns(children.map(|(name, link)| (&**name, link.is_connected())));
+                to.0.keeps(now);
             }
             6 => {
                 let key = KEYS[usize::from(first / 8) % KEYS.len()];
