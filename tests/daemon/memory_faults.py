@@ -357,8 +357,10 @@ class Trials:
     def says_right(self):
         """Whether `tree` shows all agents, that are up, each below a parent of its own."""
         seen = self.tree.root.request(2, do="tree").get("tree", [])
-        # (numbers of bodies are on a circle)
+        # (a link that was struck may hold up what the root publishes, and its backlog says so;
+        # numbers of bodies are on a circle)
         is_up = all(it["connected"] and it["whole"] and not it["failing"] and not it["draining"]
+                    and it["backlog"] <= 1
                     and not 0 < (seen[0]["changed"] - it["applied"]) % 2**64 < 2**63
                     and it["compared"] == "same" for it in seen)
         below = {it["name"]: it["parent"] for it in seen}
@@ -480,9 +482,6 @@ class Trials:
 
     def tree_of(self, kind, number):
         """In a tree of which kind a fault is tried."""
-        if kind in EACH:
-            # (as many places in their turn, in trees where nobody moves)
-            return "plain"
         kinds = [of for of in self.trees if kind != "tls" or by_tls in self.trees[of]]
         return random.Random(f"{self.seed} {kind} {number} tree").choice(kinds)
 
