@@ -2,23 +2,28 @@
  * The calls of rignolda.h as `static inline` functions: a program that defines RIGNOLDA_INLINE
  * before it includes rignolda.h needs no archive.
  *
- * tools/inline_header.py made this file from what clang is given for the archive, which the
- * compiler of Rattle makes of the proved crate stab_c. No proof covers the translation; the gate
- * makes it anew, and compares each call with that of the archive, bit by bit. Do not edit it.
+ * They are written by hand, in plain C99 that C++ reads as well, so no proof covers them: each call
+ * says in a few rules what the proved one of the archive does, from each bit pattern of a struct.
+ * The gate makes both calls on structs with drawn bits, and compares what they answer and each byte
+ * that lies there then (tests/library/both.c).
  */
 
 static inline uint8_t rignolda_params_check(const rignolda_params *params)
 {
-    const uint16_t capacity = params->capacity;
-    const uint16_t labels = params->labels;
-    if ((uint16_t)(capacity - 65) < 65472u) {
-        return 1;
-    }
-    if (labels < ((uint16_t)(((uint16_t)((uint32_t)capacity << 1)) + 2))) {
-        return 2;
-    }
-    return (uint8_t)((labels > 1000) ? 3 : 0);
+    if (params->capacity < 1 || params->capacity > 64)
+        return RIGNOLDA_CAPACITY_OUT_OF_RANGE;
+    if (params->labels < 2 * params->capacity + 2)
+        return RIGNOLDA_LABELS_TOO_FEW;
+    return params->labels > 1000 ? RIGNOLDA_LABELS_TOO_MANY : RIGNOLDA_LAWFUL;
 }
+
+/* A count with one more: it stops at its greatest number. */
+static inline uint64_t rignolda_inline_one_more(uint64_t count)
+{
+    return count < UINT64_MAX ? count + 1 : count;
+}
+
+/* The ends of a link. */
 
 static inline void rignolda_sender_init(rignolda_sender *sender, uint16_t label)
 {
@@ -30,12 +35,8 @@ static inline void rignolda_sender_init(rignolda_sender *sender, uint16_t label)
 
 static inline bool rignolda_sender_offer(rignolda_sender *sender, uint32_t item)
 {
-    if (sender->closed != 0) {
+    if (sender->closed || sender->holding)
         return false;
-    }
-    if (sender->holding != 0) {
-        return false;
-    }
     sender->item = item;
     sender->holding = 1;
     return true;
@@ -43,15 +44,10 @@ static inline bool rignolda_sender_offer(rignolda_sender *sender, uint32_t item)
 
 static inline bool rignolda_sender_frame(const rignolda_sender *sender, rignolda_frame *frame)
 {
-    if (sender->closed != 0) {
+    if (sender->closed || !sender->holding)
         return false;
-    }
-    if (sender->holding == 0) {
-        return false;
-    }
-    const uint16_t label = sender->label;
     frame->item = sender->item;
-    frame->label = label;
+    frame->label = sender->label;
     frame->unused = 0;
     return true;
 }
@@ -59,18 +55,10 @@ static inline bool rignolda_sender_frame(const rignolda_sender *sender, rignolda
 static inline bool rignolda_sender_on_ack(rignolda_sender *sender, const rignolda_params *params,
                                           uint16_t label)
 {
-    const uint16_t capacity = params->capacity;
-    const uint16_t labels = params->labels;
-    if ((uint16_t)(capacity - 65) < 65472u) {
+    if (rignolda_params_check(params) != RIGNOLDA_LAWFUL || sender->closed || !sender->holding ||
+        sender->label != label)
         return false;
-    }
-    if ((labels > 1000) || (labels < ((uint16_t)(((uint16_t)((uint32_t)capacity << 1)) + 2)))) {
-        return false;
-    }
-    if (!((label == sender->label) && ((sender->holding != 0) && (sender->closed == 0)))) {
-        return false;
-    }
-    sender->label = (uint16_t)((label < (uint16_t)(labels - 1)) ? (uint16_t)(label + 1) : 0);
+    sender->label = (uint16_t)(label + 1 < params->labels ? label + 1 : 0);
     sender->holding = 0;
     return true;
 }
@@ -89,32 +77,25 @@ static inline void rignolda_receiver_init(rignolda_receiver *receiver, uint16_t 
 static inline bool rignolda_receiver_is_fresh(const rignolda_receiver *receiver,
                                               const rignolda_frame *frame)
 {
-    return (frame->label != receiver->label) && (receiver->closed == 0);
+    return !receiver->closed && receiver->label != frame->label;
 }
 
 static inline bool rignolda_receiver_on_frame(rignolda_receiver *receiver,
                                               const rignolda_frame *frame, uint32_t *item)
 {
-    if (receiver->closed != 0) {
+    if (!rignolda_receiver_is_fresh(receiver, frame))
         return false;
-    }
-    const uint16_t label = frame->label;
-    if (label == receiver->label) {
-        return false;
-    }
     *item = frame->item;
-    receiver->label = label;
+    receiver->label = frame->label;
     return true;
 }
 
 static inline bool rignolda_receiver_ack(const rignolda_receiver *receiver, uint16_t *label)
 {
-    const bool holds = receiver->closed == 0;
-    if (!holds) {
-        return holds;
-    }
+    if (receiver->closed)
+        return false;
     *label = receiver->label;
-    return holds;
+    return true;
 }
 
 static inline void rignolda_receiver_close(rignolda_receiver *receiver)
@@ -122,21 +103,55 @@ static inline void rignolda_receiver_close(rignolda_receiver *receiver)
     receiver->closed = 1;
 }
 
+/* A node. Any counts mean something: nothing is kept where more is forgotten than there is, and no
+ * more is kept than the buffer has places. */
+
 static inline void rignolda_node_init(rignolda_node *node, uint16_t label, uint64_t opening)
 {
-    node->above.label = label;
-    node->above.closed = 0;
+    rignolda_receiver_init(&node->above, label);
     node->length = opening;
     node->forgotten = 0;
     node->old_frames = 0;
 }
 
+/* The first place of the list that a node keeps: its end at most. */
+static inline uint64_t rignolda_inline_first(const rignolda_node *node, size_t size)
+{
+    const uint64_t first = node->length > size ? node->length - size : 0;
+    const uint64_t forgotten = node->forgotten < node->length ? node->forgotten : node->length;
+    return forgotten > first ? forgotten : first;
+}
+
+static inline bool rignolda_node_publish(rignolda_node *node, uint32_t *list, size_t size,
+                                         uint32_t item)
+{
+    const uint64_t length = node->length;
+    const uint64_t kept = length > node->forgotten ? length - node->forgotten : 0;
+    if (kept >= size || length == UINT64_MAX)
+        return false;
+    list[length % size] = item;
+    node->length = length + 1;
+    return true;
+}
+
+static inline bool rignolda_node_on_frame(rignolda_node *node, uint32_t *list, size_t size,
+                                          const rignolda_frame *frame)
+{
+    if (node->above.closed)
+        return false;
+    if (frame->label == node->above.label) {
+        node->old_frames = rignolda_inline_one_more(node->old_frames);
+        return false;
+    }
+    if (!rignolda_node_publish(node, list, size, frame->item))
+        return false;
+    node->above.label = frame->label;
+    return true;
+}
+
 static inline void rignolda_child_init(rignolda_child *child, uint16_t label)
 {
-    child->sender.item = 0;
-    child->sender.label = label;
-    child->sender.holding = 0;
-    child->sender.closed = 0;
+    rignolda_sender_init(&child->sender, label);
     child->offered = 0;
     child->acknowledged = 0;
     child->ignored = 0;
@@ -145,197 +160,65 @@ static inline void rignolda_child_init(rignolda_child *child, uint16_t label)
 static inline bool rignolda_child_init_at(rignolda_child *child, const rignolda_node *node,
                                           size_t size, uint16_t label, uint64_t place)
 {
-    const uint64_t forgotten = node->forgotten;
-    const uint64_t length = node->length;
-    const uint64_t value = length < forgotten ? length : forgotten;
-    const uint64_t value_2 = length > size ? length - size : 0;
-    const bool holds = (place <= length) && ((value_2 > value ? value_2 : value) <= place);
-    if (!holds) {
-        return holds;
-    }
-    child->sender.item = 0;
-    child->sender.label = label;
-    child->sender.holding = 0;
-    child->sender.closed = 0;
-    child->offered = 0;
-    child->acknowledged = 0;
-    child->ignored = 0;
+    if (place < rignolda_inline_first(node, size) || place > node->length)
+        return false;
+    rignolda_child_init(child, label);
     child->offered = place;
-    return holds;
-}
-
-static inline bool rignolda_node_publish(rignolda_node *node, uint32_t *list, size_t size,
-                                         uint32_t item)
-{
-    const uint64_t length = node->length;
-    const uint64_t forgotten = node->forgotten;
-    if (size > (length - forgotten)) {
-        if (length == UINT64_MAX) {
-            return false;
-        }
-    } else {
-        if ((size == 0) || (forgotten <= length)) {
-            return false;
-        }
-    }
-    uint64_t value;
-    node->length = length + 1;
-    if ((size & (size - 1)) == 0) {
-        value = length & ((uint64_t)size - 1);
-    } else {
-        value = length % size;
-    }
-    list[value] = item;
-    return true;
-}
-
-static inline bool rignolda_node_on_frame(rignolda_node *node, uint32_t *list, size_t size,
-                                          const rignolda_frame *frame)
-{
-    if (node->above.closed != 0) {
-        return false;
-    }
-    const uint16_t label = frame->label;
-    if (label == node->above.label) {
-        const uint64_t value = node->old_frames + 1;
-        if (value == 0) {
-            return false;
-        }
-        node->old_frames = value;
-        return false;
-    }
-    const uint32_t item = frame->item;
-    const uint64_t length = node->length;
-    const uint64_t forgotten = node->forgotten;
-    if (size > (length - forgotten)) {
-        if (length == UINT64_MAX) {
-            return false;
-        }
-    } else {
-        if ((size == 0) || (forgotten <= length)) {
-            return false;
-        }
-    }
-    uint64_t value_2;
-    node->length = length + 1;
-    if ((size & (size - 1)) == 0) {
-        value_2 = length & ((uint64_t)size - 1);
-    } else {
-        value_2 = length % size;
-    }
-    list[value_2] = item;
-    node->above.label = label;
     return true;
 }
 
 static inline bool rignolda_node_poll(const rignolda_node *node, rignolda_child *child,
                                       const uint32_t *list, size_t size, rignolda_frame *frame)
 {
-    if (child->sender.closed != 0) {
-        return false;
-    }
-    uint32_t value;
-    if (child->sender.holding == 0) {
-        const uint64_t offered = child->offered;
-        if (offered < node->forgotten) {
-            return false;
-        }
-        const uint64_t length = node->length;
-        if ((length <= offered) || (size < (length - offered))) {
-            return false;
-        }
-        uint64_t value_2;
-        if ((size & (size - 1)) == 0) {
-            value_2 = offered & ((uint64_t)size - 1);
-        } else {
-            value_2 = offered % size;
-        }
-        const uint32_t item = list[value_2];
-        child->sender.item = item;
-        child->sender.holding = 1;
+    const uint64_t offered = child->offered;
+    const bool is_next_kept = offered >= node->forgotten && offered < node->length &&
+                              node->length - offered <= size;
+    if (is_next_kept && rignolda_sender_offer(&child->sender, list[offered % size]))
         child->offered = offered + 1;
-        value = item;
-    } else {
-        value = child->sender.item;
-    }
-    const uint16_t label = child->sender.label;
-    frame->item = value;
-    frame->label = label;
-    frame->unused = 0;
-    return true;
+    return rignolda_sender_frame(&child->sender, frame);
 }
 
 static inline bool rignolda_child_on_ack(rignolda_child *child, const rignolda_params *params,
                                          uint16_t label)
 {
-    const uint16_t capacity = params->capacity;
-    const uint16_t labels = params->labels;
-    if ((uint16_t)(capacity - 65) >= 65472u) {
-        if (!((labels > 1000)
-            || (labels < ((uint16_t)(((uint16_t)((uint32_t)capacity << 1)) + 2))))) {
-            if ((label == child->sender.label) && ((child->sender.holding != 0)
-                && (child->sender.closed == 0))) {
-                child->sender.label = (uint16_t)((label < (uint16_t)(labels - 1))
-                    ? (uint16_t)(label + 1) : 0);
-                child->sender.holding = 0;
-                const uint64_t value = child->acknowledged + 1;
-                if (value == 0) {
-                    return true;
-                }
-                child->acknowledged = value;
-                return true;
-            }
-        }
+    if (rignolda_sender_on_ack(&child->sender, params, label)) {
+        child->acknowledged = rignolda_inline_one_more(child->acknowledged);
+        return true;
     }
-    const uint64_t value_2 = child->ignored + 1;
-    if (value_2 == 0) {
-        return false;
-    }
-    child->ignored = value_2;
+    child->ignored = rignolda_inline_one_more(child->ignored);
     return false;
 }
 
-static inline uint64_t rignolda_child_needs(const rignolda_node *node,
-                                            const rignolda_child *child, uint64_t place)
+static inline uint64_t rignolda_child_needs(const rignolda_node *node, const rignolda_child *child,
+                                            uint64_t place)
 {
     const uint64_t offered = child->offered;
-    return (offered < node->forgotten) ? place : (offered < place ? offered : place);
+    return offered >= node->forgotten && offered < place ? offered : place;
 }
 
 static inline void rignolda_node_forget(rignolda_node *node, uint64_t place)
 {
-    const uint64_t forgotten = node->forgotten;
-    const uint64_t value = place > forgotten ? place : forgotten;
-    const uint64_t length = node->length;
-    node->forgotten = length < value ? length : value;
+    const uint64_t forgotten = place > node->forgotten ? place : node->forgotten;
+    node->forgotten = forgotten < node->length ? forgotten : node->length;
 }
 
-static inline bool rignolda_node_left_behind(const rignolda_node *node,
-                                             const rignolda_child *child, size_t size)
+static inline bool rignolda_node_left_behind(const rignolda_node *node, const rignolda_child *child,
+                                             size_t size)
 {
-    const uint64_t offered = child->offered;
-    const uint64_t forgotten = node->forgotten;
-    const uint64_t length = node->length;
-    const uint64_t value = length < forgotten ? length : forgotten;
-    const uint64_t value_2 = length > size ? length - size : 0;
-    return (offered > length) || ((value_2 > value ? value_2 : value) > offered);
+    return child->offered < rignolda_inline_first(node, size) || child->offered > node->length;
 }
 
-static inline uint64_t rignolda_node_backlog(const rignolda_node *node,
-                                             const rignolda_child *child, size_t size)
+static inline uint64_t rignolda_node_backlog(const rignolda_node *node, const rignolda_child *child,
+                                             size_t size)
 {
-    const uint64_t offered = child->offered;
-    const uint64_t forgotten = node->forgotten;
-    const uint64_t length = node->length;
-    const uint64_t value = length < forgotten ? length : forgotten;
-    const uint64_t value_2 = length > size ? length - size : 0;
-    if ((offered > length) || ((value_2 > value ? value_2 : value) > offered)) {
+    if (rignolda_node_left_behind(node, child, size))
         return UINT64_MAX;
-    }
-    const uint64_t value_3 = (uint64_t)(child->sender.holding != 0);
-    const uint64_t value_4 = length - offered;
-    return value_3 > UINT64_MAX - value_4 ? UINT64_MAX : value_3 + value_4;
+    const uint64_t backlog = node->length - child->offered;
+    return child->sender.holding ? rignolda_inline_one_more(backlog) : backlog;
 }
+
+/* Sessions: the end that accepted a connection has the first turn, and then whoever was sent a
+ * message. A message counts by the connection alone that the end has. */
 
 static inline void rignolda_session_init(rignolda_session *session)
 {
@@ -344,76 +227,82 @@ static inline void rignolda_session_init(rignolda_session *session)
     session->turn = 0;
 }
 
+/* A connection begins, and the end has this turn. Its number is 0, and there is none, where no
+ * number is left. */
+static inline uint64_t rignolda_inline_begins(rignolda_session *session, uint32_t turn)
+{
+    const bool is_left = session->number < UINT64_MAX;
+    session->number = rignolda_inline_one_more(session->number);
+    session->there = is_left;
+    session->turn = is_left ? turn : 0;
+    return is_left ? session->number : 0;
+}
+
 static inline uint64_t rignolda_session_made(rignolda_session *session)
 {
-    session->there = 0;
-    session->turn = 0;
-    const uint64_t number = session->number;
-    if (number == UINT64_MAX) {
-        return 0;
-    }
-    const uint64_t value = number + 1;
-    session->number = value;
-    session->there = 1;
-    return value;
+    return rignolda_inline_begins(session, 0);
 }
 
 static inline uint64_t rignolda_session_accepted(rignolda_session *session)
 {
-    session->there = 0;
-    session->turn = 0;
-    const uint64_t number = session->number;
-    if (number == UINT64_MAX) {
-        return 0;
-    }
-    const uint64_t value = number + 1;
-    session->number = value;
-    session->there = 1;
-    session->turn = 1;
-    return value;
+    return rignolda_inline_begins(session, 1);
 }
 
 static inline bool rignolda_session_has(const rignolda_session *session, uint64_t number)
 {
-    if (session->there == 0) {
-        return false;
-    }
-    return number == session->number;
+    return session->there && session->number == number;
 }
 
 static inline bool rignolda_session_ended(rignolda_session *session, uint64_t number)
 {
-    if (session->there == 0) {
+    if (!rignolda_session_has(session, number))
         return false;
-    }
-    if (number != session->number) {
-        return false;
-    }
     session->there = 0;
     session->turn = 0;
     return true;
 }
 
+static inline bool rignolda_inline_may_send(const rignolda_session *session)
+{
+    return session->there && session->turn;
+}
+
+/* A message is sent, or is not: after one the turn is with the other end. */
+static inline bool rignolda_inline_sent(rignolda_session *session, bool is_sent)
+{
+    if (is_sent)
+        session->turn = 0;
+    return is_sent;
+}
+
 static inline bool rignolda_session_send(const rignolda_sender *sender, rignolda_session *session,
                                          rignolda_frame *frame)
 {
-    if (session->there == 0) {
+    return rignolda_inline_may_send(session) &&
+           rignolda_inline_sent(session, rignolda_sender_frame(sender, frame));
+}
+
+static inline bool rignolda_session_ack(const rignolda_receiver *receiver,
+                                        rignolda_session *session, uint16_t *label)
+{
+    return rignolda_inline_may_send(session) &&
+           rignolda_inline_sent(session, rignolda_receiver_ack(receiver, label));
+}
+
+static inline bool rignolda_session_poll(const rignolda_node *node, rignolda_child *child,
+                                         rignolda_session *session, const uint32_t *list,
+                                         size_t size, rignolda_frame *frame)
+{
+    return rignolda_inline_may_send(session) &&
+           rignolda_inline_sent(session, rignolda_node_poll(node, child, list, size, frame));
+}
+
+/* A message came by this connection: whether it counts, which gives this end the turn. */
+static inline bool rignolda_inline_came(rignolda_session *session, uint64_t number)
+{
+    if (!rignolda_session_has(session, number))
         return false;
-    }
-    if (session->turn == 0) {
-        return false;
-    }
-    if (sender->closed != 0) {
-        return false;
-    }
-    if (sender->holding == 0) {
-        return false;
-    }
-    const uint16_t label = sender->label;
-    frame->item = sender->item;
-    frame->label = label;
-    frame->unused = 0;
-    session->turn = 0;
+    session->turn = 1;
     return true;
 }
 
@@ -421,236 +310,64 @@ static inline bool rignolda_session_on_ack(rignolda_sender *sender, rignolda_ses
                                            const rignolda_params *params, uint64_t number,
                                            uint16_t label)
 {
-    if (session->there == 0) {
-        return false;
-    }
-    if (number != session->number) {
-        return false;
-    }
-    session->turn = 1;
-    const uint16_t capacity = params->capacity;
-    const uint16_t labels = params->labels;
-    if ((uint16_t)(capacity - 65) < 65472u) {
-        return false;
-    }
-    if ((labels > 1000) || (labels < ((uint16_t)(((uint16_t)((uint32_t)capacity << 1)) + 2)))) {
-        return false;
-    }
-    if (!((label == sender->label) && ((sender->holding != 0) && (sender->closed == 0)))) {
-        return false;
-    }
-    sender->label = (uint16_t)((label < (uint16_t)(labels - 1)) ? (uint16_t)(label + 1) : 0);
-    sender->holding = 0;
-    return true;
-}
-
-static inline bool rignolda_session_on_frame(rignolda_receiver *receiver,
-                                             rignolda_session *session, uint64_t number,
-                                             const rignolda_frame *frame, uint32_t *item)
-{
-    if (session->there == 0) {
-        return false;
-    }
-    if (number != session->number) {
-        return false;
-    }
-    session->turn = 1;
-    if (receiver->closed != 0) {
-        return false;
-    }
-    const uint16_t label = frame->label;
-    if (label == receiver->label) {
-        return false;
-    }
-    *item = frame->item;
-    receiver->label = label;
-    return true;
-}
-
-static inline bool rignolda_session_ack(const rignolda_receiver *receiver,
-                                        rignolda_session *session, uint16_t *label)
-{
-    if (session->there == 0) {
-        return false;
-    }
-    if (session->turn == 0) {
-        return false;
-    }
-    if (receiver->closed != 0) {
-        return false;
-    }
-    *label = receiver->label;
-    session->turn = 0;
-    return true;
-}
-
-static inline bool rignolda_session_poll(const rignolda_node *node, rignolda_child *child,
-                                         rignolda_session *session, const uint32_t *list,
-                                         size_t size, rignolda_frame *frame)
-{
-    if (session->there == 0) {
-        return false;
-    }
-    if (session->turn == 0) {
-        return false;
-    }
-    if (child->sender.closed != 0) {
-        return false;
-    }
-    uint32_t value;
-    if (child->sender.holding == 0) {
-        const uint64_t offered = child->offered;
-        if (offered < node->forgotten) {
-            return false;
-        }
-        const uint64_t length = node->length;
-        if ((length <= offered) || (size < (length - offered))) {
-            return false;
-        }
-        uint64_t value_2;
-        if ((size & (size - 1)) == 0) {
-            value_2 = offered & ((uint64_t)size - 1);
-        } else {
-            value_2 = offered % size;
-        }
-        const uint32_t item = list[value_2];
-        child->sender.item = item;
-        child->sender.holding = 1;
-        child->offered = offered + 1;
-        value = item;
-    } else {
-        value = child->sender.item;
-    }
-    const uint16_t label = child->sender.label;
-    frame->item = value;
-    frame->label = label;
-    frame->unused = 0;
-    session->turn = 0;
-    return true;
+    return rignolda_inline_came(session, number) && rignolda_sender_on_ack(sender, params, label);
 }
 
 static inline bool rignolda_session_child_on_ack(rignolda_child *child, rignolda_session *session,
                                                  const rignolda_params *params, uint64_t number,
                                                  uint16_t label)
 {
-    if (session->there == 0) {
-        return false;
-    }
-    if (number != session->number) {
-        return false;
-    }
-    session->turn = 1;
-    const uint16_t capacity = params->capacity;
-    const uint16_t labels = params->labels;
-    if ((uint16_t)(capacity - 65) >= 65472u) {
-        if (!((labels > 1000)
-            || (labels < ((uint16_t)(((uint16_t)((uint32_t)capacity << 1)) + 2))))) {
-            if ((label == child->sender.label) && ((child->sender.holding != 0)
-                && (child->sender.closed == 0))) {
-                child->sender.label = (uint16_t)((label < (uint16_t)(labels - 1))
-                    ? (uint16_t)(label + 1) : 0);
-                child->sender.holding = 0;
-                const uint64_t value = child->acknowledged + 1;
-                if (value == 0) {
-                    return true;
-                }
-                child->acknowledged = value;
-                return true;
-            }
-        }
-    }
-    const uint64_t value_2 = child->ignored + 1;
-    if (value_2 == 0) {
-        return false;
-    }
-    child->ignored = value_2;
-    return false;
+    return rignolda_inline_came(session, number) && rignolda_child_on_ack(child, params, label);
 }
 
+static inline bool rignolda_session_on_frame(rignolda_receiver *receiver, rignolda_session *session,
+                                             uint64_t number, const rignolda_frame *frame,
+                                             uint32_t *item)
+{
+    return rignolda_inline_came(session, number) &&
+           rignolda_receiver_on_frame(receiver, frame, item);
+}
+
+/* (a fresh frame for which a node has no room is as if it had not come) */
 static inline bool rignolda_session_node_on_frame(rignolda_node *node, rignolda_session *session,
                                                   uint64_t number, uint32_t *list, size_t size,
                                                   const rignolda_frame *frame)
 {
-    if (session->there == 0) {
+    if (!rignolda_session_has(session, number))
         return false;
-    }
-    if (number != session->number) {
-        return false;
-    }
-    bool holds;
-    const uint16_t label = node->above.label;
-    if (node->above.closed == 0) {
-        const uint16_t label_2 = frame->label;
-        if (label_2 == label) {
-            const uint64_t value = node->old_frames + 1;
-            if (value == 0) {
-                holds = false;
-            } else {
-                node->old_frames = value;
-                if (frame->label != label) {
-                    return false;
-                }
-                holds = false;
-            }
-        } else {
-            const uint32_t item = frame->item;
-            const uint64_t length = node->length;
-            const uint64_t forgotten = node->forgotten;
-            if (size > (length - forgotten)) {
-                if (length == UINT64_MAX) {
-                    return false;
-                }
-            } else {
-                if ((size == 0) || (forgotten <= length)) {
-                    return false;
-                }
-            }
-            uint64_t value_2;
-            node->length = length + 1;
-            if ((size & (size - 1)) == 0) {
-                value_2 = length & ((uint64_t)size - 1);
-            } else {
-                value_2 = length % size;
-            }
-            list[value_2] = item;
-            node->above.label = label_2;
-            holds = true;
-        }
-    } else {
-        holds = false;
-    }
-    session->turn = 1;
-    return holds;
+    const bool is_fresh = rignolda_receiver_is_fresh(&node->above, frame);
+    const bool is_taken = rignolda_node_on_frame(node, list, size, frame);
+    if (is_taken || !is_fresh)
+        session->turn = 1;
+    return is_taken;
 }
+
+/* Words of registers: 1, then a label, and of a frame its item. */
 
 static inline uint64_t rignolda_word_of_frame(const rignolda_frame *frame)
 {
-    return (((uint64_t)frame->label << 32) | (uint64_t)frame->item) | 281474976710656u;
+    return (uint64_t)1 << 48 | (uint64_t)frame->label << 32 | frame->item;
 }
 
 static inline bool rignolda_word_frame(uint64_t word, rignolda_frame *frame)
 {
-    const bool holds = (word & 18446462598732840960u) == 281474976710656u;
-    if (!holds) {
-        return holds;
-    }
+    if (word >> 48 != 1)
+        return false;
     frame->item = (uint32_t)word;
     frame->label = (uint16_t)(word >> 32);
     frame->unused = 0;
-    return holds;
+    return true;
 }
 
 static inline uint64_t rignolda_word_of_label(uint16_t label)
 {
-    return (uint64_t)label | 65536u;
+    return (uint64_t)1 << 16 | label;
 }
 
 static inline bool rignolda_word_label(uint64_t word, uint16_t *label)
 {
-    const bool holds = (word & 18446744073709486080u) == 65536u;
-    if (!holds) {
-        return holds;
-    }
+    if (word >> 16 != 1)
+        return false;
     *label = (uint16_t)word;
-    return holds;
+    return true;
 }

@@ -55,15 +55,15 @@ def tries_rows(cases, files):
 
 
 def tries_library(cases, room, before):
-    """Compares each call of the archive with the inline one, and with a plain one, and replays the
-    drawn runs of the examples."""
+    """Compares each call of the archive with the inline one, and replays the drawn runs of the
+    examples."""
     library, home = static.musl("aarch64"), debian.unpacked("arm64", NUMBERS)
     if not library or not home:
         print(f"the library for arm64 is NOT TRIED: it needs Debian's musl-dev and {NUMBERS}")
         return
     # (what a program prints with printf needs numbers that the processor has not)
     archives = [f"{RELEASE}/librignolda.a", *home.glob("usr/lib/gcc/*/*/libgcc.a")]
-    for name in "inline", "plain", "link":
+    for name in "inline", "link":
         sources = [TOP / f"tests/library/{it}.c" for it in ["both"] * (name != "link") + [name]]
         cases.holds(f"arm64: {name} builds", static.builds(
             library, "aarch64", room / name, sources, "-I", TOP / "include", last=archives))

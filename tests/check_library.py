@@ -3,8 +3,7 @@
 
   tests/check_library.py             with each of gcc, clang and cargo that is there, and with
                                      sanitizers: some minutes
-  tests/check_library.py --gate      with the kit's compiler alone, and the inline form made anew:
-                                     two minutes
+  tests/check_library.py --gate      with the kit's compiler alone: two minutes
 
 LIBRARY and INCLUDE in the environment name another archive and the folder of its header. The last
 line is 'N passed, M failed'.
@@ -80,13 +79,12 @@ class Library(Cases):
                        status == 1 and said.startswith("broken: "), said)
 
     def in_both(self, name, rounds, words):
-        """Compares each call of the archive with the inline one, which so does what the archive is
-        seen to do, and with what plain C says."""
-        for form in "inline", "plain":
-            made = self.room / form
-            self.works(f"{name}: {form} calls build", words[0], "tests/library/both.c",
-                       f"tests/library/{form}.c", *words[1:], "-o", made)
-            self.works(f"{name}: each call does what the {form} one does", made, *rounds.split())
+        """Compares each call of the archive with the inline one, which is by hand: each says what
+        the other has to do."""
+        made = self.room / "both"
+        self.works(f"{name}: both forms build", words[0], "tests/library/both.c",
+                   "tests/library/inline.c", *words[1:], "-o", made)
+        self.works(f"{name}: each call does what the inline one does", made, *rounds.split())
 
     def has_same(self, name, declared, there):
         """Counts whether two lists of calls are the same."""
@@ -156,7 +154,6 @@ class Library(Cases):
         self.in_c("the kit", "20000", 300, [*words, self.archive])
         self.in_both("the kit", "100000 1", [*words, self.archive])
         self.has_all_calls()
-        self.works("the inline calls are those of the archive", "tools/inline_header.py", "--check")
         self.by_python()
         for name, part in ("librignolda.a", ""), ("librignolda_settings.a", "-settings"):
             for machine, folder in ("x86_64", ""), ("aarch64", "arm64/"):

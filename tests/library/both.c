@@ -2,12 +2,11 @@
  *
  *     both ROUNDS SEED [all]
  *
- * It is linked with the archive and with inline.c, or with plain.c, which says in plain C what each
- * call has to do. In a round all that a call may look at is drawn, and each call is made in either
- * form: what it returns has to be the same, and so has each byte that lies there then. Each object
- * lies at the end of a page before one that may not be read. At the end each call that can refuse
- * has to have done both. All parameters are tried as well, and with the word `all` every label, with
- * many values of the flags, and some with every value.
+ * It is linked with the archive and with inline.c. In a round all that a call may look at is drawn,
+ * and each call is made in either form: what it returns has to be the same, and so has each byte
+ * that lies there then. Each object lies at the end of a page before one that may not be read. At
+ * the end each call that can refuse has to have done both. All parameters are tried as well, and
+ * with the word `all` every label, with many values of the flags, and some with every value.
  */
 #include "calls.h"
 #include "draw.h"

@@ -1,10 +1,8 @@
-/* Every call of the library, on all that a call may look at or write. The calls of the archive, the
- * inline ones and the plain ones are made by the same text. */
+/* Every call of the library, on all that a call may look at or write. The calls of the archive and
+ * the inline ones are made by the same text. */
 #include "rignolda.h"
 
-#ifndef CALL
 #define CALL(name) rignolda_##name
-#endif
 #ifndef MAKE_CALL
 #define MAKE_CALL linked
 #endif
