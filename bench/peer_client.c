@@ -17,9 +17,9 @@
  *
  * KIND is mqtt, nats, jetstream, redis or stream; numbers are also published by the KIND folder,
  * where PORT is a folder whose files are the settings, and root, where it is the control socket of
- * a root. The value of a setting is a number in PEER_DIGITS digits, and its key is k and the number
- * modulo PEER_KEYS: 16 and 100 where they are not set, and at most 48 and 1000. PEER_TLS names a
- * folder with an authority, a client's certificate, and its key.
+ * a root. The value of a setting is a number in 16 digits, and its key is k and the number modulo
+ * PEER_KEYS: 100 where that is not set, and at most 1000. PEER_TLS names a folder with an
+ * authority, a client's certificate, and its key.
  */
 #define _GNU_SOURCE
 #include <err.h>
@@ -44,7 +44,7 @@
 #include <time.h>
 #include <unistd.h>
 
-enum { MOST = 1000, MOST_DIGITS = 48, WINDOW = 500 };
+enum { MOST = 1000, DIGITS = 16, WINDOW = 500 };
 
 /* What bench/peers reads: all numbers are little-endian, as the machine has them. */
 struct notes {
@@ -57,7 +57,7 @@ struct notes {
 };
 
 static struct notes *notes;
-static int keys = 100, digits = 16, folder = -1;
+static int keys = 100, folder = -1;
 
 static int64_t now(void)
 {
@@ -109,10 +109,10 @@ static void put_file(int key, const char *value, size_t length)
 
 static void note(const char *text, size_t length)
 {
-    char whole[MOST_DIGITS + 1] = "";
+    char whole[DIGITS + 1] = "";
     char *end;
-    if (length != (size_t)digits) return;
-    memcpy(whole, text, digits);
+    if (length != DIGITS) return;
+    memcpy(whole, text, DIGITS);
     int64_t number = strtoll(whole, &end, 10);
     if (*end || number < 0) return;
     if (folder >= 0) put_file(number % keys, text, length);
@@ -124,7 +124,7 @@ static void note(const char *text, size_t length)
 /* The numbers to publish: from the command line, or line by line. */
 static struct { int64_t first, next, end, until; int each; } numbers;
 /* The name of a setting, its value, and how long that is. */
-static char name[32], value[MOST_DIGITS + 1];
+static char name[32], value[DIGITS + 1];
 static int length;
 
 static void print(int64_t number)
@@ -144,7 +144,7 @@ static int has_next(const char *form)
     if (numbers.each) number = strtoll(line, NULL, 10);
     else numbers.next++;
     snprintf(name, sizeof name, form, (int)(number % keys));
-    length = snprintf(value, sizeof value, "%0*lld", digits, (long long)number);
+    length = snprintf(value, sizeof value, "%0*lld", DIGITS, (long long)number);
     if (numbers.each || number == numbers.first) print(now());
     return 1;
 }
@@ -486,7 +486,7 @@ static void folder_publish(const char *path)
 /* Asks a root for the next change, or closes the connection where there is none. */
 static int ask(int to)
 {
-    char hex[2 * MOST_DIGITS + 1] = "";
+    char hex[2 * DIGITS + 1] = "";
     if (!has_next("k%d")) return close(to), -1;
     for (int at = 0; at < length; at++) sprintf(hex + 2 * at, "%02x", value[at]);
     dprintf(to, "{\"do\":\"publish\",\"key\":\"%s\",\"value\":\"%s\"}\n", name, hex);
@@ -538,7 +538,6 @@ int main(int count, char **words)
         err(1, "%s", words[2]);
     }
     if (getenv("PEER_KEYS")) keys = atoi(getenv("PEER_KEYS"));
-    if (getenv("PEER_DIGITS")) digits = atoi(getenv("PEER_DIGITS"));
     if (is(what, "follow") && count > 4) {
         open_notes(words[2]);
         follow(words[3], words + 4);
