@@ -66,7 +66,7 @@ class Library(Cases):
                        "-o", to)
         self.has_none(f"{name}: the drawn runs", runs(at["link"]))
         self.has_none(f"{name}: {jobs} drawn links", drawn(at["link"], jobs))
-        self.works(f"{name}: a million steps over connections", at["sessions"], "1000000", "1")
+        self.works(f"{name}: ends over connections that do what they may", at["sessions"])
         self.works(f"{name}: items arrive from all bits", at["arrives"], rounds, "1")
         for word in ROWS:
             status, said = ran(at["arrives"], "1000", "1", "without", word)
@@ -74,7 +74,7 @@ class Library(Cases):
                        status == 1 and not said.endswith(" after 0 of them items do not arrive\n"),
                        said)
         for word in "maker-begins", "handles-left", "keeps-one":
-            status, said = ran(at["sessions"], "1000000", "1", word)
+            status, said = ran(at["sessions"], word)
             self.holds(f"{name}: ends that do what they may not ({word})",
                        status == 1 and said.startswith("broken: "), said)
 

@@ -1,2 +1,0 @@
-#pragma once
-#define htonl(number) __builtin_bswap32(number)

@@ -1,2 +1,0 @@
-#pragma once
-#define TCP_NODELAY 1
