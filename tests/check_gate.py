@@ -3,6 +3,7 @@
 tests/try_edits.py with one in the place of the prover: nothing is proved, and nothing of this
 repository is touched. The last line is 'N passed, M failed'.
 """
+import gzip
 import os
 import re
 import sys
@@ -175,7 +176,7 @@ table=(
 )
 read_table() { :; }
 find_sources() { :; }
-find_built() { built=$WORK/released; [ -e "$built" ]; }""")
+is_released() { release=$WORK/released; [ -e "$release" ]; }""")
 STEPS = """
 has() { for _ in $(seq 200); do grep -q "$1" "$WORK/begun" && return; sleep 0.05; done; }
 sleep 0.3; cp "$WORK/begun" "$WORK/at_first"
@@ -202,7 +203,8 @@ holds("then what needs nothing of it, and what is over a crate, in the time that
       beside == NEED_NOTHING)
 holds("and after it what runs the programs, and planted bugs over what it has not proved",
       after == sorted([*beside, "high late", "over late", "run late"]))
-house.write(house.work / "released")
+for it in "stab", "rignolda":
+    house.write(house.work / f"released/{it}.gz").write_bytes(gzip.compress(b""))
 _, beside, after = begun(STEPS.replace("has apart", "has apart; has run"))
 holds("but beside it where they are there before, and not what looks at those that it has built", (
     beside, after) == ([*NEED_NOTHING, "run beside"], sorted([*beside, "high late", "over late"])))

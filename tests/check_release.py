@@ -125,6 +125,11 @@ checked("without a release the check fails", 0, WHOLE, MANIFEST, SOURCES, BESIDE
 holds("and says what to do", "run ./release.sh and commit" in house.ended.out)
 refused("nor is there an archive", "there is no release: run ./release.sh first", "--archive")
 released("a release is built where nothing was", 1)
+holds("it says how far it is", "stab_cli is proved: 2 of 2 crates" in house.ended.err)
+holds("what it builds is what is needed", house.read("files").split() == [
+    "./HANDLES", "./crates.txt", *(f"./crates/{it}" for it in (
+        "low/data/job.json", "low/data/runs/a.json", "low/src/lib.rt", "stab_cli/src/main.rt"))
+] and house.read("lines") == "low:\nstab_cli: low\n")
 lines = manifest.read_text().splitlines()
 holds("and is one", sorted(it.name for it in release.iterdir()) == ["MANIFEST", "stab.gz"]
       and gzip.decompress((release / "stab.gz").read_bytes()) == program.read_bytes()
@@ -138,10 +143,32 @@ holds("whose program can be placed anywhere, needs nothing, and has its object's
           f"--build-id=0x{digest(program)}")))
 keep()
 write("release/notes", "more\n")
-released("a second one takes what was built", 0)
-holds("and is the same, with no file more", same(work / "release", release))
+released("a second one is made by what rt has proved before", 1)
+holds("and is the same, with no file more", house.read("calls") == "ci\n"
+      and same(work / "release", release))
 released("with --prove everything is built again", 1, "--prove")
-holds("and the same again", same(work / "release", release))
+holds("from nothing, whatever rt has proved before, and the same again",
+      house.read("calls") == "ci --anew\n" and same(work / "release", release))
+run("--prove", KEEPS="")
+holds("to a kit that always does so, and knows no such word, none is said",
+      house.read("calls") == "ci\n")
+for number, status in ("TERM", 143), ("INT", 130), ("HUP", 129):
+    with having({program: "slow\n"}):
+        ended = house.interrupted(number, top / "release.sh", TMPDIR=str(house.temporary))
+    holds(f"it ends at the signal {number}, with all that it started",
+          ended.status == status and "interrupted" in ended.err and house.read("ended")
+          and house.left_nothing() and same(work / "release", release))
+for name, text, what in (
+        ("what cannot be linked is not released", "the program was not built", {"NOT_LINKED": "1"}),
+        ("what changes during a build is not released", "the sources have changed during the build",
+         {"files": {program: "changes\n"}})):
+    refused(name, text, "--prove", **what)
+    holds("and the release stays", same(work / "release", release))
+(work / "no_kit").mkdir()
+for tool in "bash dirname env find python3 readlink sha256sum sort uname xargs".split():
+    (work / "no_kit" / tool).symlink_to(shutil.which(tool))
+refused("without rt there is no release", "the command rt of the Rattle kit is needed",
+        PATH=str(work / "no_kit"))
 checked("before the gate has built the program the check fails", 5, EQUAL)
 write(made, "proved 1\n")
 checked("a release that is the program that was built passes", 6)
@@ -260,7 +287,7 @@ for file, crate in zip(FILES, ("stab_c", "rignolda_settings_c", "stab_page")):
     holds(f"a library or a module lies there as it is ({file})", filecmp.cmp(
         release / file, top / f"crates/{crate}/src/lib.rt", shallow=False))
 keep()
-released("a second one takes what was built", 0)
+released("a second one is built", 1)
 holds("and is the same", same(work / "release", release))
 write(made, "proved 1\n")
 checked("where rt ci has run, the library and the module are made and compared", 16)

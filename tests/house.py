@@ -28,9 +28,7 @@ do_as() {
             sleep 600 &
             echo started >"$WORK/started"
             wait ;;
-        *waits*) until [ -e "$WORK/go on" ]; do sleep 0.05; done ;;
         *changes*) sed -i s/changes/after/ "$WORK/a house/crates/stab_cli/src/main.rt" ;;
-        *rewrites*) echo "'" >"$WORK/a house/stab" ;;
     esac
 }
 

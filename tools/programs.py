@@ -19,20 +19,19 @@ BUILT = {
     "stab": "crates/stab_cli/out/stab_cli.by-rattle",
 }
 
-# Prints the program for this machine that was built of these sources, or the file of release/ where
-# that one was. A second word names another machine.
+# Prints the file of release/ that is the program for this machine, where that was made of these
+# sources. A second word names another machine.
 LOOK = """. "$0/tools/launch"; speaker=tests; name=${2-$part}$1; read_table "$name"; find_sources
-if find_built "$name"; then printf '%s' "${built[$name]}"
-elif is_released "$name"; then printf '%s' "$release/$name.gz"; fi"""
+! is_released "$name" || printf '%s' "$release/$name.gz" """
 
 
 def kept(room, name, *machine):
-    """The program of this name that is in out/ or in release/ and was made of these sources, or
-    None: for this machine, or for one of `arm64/`."""
+    """The program of this name that is in release/ and was made of these sources, or None: for
+    this machine, or for one of `arm64/`."""
     words = ["bash", "-c", LOOK, TOP, name, *machine]
     known = subprocess.run(words, capture_output=True, text=True).stdout
-    if not known.endswith(".gz"):
-        return Path(known) if known else None
+    if not known:
+        return None
     unpacked = Path(room) / name
     unpacked.write_bytes(gzip.decompress(Path(known).read_bytes()))
     unpacked.chmod(0o755)
@@ -52,13 +51,12 @@ def program(name, room):
     return built if built.is_file() else None
 
 
+MISSING = "none was built of these sources: run ./release.sh, or ./gate"
+
+
 def built(name, room):
-    """The same; where there is none, its launcher builds it."""
-    file = program(name, room)
-    if file is None:
-        subprocess.run([TOP / name], stdin=subprocess.DEVNULL, stdout=subprocess.DEVNULL)
-        file = program(name, room)
-    return str(file or sys.exit(f"./{name} does not run: what it said is above"))
+    """The same; the script ends where there is none."""
+    return str(program(name, room) or sys.exit(f"{name}: {MISSING}"))
 
 
 def run_with(do, *names):
@@ -67,7 +65,7 @@ def run_with(do, *names):
         files = {name: program(name, room) for name in names}
         missing = [name for name in names if files[name] is None]
         if missing:
-            print(f"{missing[0]}: none was built of these sources: run ./release.sh, or ./gate")
+            print(f"{missing[0]}: {MISSING}")
             return sum_up([False])
         return do(*files.values())
 

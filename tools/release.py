@@ -1,8 +1,8 @@
 #!/usr/bin/env -S python3 -B
-"""Builds what release/ has, and makes the release. ./release.sh and the launchers start it.
+"""Builds what release/ has, and makes the release. ./release.sh starts it.
 
     tools/release.py            makes the files of release/ from the present sources. It takes what
-                                was proved and built of them here, and has the rest built now.
+                                rt ci has passed before on this machine, where the kit keeps that.
     tools/release.py --prove    the same, with all of it proved and built from nothing
     tools/release.py --after-ci
                                 the same, of what rt ci has just proved and built here, as
@@ -16,8 +16,6 @@
                                 file in out/, and its programs as a package for Debian, where
                                 dpkg-deb is here. Both are the same, byte for byte, whoever packs
                                 them, and out/SHA256SUMS has their digests.
-    tools/release.py --run NAME MODE WHY WORD..
-                                builds a program for its launcher, and becomes it
 
 What release/ has is in the table of tools/launch; a program is compressed. The file MANIFEST has
 the line of the kit, and a line for each of these files: its name, the digest of what it holds,
@@ -26,10 +24,9 @@ the C library that is inside a program, or the compiler that gave the same bytes
 A program is linked by tools/static.py, of the object of which rt ci has linked its own; where there
 is no such C library here, or another one, --check compares that object. The programs of the daemon
 are made by tools/build_daemon --keep; --check sees that they and their sources are those of their
-lines. What was built is kept in out/, under names with its digest, that of its sources and the kit,
-and a build takes what rt ci has passed before on this machine, where it need not begin from
-nothing and the kit keeps that. Where RELEASE_COMPILED names a file, this is the list of what was
-compiled in this run of the gate, which is not compiled once more. It needs Python 3.8.
+lines. What is compiled for arm64 takes minutes, and is kept beside a note of its sources and the
+kit. Where RELEASE_COMPILED names a file, this is the list of what was compiled in this run of the
+gate, which is not compiled once more. It needs Python 3.8.
 """
 import contextlib
 import fcntl
@@ -37,7 +34,6 @@ import functools
 import os
 import re
 import shutil
-import signal
 import subprocess
 import sys
 import tempfile
@@ -58,26 +54,14 @@ RELEASE, KEPT = TOP / "release", TOP / "out"
 LOG = KEPT / "build.log"
 COMPILED = os.environ.get("RELEASE_COMPILED", "")
 DAEMON = TOP / "tools/build_daemon"
-# A build during which the sources change is made again, at most so often.
-MAX_BUILDS = 3
 WASM = "wasm64-unknown-unknown"
 # The artefacts for arm64 have names that begin so; the others are for x86-64, or for a page.
 ARM64 = "arm64/"
-# In the place of clang: keeps the module that it is given, and then becomes clang.
-KEEPER = """#!/bin/sh
-for word; do
-    case $word in *.bc) cp -- "$word" '{module}' || exit 1 ;; esac
-done
-exec '{clang}' "$@"
-"""
 # The bytes of a module's stack: the lists of all links of a tree are on it, and copies of them.
 STACK = "16777216"
-# What a program names that the C library of the system loads.
-LOADER = b"/lib64/ld-linux-x86-64.so.2\0"
 
-# What release/ has: its kind, its crate, the digest of its sources, the beginning of the name of
-# what is built of them, and the file that was built, or an empty text.
-Artefact = namedtuple("Artefact", "kind crate sources kept_as built")
+# What release/ has: its kind, its crate, and the digest of its sources.
+Artefact = namedtuple("Artefact", "kind crate sources")
 
 
 def processor_of(name):
@@ -103,9 +87,10 @@ def output(*words, **options):
 class Release(Commands):
     """The release and the present sources, and what runs."""
 
-    def __init__(self, speaker, *names):
+    def __init__(self):
         super().__init__()
-        self.speaker, self.names, self.room, self.fresh = speaker, names, None, {}
+        # What was built, by its names.
+        self.room, self.fresh = None, {}
         # The digests of the objects of which programs were linked, by their names.
         self.objects = {}
         self.look()
@@ -115,7 +100,7 @@ class Release(Commands):
                        if (TOP / "rust/rignoldad").is_dir()]
 
     def say(self, text):
-        print(f"{self.speaker}: {text}", file=sys.stderr, flush=True)
+        print(f"release: {text}", file=sys.stderr, flush=True)
 
     def fail(self, text):
         self.say(text)
@@ -123,8 +108,7 @@ class Release(Commands):
 
     def look(self):
         self.artefacts, self.released = {}, {}
-        ask = '. "$1/tools/launch"; tell "${@:2}"'
-        said = subprocess.run(["bash", "-c", ask, "bash", TOP, self.speaker, *self.names],
+        said = subprocess.run(["bash", "-c", '. "$0/tools/launch"; tell', TOP],
                               stdout=subprocess.PIPE, text=True)
         if said.returncode:
             sys.exit(said.returncode)
@@ -177,31 +161,18 @@ class Release(Commands):
         with open(LOG, "a", encoding="utf-8") as log:
             return self.end(self.start(words, folder, stdout=log)) == 0
 
-    def take_lock(self):
-        """Waits until no other script builds here. The lock ends with this process."""
-        self.lock = open(KEPT / "lock", "a", encoding="utf-8")
-        try:
-            fcntl.flock(self.lock, fcntl.LOCK_EX | fcntl.LOCK_NB)
-        except BlockingIOError:
-            self.say("another build runs here: waiting for it")
-            fcntl.flock(self.lock, fcntl.LOCK_EX)
-            self.look()
-
-    def compile(self, tree, crate, source, to, *words, tools=None):
+    def compile(self, tree, crate, source, to, *words):
         """Has the compiler prove and compile a crate over what rt ci has left of the libraries
         below it: the first file, the file to make, and what else the compiler is to be told."""
         # (beside rt ci no processor is free for a second job)
         jobs = "1" if COMPILED else "2"
-        whole = [*compiler("build", crate, source, tree), "--jobs", jobs, "-o", str(to), *words]
-        if tools:
-            whole[whole.index("--toolchain") + 1] = tools
-        return self.does(whole, f"{tree}/crates/{crate}")
+        return self.does([*compiler("build", crate, source, tree), "--jobs", jobs, "-o", str(to),
+                          *words], f"{tree}/crates/{crate}")
 
     def compile_own(self, tree, name):
         """Compiles an artefact that rt ci makes no file of, where that was not done yet: an archive
         for C, that of a module, or the object of a program for arm64. Answers its file, or None.
-        The proofs of a crate are kept beside it, for its next artefact; and so is, of an archive,
-        the module in LLVM's language that clang was given."""
+        The proofs of a crate are kept beside it, for its next artefact."""
         kind, crate = self.artefacts[name][:2]
         out = tree / f"crates/{crate}/out"
         to = out / (name.replace("/", "-") + {"program": ".o", "library": "", "module": ".a"}[kind])
@@ -210,36 +181,28 @@ class Release(Commands):
         if kind != "program":
             words += ["--crate-type", "staticlib"]
         source = "src/main.rt" if kind == "program" else "src/lib.rt"
-        # (of these sources, in this file)
-        line, module = f"{self.artefacts[name].sources} {to}", Path(f"{to}.bc")
+        # (of these sources, by this kit, in this file)
+        line, note = f"{self.artefacts[name].sources} {self.kit} {to}", Path(f"{to}.of")
         for it in KEPT, out:
             it.mkdir(mode=0o755, exist_ok=True)
-        with open(out / "compiled.lock", "a", encoding="utf-8") as lock, \
-                tempfile.TemporaryDirectory() as room:
+        with open(out / "compiled.lock", "a", encoding="utf-8") as lock:
             fcntl.flock(lock, fcntl.LOCK_EX)
-            if line in read(COMPILED).splitlines():
+            if line in read(COMPILED).splitlines() or to.is_file() and read(note) == (
+                    f"{line} {digest_of(to.read_bytes())}"):
                 return to
             if any((tree / f"crates/{it}/out/rlib/stamp").is_file()
                    for it in below(crate, listed())[:-1]):
                 self.fail("checks have left other libraries here than rt ci does: run ./gate")
-            for it in to, module:
+            for it in to, note:
                 it.unlink(missing_ok=True)
-            tools = self.keeps(module, Path(room)) if kind == "library" else None
-            if not self.compile(tree, crate, source, to, *words, tools=tools) or not to.is_file():
+            if not self.compile(tree, crate, source, to, *words) or not to.is_file():
                 return None
             if COMPILED:
                 with open(COMPILED, "a", encoding="utf-8") as them:
                     them.write(f"{line}\n")
+            if name.startswith(ARM64):
+                note.write_text(f"{line} {digest_of(to.read_bytes())}")
         return to
-
-    def keeps(self, module, room):
-        """A folder with the tools of the kit, in which clang keeps what it is given."""
-        tools, clang = room / "toolchain", f"{kit()}/toolchain/bin/clang"
-        shutil.copytree(f"{kit()}/toolchain", tools, copy_function=os.symlink)
-        (tools / "bin/clang").unlink()
-        (tools / "bin/clang").write_text(KEEPER.format(module=module, clang=clang))
-        (tools / "bin/clang").chmod(0o755)
-        return str(tools)
 
     def link(self, target, made, *files, options=()):
         """Has the linker of the kit make a file for this target, and answers whether it does."""
@@ -303,15 +266,8 @@ class Release(Commands):
             self.fail(f"the release has nothing of a crate {crate}")
         for name, it in self.artefacts.items():
             if it.crate == crate and (it.kind != "program" or name.startswith(ARM64)):
-                cases.holds(f"{name} is compiled", self.is_kept(name)
-                            or self.compile_own(TOP, name), f"see {LOG}")
+                cases.holds(f"{name} is compiled", self.compile_own(TOP, name), f"see {LOG}")
         return cases.sum_up()
-
-    def is_kept(self, name):
-        """Whether the file of the release was built here before of these sources, which counts for
-        arm64, where that takes minutes."""
-        kept = name.startswith(ARM64) and self.artefacts[name].built
-        return bool(kept) and Path(kept).read_bytes() == self.contents(name)[0]
 
     def build_in_copy(self, is_anew):
         """Proves and builds the artefacts, as the gate does, in a copy of the sources: each crate
@@ -354,89 +310,26 @@ class Release(Commands):
                 time.sleep(0.1)
         self.room = None
 
-    def keep_fresh(self):
-        """Keeps what was built in out/, under names with digests, and removes what was built there
-        before. A file comes there whole or not at all, and at no time as one that somebody else may
-        write to."""
-        for name, data in self.fresh.items():
-            built = self.artefacts[name].kept_as + digest_of(data)
-            fresh = KEPT / f"new-{name.replace('/', '-')}"
-            fresh.unlink(missing_ok=True)
-            with open(os.open(fresh, os.O_WRONLY | os.O_CREAT | os.O_EXCL, 0o700), "wb") as to:
-                to.write(data)
-                os.fchmod(to.fileno(), 0o755)
-            try:
-                os.rename(fresh, built)
-            except OSError:
-                self.fail(f"{name} cannot be kept as {built}")
-            for other in KEPT.glob(f"{name.replace('/', '-')}-*"):
-                if str(other) != built and re.search("-[0-9a-f]{64}$", other.name):
-                    other.unlink()
-            self.artefacts[name] = self.artefacts[name]._replace(built=built)
-
     def begin(self):
-        """Makes the folder of what is kept, if there is none, with an empty log. Answers whether
-        what lies there can only be of this user or of root."""
-        is_own = subprocess.call(["bash", "-c", '. "$0/tools/launch"; make_kept', TOP]) == 0
-        if is_own and not COMPILED:
+        """Makes the folder of what is written on the way, if there is none, with an empty log."""
+        KEPT.mkdir(mode=0o755, exist_ok=True)
+        if not COMPILED:
             LOG.write_text("")
-        return is_own
 
-    def build(self, why, is_anew):
+    def build(self, is_anew):
         """Proves and builds the artefacts. With `is_anew` this begins from nothing; else it takes
-        what was built before, and what rt ci has passed."""
+        what rt ci has passed before."""
         if not shutil.which("rt"):
-            self.fail(f"{why}: the command rt of the Rattle kit is needed to prove and build the "
-                      "program")
-        if not self.begin():
-            self.fail(f"{why}, and nothing is built in {KEPT}:\n    it is not a folder of this "
-                      "user to which nobody else may write; delete it")
-        self.take_lock()
-        for count in range(MAX_BUILDS):
-            if not is_anew and all(it.built for it in self.artefacts.values()):
-                return
-            self.say("the sources have changed during the build: building again" if count else
-                     f"{why}: proving and building {' '.join(self.artefacts)}"
-                     f"{' from nothing' * is_anew}, which takes up to half an hour")
-            self.fresh, before = {}, self.sources()
-            if not self.build_in_copy(is_anew):
-                self.fail(f"the program was not built, and what rt said is in {LOG}")
-            self.look()
-            if self.sources() == before:
-                self.keep_fresh()
-                return
-        self.fail("the program was not built: the sources keep changing")
-
-    def compare(self, name):
-        """Says how a program that was built from nothing compares with that of the release."""
-        digest, sources = self.released.get(name, ("", ""))[:2]
-        if self.why or not digest:
-            self.say(f"nothing was compared: {self.why or f'the release has no {name}'}")
-        elif sources != self.artefacts[name].sources:
-            self.say("nothing was compared: the release was made from other sources")
-        elif self.artefacts[name].built.endswith(digest):
-            self.say("the release is the same program, byte for byte"
-                     if digest_of(self.contents(name)[0]) == digest else
-                     f"MANIFEST names the same program, but {name}.gz beside it is ANOTHER one")
-        elif self.is_of_another_library(name):
-            self.say("nothing was compared: in the release is another C library than here")
-        elif self.released_by != self.kit:
-            self.say("the release is ANOTHER program of these sources; it was built by "
-                     f"{self.released_by}")
-        else:
-            self.say("the release is ANOTHER program than these sources give, which runs now")
-
-    def become(self, name, mode, why, *words):
-        """Builds a program for its launcher, and starts it in the place of this script."""
-        self.build(why, mode == "prove")
-        if mode == "prove":
-            self.compare(name)
-        built = self.artefacts[name].built
-        with contextlib.suppress(OSError):
-            os.utime(built)
-        for it in (signal.SIGPIPE, signal.SIGXFSZ):
-            signal.signal(it, signal.SIG_DFL)
-        os.execv(built, [name, *words])
+            self.fail("the command rt of the Rattle kit is needed for a release")
+        self.begin()
+        self.say(f"proving and building {' '.join(self.artefacts)}{' from nothing' * is_anew}, "
+                 "which takes up to half an hour")
+        before = self.sources()
+        if not self.build_in_copy(is_anew):
+            self.fail(f"the program was not built, and what rt said is in {LOG}")
+        self.look()
+        if self.sources() != before:
+            self.fail("the sources have changed during the build: run ./release.sh again")
 
     # How it is released.
 
@@ -459,24 +352,20 @@ class Release(Commands):
                 shutil.copy(RELEASE / name, to / f"{processor_of(name)}-linux{part}.a")
 
     def make(self, is_anew):
-        """Makes the files of release/, which are built first if that was not done yet."""
+        """Makes the files of release/, which are built first where that was not just done."""
         for name, it in self.artefacts.items():
             if it.kind == "program" and not library_for(name):
                 self.fail("for a release Debian's package musl-dev is needed for "
                           f"{static.DEBIAN[processor_of(name)]}")
-        if is_anew or not all(it.built for it in self.artefacts.values()):
-            self.build("a release is to be made", is_anew)
-        if not self.kit:
-            self.fail("the command rt of the Rattle kit is needed for a release")
+        if not self.fresh:
+            self.build(is_anew)
         files, lines = {}, [f"kit {self.kit}"]
         for name, it in self.artefacts.items():
-            data = Path(it.built).read_bytes()
-            if LOADER in data:
-                self.fail(f"{name} was built where there was no musl-dev: run ./release.sh --prove")
+            data = self.fresh[name]
             files[self.file(name)] = (output("gzip", "-9n", input=data) if it.kind == "program"
                                       else data)
             own = f" and {library_for(name).name}" if it.kind == "program" else ""
-            lines.append(f"{name} sha256 {it.built[-64:]} sources {it.sources} compared with "
+            lines.append(f"{name} sha256 {digest_of(data)} sources {it.sources} compared with "
                          f"{self.kit}{own}")
         for name in self.daemon:
             if not self.why and name in self.released:
@@ -518,7 +407,6 @@ class Release(Commands):
             if made:
                 self.fresh[name] = made.read_bytes()
         if not cases.failed:
-            self.keep_fresh()
             self.make(False)
         return cases.sum_up()
 
@@ -550,8 +438,7 @@ class Release(Commands):
             if name in self.daemon:
                 continue
             data = self.contents(name)[0]
-            made = (Path(self.artefacts[name].built) if self.is_kept(name) else
-                    self.make_after_ci(TOP, name))
+            made = self.make_after_ci(TOP, name)
             what, is_same = "the file is", bool(made) and data == made.read_bytes()
             if name in self.objects and self.is_of_another_library(name):
                 what = "the object in the file is"
@@ -681,20 +568,13 @@ def main(words):
     does = {(): lambda it: it.make(False), ("--prove",): lambda it: it.make(True),
             ("--after-ci",): Release.make_over_ci, ("--check",): Release.check,
             ("--archive",): Release.archive}.get(tuple(words))
-    runs = words[:1] == ["--run"] and len(words) > 3
-    if runs:
-        does = lambda it: it.become(*words[1:])
-    elif words[:1] == ["--compile"] and len(words) == 2:
+    if words[:1] == ["--compile"] and len(words) == 2:
         does = lambda it: it.compile_of(words[1])
     if not does:
         sys.stderr.write("release: it takes one of --prove, --after-ci, --check, --compile CRATE "
                          "and --archive, or nothing\n")
         return 2
-    return do(Release(words[1], words[1]) if runs else Release("release"), does)
-
-
-def do(release, does):
-    """Does something with the release, and says what stopped it."""
+    release = Release()
     try:
         return does(release)
     except Interrupted:
