@@ -39,9 +39,6 @@ def of_sources(cases):
                         "--all-targets", "--", "-D", "warnings", cwd=at)
         if shutil.which("cargo-fmt"):
             cases.works(f"the form, {name}", "cargo", "fmt", *words, "--check", cwd=at)
-    rows, kept = ran("tests/daemon/publisher.py"), Path("rust/rignolda/tests/publisher.txt")
-    cases.holds("the rows of a root are those of a program by itself",
-                kept.is_file() and rows == (0, kept.read_text()))
     long = [f"{file}: {line}" for part in SOURCES for file in Path("rust", part).glob("*.rs")
             for line in file.read_text().splitlines() if len(line) > 100]
     cases.holds("no line is longer than 100 characters", not long, "\n".join(long))

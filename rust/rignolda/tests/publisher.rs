@@ -156,7 +156,12 @@ fn step(publisher: &mut Publisher, step: &str) -> Option<String> {
     None
 }
 
-/// The rows are worked out by `tests/daemon/publisher.py`, which knows nothing of this library.
+/// The rows were worked out once by a program that knew nothing of this library. A row is a line of
+/// steps and a line of the bodies that they publish, each its kind, number and checksum. Steps:
+/// `a=7` sets the key a, `a*900` sets it to so many letters x, `a-` unsets it, `all=5000` sets so
+/// many keys, `round3` begins a round with three harmless bodies, `hold` and `go` hold tables back
+/// or no more, `above9` goes on above 9, or a quarter of all numbers nearer to it, and `?8` asks for
+/// a body where eight may follow a table.
 #[test]
 fn it_publishes_what_another_program_does() {
     let lines: Vec<&str> = include_str!("publisher.txt").lines().collect();
