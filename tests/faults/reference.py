@@ -117,17 +117,3 @@ def reading_round(capacity):
     """Each end takes all that can be queued before it sends."""
     return (['offer'] + ['recv_frame'] * capacity + ['send_frame', 'recv_frame']
             + ['recv_ack'] * capacity + ['send_ack', 'recv_ack'])
-
-def random_tree(rng):
-    parents, links = [None], [None]
-    for node in range(1, rng.randint(2, 5)):
-        capacity = rng.randint(1, 2)
-        parents.append(rng.randrange(node))
-        links.append(Link(capacity, 2 * capacity + 2 + rng.randint(0, 1)))
-    return Tree(parents, links, [])
-
-def strike_at_random(rng, link, new):
-    labels = list(range(link.labels)) + [65535]
-    some = lambda: rng.choice(labels)
-    frames = [(some(), next(new)) for _ in range(rng.randint(0, link.capacity))]
-    link.strike(frames, [some() for _ in range(rng.randint(0, link.capacity))], some(), some())
