@@ -1,16 +1,23 @@
 """What lies between a child and its parent: relays that can lose and delay, and a bad network."""
 import contextlib
 import math
+import os
 import random
 import select
 import socket
 import subprocess
+import sys
 import threading
 import time
 
 
 def lose(percent):
-    """In the network of this process, as of `unshare --net`, so many percent of all is lost."""
+    """Has so many percent of all packets lost: the script begins again in a network of its own."""
+    if not percent:
+        return
+    if not os.environ.get("LOSES"):
+        os.environ["LOSES"] = "1"
+        os.execvp("unshare", ["unshare", "--net", sys.executable, *sys.argv])
     rule = f'iifname "lo" numgen random mod 1000000 < {round(percent * 10_000)} drop'
     for words in (["ip", "link", "set", "lo", "up", "mtu", "1500"],
                   ["nft", "add table inet lossy; add chain inet lossy in "

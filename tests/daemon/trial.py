@@ -315,11 +315,7 @@ def faults_of_all_kinds_end_in_a_right_tree():
 
 def main():
     chosen = runner.options(runs=4, seed=1, faults=40, two=False, loss=0.0)
-    if chosen.loss:
-        if not os.environ.get("LOSES"):
-            os.environ["LOSES"] = "1"
-            os.execvp("unshare", ["unshare", "--net", sys.executable, *sys.argv])
-        lose(chosen.loss)
+    lose(chosen.loss)
     end = runner.run_seeds(chosen, lambda seed: tried(seed, chosen.faults, chosen.two))
     print(f"in {sum(DONE.values()) - DONE['changes']} faults: {dict(DONE)}; the last changes were "
           f"everywhere after {max(WAITS, default=0):.2f} s at most", file=sys.stderr)
