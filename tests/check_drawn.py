@@ -4,7 +4,7 @@
     tests/check_drawn.py            compares the files NAME.run of the examples, the drawn runs of
                                     docs/PROTOCOL.md, the pictures of docs/pictures, and what the
                                     README says that ./rignolda and ./stab print
-    tests/check_drawn.py --write    writes these pictures anew
+    tests/check_drawn.py --write    writes the pictures of `rignolda draw` anew
 
 A file NAME.run has the words of the printed run of NAME.json, whatever the spaces between them. A
 drawn run of the page is that of the example that is cited last before it, with the same cells and
@@ -24,7 +24,6 @@ sys.path.insert(0, str(TOP / "tools"))
 
 from faults.reference import Link
 from programs import answered, counted, run_with
-from tree_picture import drawn
 
 DATA = TOP / "crates/gate_checks/data"
 PAGE = TOP / "docs/PROTOCOL.md"
@@ -37,8 +36,9 @@ DRAWN = {
     "worst_start_of_capacity_two": "links/worst_start_of_capacity_two",
     "two_links": "trees/two_links_under_one_schedule",
 }
-# The picture of a tree, which tools/tree_picture.py draws of what `rignolda scenario` prints.
-TREES = {"seven_machines": "scenarios/seven_machines"}
+# The picture of a tree, by hand, and its example: of each node what `rignolda scenario` prints that
+# it received.
+TREE, SCENARIO = "seven_machines", "scenarios/seven_machines"
 # The run of the page that no job has: two labels are refused.
 WITHOUT_JOB = ["What goes wrong with two labels"]
 
@@ -53,10 +53,46 @@ def pictures(drawer):
     """Each picture: its name, and its text, or None and what the program said."""
     for name, example in DRAWN.items():
         yield name, *draw(drawer, example, "--svg")
-    for name, example in TREES.items():
-        text, said = draw(drawer, example, command="scenario")
-        job = json.loads((DATA / (example + ".json")).read_text())
-        yield name, text and drawn(job, text), said
+
+
+def words_in_tree(text):
+    """By the name of each node of a printed scenario the words of its picture, each with the name
+    of its colour: strays, and then published items, of which it may lack some."""
+    found = {}
+    for line in text.splitlines():
+        words = line.split()
+        if words[1:2] == ["since"]:
+            name = words[0]
+        elif words[0] == "items:":
+            received = published = words[1:]
+        elif words[0] == "published:":
+            published = words[1:]
+        if words[0] in ("items:", "published:"):
+            strays = [it for it in received if it not in published]
+            found[name] = [(it, "odd") for it in strays] + [
+                (it, "good" if it in received else "bad") for it in published]
+    return found
+
+
+def fault_of_tree(drawer):
+    """What is wrong with the picture of the tree: with what a node received, or with the lines, each
+    from under a box to one below it."""
+    text, said = draw(drawer, SCENARIO, command="scenario")
+    if text is None:
+        return said
+    picture, at, found = (PICTURES / f"{TREE}.svg").read_text(), {}, {}
+    for x, y, name, row in re.findall(r'<text class="name mid" x="(.*?)" y="(.*?)">(.*?)</text>\n'
+                                      r'<text class="mono mid" .*?>(.*?)</text>', picture):
+        at[name] = int(x), int(y)
+        found[name] = [(word, kind) for kind, word in re.findall(
+            r'<tspan class="(\w+)">(.*?)</tspan>', row)]
+    if found != words_in_tree(text):
+        return f"it shows {found}, and not {words_in_tree(text)}"
+    tree = json.loads((DATA / f"{SCENARIO}.json").read_text())["tree"]
+    wanted = [(*at[it["parent"]], *at[it["name"]]) for it in tree if "parent" in it]
+    lines = re.findall(r'<path class="line" d="M(\d+) (\d+)L(\d+) (\d+)"/>', picture)
+    lines = [(x, y - 30, to, high + 20) for x, y, to, high in (map(int, it) for it in lines)]
+    return None if lines == wanted else f"its lines are {lines}, and not {wanted}"
 
 
 def words_of(text):
@@ -224,8 +260,8 @@ def check(drawer, replayer):
         same = text is not None and path.is_file() and path.read_text() == text
         fault = None if same else said or "tests/check_drawn.py --write draws it anew"
         yield f"docs/pictures/{name}.svg", fault
-    known = {**DRAWN, **TREES}
-    unknown = sorted(path.name for path in PICTURES.glob("*") if path.stem not in known)
+    yield f"docs/pictures/{TREE}.svg", fault_of_tree(drawer)
+    unknown = sorted(it.name for it in PICTURES.glob("*") if it.stem not in {*DRAWN, TREE})
     yield "docs/pictures has no other files", ", ".join(unknown) or None
     files = {"./rignolda": drawer, "./stab": replayer}
     for number, words, lines in commands():
