@@ -21,9 +21,9 @@
  *
  * The calls are those of an archive, librignolda.a. Where RIGNOLDA_INLINE is defined before this
  * header is included, they are `static inline` functions, which need no archive, so also processors
- * for which there is none may have them: rignolda_inline.h says what they are made from; they are
- * tested on x86-64 and arm64. A compiler then knows all that a call does. One program may have both
- * forms, since their structs are the same.
+ * for which there is none may have them. Those are written by hand, so no proof covers them: each
+ * is compared with the proved one, on x86-64 and arm64. A compiler then knows all that a call does.
+ * One program may have both forms, since their structs are the same.
  *
  * What a struct means:
  *   - a label may be any uint16_t, as after a restart with whatever lay in memory;

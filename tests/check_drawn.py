@@ -75,8 +75,8 @@ def words_in_tree(text):
 
 
 def fault_of_tree(drawer):
-    """What is wrong with the picture of the tree: with what a node received, or with the lines, each
-    from under a box to one below it."""
+    """What is wrong with the picture of the tree: with what a node received, or with the lines,
+    each from under a box to one below it."""
     text, said = draw(drawer, SCENARIO, command="scenario")
     if text is None:
         return said
