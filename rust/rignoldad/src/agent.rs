@@ -7,7 +7,9 @@ use crate::asked;
 use crate::config::{plain, Address, Apply, Config, Fault, Parent};
 use crate::control::{self, Asked, Server, Shown};
 use crate::digest::{Ends, Published};
+use crate::disk::{Disk, ASKED};
 use crate::fact;
+use crate::facts::Lacks;
 use crate::journal;
 use crate::label::Labels;
 use crate::metrics;
@@ -17,6 +19,7 @@ use crate::refused::Refused;
 use crate::renews::{self, Renews, Restarts, Step};
 use crate::repeats::Repeats;
 use crate::reports::{Told, WHOLE};
+use crate::roles::{self, Folders};
 use crate::root::Root;
 use crate::serve::Ticket;
 use crate::standby::{Change, Standby};
@@ -24,7 +27,7 @@ use crate::tree::{Below, EACH};
 use mio::unix::SourceFd;
 use mio::{Events, Interest, Poll, Registry, Token, Waker};
 use rignolda::net::wire::HEAD_BYTES;
-use rignolda::net::{Body, Handler, Origin, Peers, ReportKind, Way};
+use rignolda::net::{Body, Handler, Origin, Peers, ReportKind, Way, Worker};
 use rignolda::settings::{furthest, older, table_of, Meaning, Table, Taker};
 use rignolda_redis::Stores;
 use rignolda_tls::{Caller, Handshakes, Line, Listener, Maker, Own};
@@ -100,6 +103,9 @@ pub struct Agent {
     peers: Peers<Line, Address>,
     stores: Stores,
     root: Option<Root<Ticket>>,
+    /// What does the jobs of the root, and those of the standby.
+    disk: Option<Disk>,
+    roles: Option<Worker<roles::Job, roles::Done>>,
     /// Wakes the loop.
     wake: Arc<dyn Fn() + Send + Sync>,
     state: State,
@@ -257,10 +263,14 @@ fn say(servers: &mut [Server], ticket: Ticket, response: &Response) {
     servers.iter_mut().for_each(|server| server.answer(ticket, &bytes));
 }
 
+/// Microseconds since 1970, by the clock of the machine.
+fn clock() -> u64 {
+    SystemTime::now().duration_since(UNIX_EPOCH).unwrap_or_default().as_micros() as u64
+}
+
 /// Seconds since 1970, by the clock of the machine.
 fn unix_now() -> i64 {
-    let since = SystemTime::now().duration_since(UNIX_EPOCH);
-    since.map_or(0, |it| it.as_secs() as i64)
+    (clock() / 1_000_000) as i64
 }
 
 /// How many descriptors the process may have.
@@ -448,6 +458,7 @@ impl Handler for State {
 
     fn on_looked(&mut self, at: usize, said: Option<(&Way, u64)>) {
         self.standby.iter_mut().for_each(|it| it.looked(at, said));
+        journal::facts(self.standby.iter_mut().flat_map(Standby::facts));
     }
 
     fn on_fact(&mut self, fact: &'static str, words: std::fmt::Arguments<'_>) {
@@ -481,16 +492,20 @@ impl Agent {
         let applier = config.apply.as_ref().map(|it| Applier::new(it, wake.clone())).transpose();
         let applier = applier.map_err(at("apply: its threads cannot be started"))?;
         let applied = applier.as_ref().map_or(BTreeMap::new(), Applier::settings);
-        let standby = Standby::new(&config, now, wake.clone());
-        let mut standby = standby.map_err(at("root: its thread cannot be started"))?;
+        let folders = Folders::of(&config);
+        let mut standby = folders.as_ref().map(|it| Standby::new(&config, it.begun(), now));
+        journal::facts(standby.iter_mut().flat_map(Standby::facts));
+        let roles = folders.map(|it| it.start(wake.clone())).transpose();
+        let roles = roles.map_err(at("root: its thread cannot be started"))?;
         config.peers.rank = standby.as_ref().and_then(Standby::rank);
-        let root = match &mut standby {
+        let (root, disk) = match &mut standby {
             Some(standby) => {
                 standby.has(applied);
                 None
             }
-            None => begun(&config, applied, now, &wake)?,
-        };
+            None => begun(&config, applied, clock(), now, &wake)?,
+        }
+        .unzip();
         let mut table = Table::default();
         table.taker = Taker::new(applier.as_ref().map_or(0, Applier::floor));
         let (handshakes, own) = (Handshakes::new(wake.clone()), Own::default());
@@ -546,6 +561,8 @@ impl Agent {
                 ..State::default()
             },
             root,
+            disk,
+            roles,
             wake,
             servers,
             answers: Answers::default(),
@@ -570,7 +587,7 @@ impl Agent {
         let listeners = self.listeners.iter().filter(|_| now >= self.full_until);
         let reads = [signals.reload.as_raw_fd(), signals.end.as_raw_fd()].into_iter();
         let reads = reads.chain(listeners.map(|it| it.socket.as_raw_fd()));
-        let reads = reads.chain(self.root.as_ref().and_then(Root::descriptor));
+        let reads = reads.chain(self.changes());
         let served = self.servers.iter().flat_map(Server::descriptors);
         let others: Vec<_> = reads.map(|fd| (fd, 0, false)).chain(served).collect();
         let registry = self.poll.registry();
@@ -618,6 +635,25 @@ impl Agent {
         Ok(fired)
     }
 
+    /// What can be read when the root's folder has changed, where that is waited for.
+    fn changes(&self) -> Option<RawFd> {
+        self.root.as_ref().filter(|root| root.awaits_changes())?;
+        self.disk.as_ref()?.descriptor()
+    }
+
+    /// Writes what the root and the standby have to say, and has their jobs done.
+    fn acts(&mut self) {
+        let (root, standby) = (&mut self.root, &mut self.state.standby);
+        journal::facts(root.iter_mut().flat_map(Root::facts));
+        journal::facts(standby.iter_mut().flat_map(Standby::facts));
+        if let (Some(root), Some(disk)) = (root, &self.disk) {
+            root.jobs().into_iter().for_each(|job| disk.begin(job));
+        }
+        if let (Some(standby), Some(roles)) = (standby, &self.roles) {
+            standby.jobs().into_iter().for_each(|job| roles.begin(job));
+        }
+    }
+
     /// When there is something to do although nothing comes.
     fn deadline(&self, now: Instant) -> Instant {
         let root = self.root.as_ref().map(Root::deadline);
@@ -646,12 +682,13 @@ impl Agent {
             self.leave_distrusted(now);
             self.peers.tick(now, &mut self.state);
             self.connect(now);
-            if let Some(root) = &mut self.root {
-                if root.descriptor().is_some_and(|fd| fired.contains(&fd)) {
-                    root.notified(now);
-                }
+            let has_changed = self.changes().is_some_and(|fd| fired.contains(&fd));
+            if let (Some(root), Some(disk)) = (&mut self.root, &self.disk) {
+                has_changed.then(|| root.notified(now));
+                std::iter::from_fn(|| disk.done()).for_each(|done| root.done(done, now));
                 root.tick(now, || self.state.below.depth());
             }
+            self.acts();
             self.state.applied(now);
             self.state.below.reads(now);
             self.state.heard();
@@ -676,18 +713,21 @@ impl Agent {
         whole.into_iter().for_each(|digest| standby.notes(digest));
         let parents = &self.config.peers.parents;
         let (said, children) = said(&self.peers, &self.state.below, parents);
-        let change = standby.tick(parents.len(), &said, children, now);
+        let mut done = std::iter::from_fn(|| self.roles.as_ref()?.done());
+        let change = done.find_map(|it| standby.done(it));
+        let change =
+            change.or_else(|| standby.tick(parents.len(), (&said, children), clock(), now));
         let answers = standby.answers();
         let (rank, was_root) = (standby.rank(), self.config.peers.rank.is_some());
         self.config.peers.rank = rank;
+        self.acts();
         if rank.is_some() != was_root {
             self.begins_anew(now)?;
         }
         if let Some(Change::Root(number, applied)) = change {
             self.state.begins(now);
             self.state.is_root = true;
-            self.root = begun(&self.config, applied, now, &self.wake)?;
-            self.root.iter_mut().for_each(|root| root.begins_above(number));
+            (self.root, self.disk) = begun(&self.config, applied, number, now, &self.wake)?.unzip();
         }
         for (ticket, done) in answers {
             let response = done.map_or_else(refused, |it| match it {
@@ -702,6 +742,7 @@ impl Agent {
     /// Leaves all connections and is there anew, as after a restart, at another place of the tree.
     /// What it applies goes on.
     fn begins_anew(&mut self, now: Instant) -> Result<(), ErrorAt> {
+        self.disk = None;
         let asked = self.root.take().map_or(Vec::new(), Root::ends);
         let refused = Response::Refused("it is not the root any more".into());
         asked.into_iter().for_each(|it| say(&mut self.servers, it, &refused));
@@ -763,16 +804,22 @@ impl Agent {
             && self.config.backlog == self.peers.relay().room()
             && silence(&self.config) == self.maker.timeout();
         let (applier, apply) = (self.state.applier.as_ref(), self.config.apply.as_ref());
-        let root = self.root.as_ref().zip(self.config.root.as_ref());
+        let root = self.root.as_ref().zip(self.disk.as_ref()).zip(self.config.root.as_ref());
+        let standby = self.state.standby.as_ref().zip(self.roles.as_ref());
         let faults = [
             (!is_same).then_some("its configuration is another one"),
             (!self.listens()).then_some("it does not listen where it is to"),
             self.maker.fault(tls.is_some()),
             misses.then_some("it has no parent, and one answers whoever comes anew"),
             applier.zip(apply).and_then(|(applier, config)| applier.fault(config)),
-            root.and_then(|(root, config)| root.fault(config)),
+            root.and_then(|((root, disk), config)| {
+                root.fault(config).or_else(|| disk.fault(&config.settings, root.jobs_out()))
+            }),
             (!self.is_what_it_is()).then_some("it is the root, and is not"),
-            self.state.standby.as_ref().and_then(|it| it.fault(&self.config)),
+            standby.and_then(|(standby, roles)| {
+                let is_lost = || !roles.is_asked(standby.jobs_out());
+                standby.fault(&self.config).or_else(|| is_lost().then_some(ASKED))
+            }),
             self.stores.fault(&self.peers),
         ];
         faults.into_iter().flatten().next().map_or(Ok(()), Err)
@@ -877,8 +924,8 @@ impl Agent {
             Some(standby) => standby.role() == Role::Root,
             None => standby.is_some(),
         };
-        let is_there = (standby == Some(true)) == self.state.standby.is_some();
-        is_there && [self.root.is_some(), self.state.is_root] == [is_root; 2]
+        [self.state.standby.is_some(), self.roles.is_some()] == [standby == Some(true); 2]
+            && [self.root.is_some(), self.disk.is_some(), self.state.is_root] == [is_root; 3]
     }
 
     // ---- Connections
@@ -960,6 +1007,7 @@ impl Agent {
         if let (Some(number), Some(standby)) = (number, &mut self.state.standby) {
             standby.reserves(number);
         }
+        self.acts();
         while self.may_publish() {
             let Some(root) = &mut self.root else { return };
             let Some(published) = root.next(self.config.backlog / 2, now) else { break };
@@ -970,6 +1018,7 @@ impl Agent {
             self.answer();
         }
         self.answer();
+        self.acts();
     }
 
     /// Answers those who asked the root for something that is done now, or cannot be.
@@ -1183,6 +1232,7 @@ impl Agent {
                     let by = words.as_ref().map(|_| asked::by(client.and_then(asked::user), &by));
                     let request = request.map_err(Refused::from);
                     let response = request.and_then(|it| self.request(ticket, it, now));
+                    self.acts();
                     if let (Some(words), Some(by), Ok(_)) = (words, by, &response) {
                         fact!("asked", "{words}, by {by}");
                     }
@@ -1192,6 +1242,7 @@ impl Agent {
             }
         }
         self.root.iter_mut().for_each(Root::commit);
+        self.acts();
     }
 
     /// Does what an operator asks for.
@@ -1239,12 +1290,12 @@ impl Agent {
                 let numbers = self.state.numbers().into_iter().chain([self.state.seen]);
                 let seen = furthest(taker.number, numbers);
                 let own = furthest(taker.floor, [taker.number]);
-                let newer = self.state.below.newer(own).map(|(who, newer)| {
-                    format!("{who} has change {newer}, and this agent has none after {own}")
-                });
+                let newer = self.state.below.newer(own);
+                let lacks = newer.map(|(who, change)| Lacks { who, change, own });
                 let standby = self.state.standby.as_mut();
                 let standby = standby.ok_or(Refused::NoStandby)?;
-                return standby.promote(!as_is, newer, seen, digest, ticket).map(|()| None);
+                let numbers = (seen, clock());
+                return standby.promote(!as_is, lacks, numbers, digest, ticket).map(|()| None);
             }
             (Request::Demote, _) => {
                 let standby = self.state.standby.as_mut();
@@ -1368,13 +1419,18 @@ fn peers(config: &Config, now: Instant) -> Result<Peers<Line, Address>, ErrorAt>
     Ok(peers)
 }
 
-/// What the root of a configuration publishes, if it is one's.
+/// What the root of a configuration publishes after this number, if it is one's; and its disk.
 fn begun(
     config: &Config,
     applied: BTreeMap<String, Vec<u8>>,
+    first: u64,
     now: Instant,
     wake: &Arc<dyn Fn() + Send + Sync>,
-) -> Result<Option<Root<Ticket>>, ErrorAt> {
-    let root = config.root.as_ref().map(|it| Root::new(it, applied, now, wake.clone()));
-    root.transpose().map_err(at("root: its thread cannot be started"))
+) -> Result<Option<(Root<Ticket>, Disk)>, ErrorAt> {
+    let Some(config) = &config.root else { return Ok(None) };
+    let disk = Disk::start(&config.settings, wake.clone());
+    let disk = disk.map_err(at("root: its thread cannot be started"))?;
+    let mut root = Root::new(config, applied, first, now);
+    root.jobs().into_iter().for_each(|job| disk.begin(job));
+    Ok(Some((root, disk)))
 }

@@ -15,6 +15,9 @@ use std::os::unix::io::{AsRawFd, RawFd};
 use std::path::{Path, PathBuf};
 use std::sync::Arc;
 
+/// What is said of a thread that has other jobs than those that are waited for.
+pub const ASKED: &str = "the disk was asked for something else";
+
 /// How often a folder is read that is another one each time.
 const READS: u32 = 3;
 
@@ -24,6 +27,7 @@ const EMPTY: &str = "it is empty: is a mount missing, or else `.empty`?";
 const NO_SETTING: &str = "nothing in it can be published";
 
 /// What is to be done. One comes after the other.
+#[derive(Debug, PartialEq, Eq)]
 pub enum Job {
     /// To read all settings.
     Read,
@@ -84,17 +88,48 @@ fn identity(path: &Path) -> Option<Identity> {
     fs::metadata(path).ok().map(|it| (it.dev(), it.ino()))
 }
 
-/// The thread, and what can be read when something changed. It calls `wake` after each job.
-pub fn start(
+/// The thread, where it looks, and what can be read when something changed there.
+pub struct Disk {
+    worker: Worker<Job, Done>,
     settings: Arc<Path>,
-    wake: Arc<dyn Fn() + Send + Sync>,
-) -> io::Result<(Worker<Job, Done>, Option<RawFd>)> {
-    let (notify, keys) = (Inotify::init().ok(), Some(BTreeSet::new()));
-    let keeps = Places::new(&settings);
-    let mut place = Place { settings, keeps, notify, keys, read: None };
-    let descriptor = place.notify.as_ref().map(AsRawFd::as_raw_fd);
-    let worker = Worker::start("disk", move |job| place.work(job), move || wake())?;
-    Ok((worker, descriptor))
+    changes: Option<RawFd>,
+}
+
+impl Disk {
+    /// Starts it. It calls `wake` after each job.
+    pub fn start(settings: &Path, wake: Arc<dyn Fn() + Send + Sync>) -> io::Result<Disk> {
+        let (notify, keys) = (Inotify::init().ok(), Some(BTreeSet::new()));
+        let (settings, keeps) = (Arc::<Path>::from(settings), Places::new(settings));
+        let changes = notify.as_ref().map(AsRawFd::as_raw_fd);
+        let mut place = Place { settings: settings.clone(), keeps, notify, keys, read: None };
+        let worker = Worker::start("disk", move |job| place.work(job), move || wake())?;
+        Ok(Disk { worker, settings, changes })
+    }
+
+    /// Has a job done after those that it was given before.
+    pub fn begin(&self, job: Job) {
+        self.worker.begin(job);
+    }
+
+    /// What came of the next job, if it is over.
+    pub fn done(&self) -> Option<Done> {
+        self.worker.done()
+    }
+
+    /// What can be read when something changed.
+    pub fn descriptor(&self) -> Option<RawFd> {
+        self.changes
+    }
+
+    /// What of it cannot be, where something cannot: to be asked once a second. So many jobs have
+    /// no answer, as who asked for them says.
+    pub fn fault(&self, settings: &Path, jobs: u32) -> Option<&'static str> {
+        match () {
+            () if *self.settings != *settings => Some("the root's configuration is another one"),
+            () if !self.worker.is_asked(jobs) => Some(ASKED),
+            () => None,
+        }
+    }
 }
 
 impl Place {

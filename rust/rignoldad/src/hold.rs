@@ -143,8 +143,8 @@ impl Guard {
     }
 
     /// Somebody confirmed that these are all.
-    pub fn confirmed(&mut self, keys: impl IntoIterator<Item = String>) {
-        *self = Guard::new(keys, [], Instant::now());
+    pub fn confirmed(&mut self, keys: impl IntoIterator<Item = String>, now: Instant) {
+        *self = Guard::new(keys, [], now);
     }
 
     /// A round of these ends: what went long ago counts no more.
@@ -238,7 +238,7 @@ mod tests {
         guard.ends_round(["a", "b", "c"].map(String::from), begun + WINDOW);
         assert_eq!(guard.lacks(None, |key| key == "a"), Some(2));
         assert_eq!(guard.lacks(None, |key| key != "a"), None);
-        guard.confirmed(["a".to_string()]);
+        guard.confirmed(["a".to_string()], begun);
         assert_eq!(guard.lacks(None, |_| false), None);
         assert_eq!(guard.lacks(Some(0), |_| false), Some(1));
     }

@@ -1,26 +1,24 @@
 //! The root's settings: a folder is the truth, and what differs from it is published.
 //!
-//! Nothing here waits for the disk: a thread does, and says what it found. A round, and each table,
-//! is of what the folder had when it was asked for; where the disk does not answer in time, it is
-//! of what was known before.
+//! Nothing here waits for the disk, looks at a clock or writes: what is to be done is a [`Job`],
+//! what came of it is [told](Root::done), and what there is to say is a [`Fact`]. A round, and each
+//! table, is of what the folder had when it was asked for; where the disk does not answer in time,
+//! it is of what was known before.
 use crate::asks::{Asks, Cost};
 use crate::batch::Kept;
 use crate::config::{Root as Config, DEEP};
-use crate::disk::{self, Done, Empty, Job, Written};
-use crate::fact;
+use crate::disk::{Done, Empty, Job, Written};
+use crate::facts::Fact;
 use crate::hold::{self, Guard};
 use crate::kept::Record;
 use crate::refused::Refused;
-use rignolda::net::{Worker, BODY_BYTES};
+use rignolda::net::BODY_BYTES;
 use rignolda::settings::{differences, parts, published_by, shown, Published, Publisher};
 use rignoldactl::source::{no_key, Faults, Found};
 use rignoldactl::{is_sha256, Diff};
 use std::collections::{BTreeMap, BTreeSet};
 use std::io;
-use std::os::unix::io::RawFd;
-use std::path::Path;
-use std::sync::Arc;
-use std::time::{Duration, Instant, SystemTime, UNIX_EPOCH};
+use std::time::{Duration, Instant};
 
 /// How long after a change of the folder it is read.
 const SETTLES: Duration = Duration::from_millis(5);
@@ -40,11 +38,9 @@ const DRAINS: Duration = Duration::from_secs(600);
 /// The root. `W`: who asks it for something, and is answered later.
 pub struct Root<W> {
     config: Config,
-    disk: Worker<Job, Done>,
-    /// Where the disk looks.
-    place: Arc<Path>,
-    /// What can be read when the folder has changed.
-    changes: Option<RawFd>,
+    /// What the disk is to do and was not told yet, and what there is to say.
+    jobs: Vec<Job>,
+    facts: Vec<Fact>,
     publisher: Publisher,
     /// Whether it publishes nothing, and until when.
     draining: bool,
@@ -129,24 +125,19 @@ type Asker<W> = (W, Cost);
 pub type Answer<W> = (W, Result<(), Refused>);
 
 impl<W> Root<W> {
-    /// Begins to read the folder, in a thread that calls `wake` whenever it has something to say.
+    /// One that publishes what follows this number, after what an earlier life applied.
     pub fn new(
         config: &Config,
         applied: BTreeMap<String, Vec<u8>>,
+        first: u64,
         now: Instant,
-        wake: Arc<dyn Fn() + Send + Sync>,
-    ) -> io::Result<Root<W>> {
-        // (a root that restarts goes on above the numbers of its earlier lives)
-        let clock = SystemTime::now().duration_since(UNIX_EPOCH).unwrap_or_default();
-        let place: Arc<Path> = config.settings.clone().into();
-        let (disk, changes) = disk::start(place.clone(), wake)?;
+    ) -> Root<W> {
         let before = Record::of(&applied);
         let mut root = Root {
             config: config.clone(),
-            disk,
-            place,
-            changes,
-            publisher: Publisher::new(clock.as_micros() as u64),
+            jobs: vec![Job::Recall],
+            facts: Vec::new(),
+            publisher: Publisher::new(first),
             draining: false,
             drains_until: None,
             known: false,
@@ -185,15 +176,23 @@ impl<W> Root<W> {
             went_above: 0,
             faults: Faults::default(),
         };
-        root.disk.begin(Job::Recall);
         root.look(now);
-        Ok(root)
+        root
     }
 
-    /// Publishes what follows this number, before it publishes anything: it is known, so its clock
-    /// is not needed.
-    pub fn begins_above(&mut self, number: u64) {
-        self.publisher = Publisher::new(number);
+    /// What the disk is to do now, one after the other.
+    pub fn jobs(&mut self) -> Vec<Job> {
+        std::mem::take(&mut self.jobs)
+    }
+
+    /// How many jobs have no answer yet.
+    pub fn jobs_out(&self) -> u32 {
+        self.reads + u32::from(self.writing.is_some()) + u32::from(self.keeping)
+    }
+
+    /// What there is to say.
+    pub fn facts(&mut self) -> Vec<Fact> {
+        std::mem::take(&mut self.facts)
     }
 
     /// The number of the next body, where one waits.
@@ -224,9 +223,9 @@ impl<W> Root<W> {
         self.config = Config { settings: self.config.settings.clone(), ..config.clone() };
     }
 
-    /// What can be read when the folder has changed, while that is not known already.
-    pub fn descriptor(&self) -> Option<RawFd> {
-        self.changes.filter(|_| self.next_scan.is_none() && !self.is_busy())
+    /// Whether it wants to know when the folder changes: it does not know that already.
+    pub fn awaits_changes(&self) -> bool {
+        self.next_scan.is_none() && !self.is_busy()
     }
 
     pub fn settings(&self) -> u64 {
@@ -301,14 +300,7 @@ impl<W> Root<W> {
 
     /// What of its state cannot be, where something cannot.
     pub fn fault(&self, config: &Config) -> Option<&'static str> {
-        let jobs = self.reads + u32::from(self.writing.is_some()) + u32::from(self.keeping);
-        match () {
-            () if self.config != *config || *self.place != *config.settings => {
-                Some("the root's configuration is another one")
-            }
-            () if !self.disk.is_asked(jobs) => Some("the disk was asked for something else"),
-            () => None,
-        }
+        (self.config != *config).then_some("the root's configuration is another one")
     }
 
     /// Brings back to its bound what has one.
@@ -339,34 +331,36 @@ impl<W> Root<W> {
         self.config.harmless(depth)
     }
 
-    /// Takes up what the disk says, has the folder read and begins a round, where it is time.
-    /// `depth`: asked for each round how deep the tree is, as far as it is known.
+    /// Takes up what came of a job.
+    pub fn done(&mut self, done: Done, now: Instant) {
+        self.mend(now);
+        match done {
+            Done::Recalled(record) => self.recalls(record, now),
+            Done::Kept(done) => self.is_kept(done),
+            Done::Written { all, others } => self.is_written(all, others, now),
+            Done::Keys(changes) => self.have_changed(changes, now),
+            Done::Read(read) => self.is_read(read, now),
+        }
+    }
+
+    /// Has the folder read and begins a round, where it is time. `depth`: asked for each round how
+    /// deep the tree is, as far as it is known.
     pub fn tick(&mut self, now: Instant, depth: impl Fn() -> u32) {
         self.mend(now);
-        while let Some(done) = self.disk.done() {
-            match done {
-                Done::Recalled(record) => self.recalls(record, now),
-                Done::Kept(done) => self.is_kept(done),
-                Done::Written { all, others } => self.is_written(all, others, now),
-                Done::Keys(changes) => self.have_changed(changes, now),
-                Done::Read(read) => self.is_read(read, now),
-            }
-        }
         if self.reads == 0 && self.next_scan.is_some_and(|scan| now >= scan) {
             self.next_scan = None;
             self.reads += 1;
-            self.disk.begin(Job::Changed);
+            self.jobs.push(Job::Changed);
         }
         if !self.keeping && self.keeps.is_some_and(|at| now >= at) {
             (self.keeps, self.kept, self.keeping) = (None, now, true);
-            self.disk.begin(Job::Keep(self.record.text(self.guard.gone())));
+            self.jobs.push(Job::Keep(self.record.text(self.guard.gone())));
         }
         if self.until.is_some_and(|until| now >= until) {
             if !std::mem::replace(&mut self.is_late, true) {
-                let path = self.config.settings.display();
-                let text = format!("{path}: the disk does not answer");
-                fact!("settings", "{text}");
-                self.faults.add(text);
+                let late = Fact::IsLate(self.config.settings.clone());
+                self.faults.add(late.to_string());
+                self.facts.push(late);
             }
             self.goes_on(now);
         }
@@ -391,8 +385,8 @@ impl<W> Root<W> {
         self.keeping = false;
         if let Err(error) = &done {
             if !self.cannot_keep {
-                let path = self.config.settings.display();
-                fact!("settings", "{path}: what is published cannot be kept: {error}");
+                let path = self.config.settings.clone();
+                self.facts.push(Fact::IsNotKept(path, error.to_string()));
             }
         }
         self.cannot_keep = done.is_err();
@@ -422,7 +416,7 @@ impl<W> Root<W> {
         // (one that is under way may be past what changed since)
         if self.reads < 2 {
             self.reads += 1;
-            self.disk.begin(Job::Read);
+            self.jobs.push(Job::Read);
         }
     }
 
@@ -438,7 +432,7 @@ impl<W> Root<W> {
         self.look(now);
         if self.reads == reads && !self.is_late {
             self.reads += 1;
-            self.disk.begin(Job::Read);
+            self.jobs.push(Job::Read);
         }
     }
 
@@ -478,7 +472,7 @@ impl<W> Root<W> {
             };
             if may && self.publisher.go_above(number) {
                 self.went_above += 1;
-                fact!("numbers", "go on above {number}, which an agent has");
+                self.facts.push(Fact::GoesAbove(number));
             }
         }
     }
@@ -657,7 +651,7 @@ impl<W> Root<W> {
             Asked::Promote(key, who) => (Job::Promote(key), Writing::Promote(who)),
         };
         self.writing = Some(writing);
-        self.disk.begin(job);
+        self.jobs.push(job);
     }
 
     fn is_written(&mut self, all: Vec<Written>, others: bool, now: Instant) {
@@ -791,9 +785,8 @@ impl<W> Root<W> {
                 }
             }
         }
-        for fault in faults.texts.difference(&self.faults.texts) {
-            fact!("settings", "{fault}");
-        }
+        let new = faults.texts.difference(&self.faults.texts).cloned();
+        self.facts.extend(new.map(Fact::IsNotPublished));
         self.faults = faults;
         self.has_answered(now);
     }
@@ -828,7 +821,7 @@ impl<W> Root<W> {
             return Some(held.held.clone());
         }
         match confirmed {
-            Some(_) => self.guard.confirmed(found.keys().cloned()),
+            Some(_) => self.guard.confirmed(found.keys().cloned(), now),
             None => self.guard.takes(|key| found.contains_key(key), now),
         }
         (self.known, self.holds) = (true, holds);

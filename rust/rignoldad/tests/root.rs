@@ -3,6 +3,7 @@ use openssl::sha::sha256;
 use rignolda::net::{checksum, Body};
 use rignolda::settings::{Meaning, Published, VALUE_BYTES};
 use rignoldad::config;
+use rignoldad::disk::Disk;
 use rignoldad::refused::Refused;
 use rignoldad::root::Root;
 use std::collections::BTreeMap;
@@ -12,7 +13,7 @@ use std::os::unix::fs::FileExt;
 use std::path::{Path, PathBuf};
 use std::process::Command;
 use std::sync::Arc;
-use std::time::{Duration, Instant};
+use std::time::{Duration, Instant, SystemTime, UNIX_EPOCH};
 
 struct Folder(PathBuf);
 
@@ -35,11 +36,12 @@ impl Drop for Folder {
 
 const ROUND: Duration = Duration::from_secs(3_600);
 
-/// A root, what time it is there, and how deep its tree is. Whatever it asks the disk for is waited
-/// for.
+/// A root and its disk, what time it is there, and how deep its tree is. Whatever it asks the disk
+/// for is waited for.
 struct Tried {
     /// Who asks is the key that is asked for.
     root: Root<String>,
+    disk: Disk,
     now: Instant,
     depth: u32,
 }
@@ -47,11 +49,25 @@ struct Tried {
 impl Tried {
     fn tick(&mut self, now: Instant) {
         self.now = self.now.max(now);
-        self.root.tick(now, || self.depth);
+        self.turn(now);
         while self.root.is_busy() {
             std::thread::sleep(Duration::from_millis(1));
-            self.root.tick(now, || self.depth);
+            self.turn(now);
         }
+    }
+
+    /// What an agent does in a turn.
+    fn turn(&mut self, now: Instant) {
+        self.begin();
+        while let Some(done) = self.disk.done() {
+            self.root.done(done, now);
+        }
+        self.root.tick(now, || self.depth);
+        self.begin();
+    }
+
+    fn begin(&mut self) {
+        self.root.jobs().into_iter().for_each(|job| self.disk.begin(job));
     }
 
     fn next(&mut self, limit: u64) -> Option<Published> {
@@ -126,8 +142,10 @@ fn root_of(
     settled: bool,
 ) -> (Tried, Instant) {
     let now = Instant::now();
-    let root = Root::new(&config, applied, now, Arc::new(|| ())).unwrap();
-    let mut root = Tried { root, now, depth: 1 };
+    let first = SystemTime::now().duration_since(UNIX_EPOCH).unwrap().as_micros() as u64;
+    let root = Root::new(&config, applied, first, now);
+    let disk = Disk::start(&config.settings, Arc::new(|| ())).unwrap();
+    let mut root = Tried { root, disk, now, depth: 1 };
     if settled {
         root.tick(now);
         while root.next(100).is_some() {}
