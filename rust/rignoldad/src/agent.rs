@@ -493,19 +493,15 @@ impl Agent {
         let applier = applier.map_err(at("apply: its threads cannot be started"))?;
         let applied = applier.as_ref().map_or(BTreeMap::new(), Applier::settings);
         let folders = Folders::of(&config);
-        let mut standby = folders.as_ref().map(|it| Standby::new(&config, it.begun(), now));
+        let (mut standby, root) = match &folders {
+            Some(it) => (Some(Standby::new(&config, it.begun(), applied, now)), None),
+            None => (None, begun(&config, applied, clock(), now, &wake)?),
+        };
+        let (root, disk) = root.unzip();
         journal::facts(standby.iter_mut().flat_map(Standby::facts));
         let roles = folders.map(|it| it.start(wake.clone())).transpose();
         let roles = roles.map_err(at("root: its thread cannot be started"))?;
         config.peers.rank = standby.as_ref().and_then(Standby::rank);
-        let (root, disk) = match &mut standby {
-            Some(standby) => {
-                standby.has(applied);
-                None
-            }
-            None => begun(&config, applied, clock(), now, &wake)?,
-        }
-        .unzip();
         let mut table = Table::default();
         table.taker = Taker::new(applier.as_ref().map_or(0, Applier::floor));
         let (handshakes, own) = (Handshakes::new(wake.clone()), Own::default());

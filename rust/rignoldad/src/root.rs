@@ -88,10 +88,10 @@ pub struct Root<W> {
     begins: bool,
     for_table: bool,
     fresh: Option<Instant>,
-    /// Changes that were asked for and are not begun, each key once in a batch, and by whom; who
-    /// asked for the batch under way; and for which keys that are written and not published.
-    asked: Vec<Asked<W>>,
-    writing: Option<Writing<W>>,
+    /// What was asked for and is not begun, each key once in a job, and by whom; who asked for the
+    /// job under way, where one is; and for which keys that are written and not published.
+    asked: Vec<(Job, Vec<Asker<W>>)>,
+    writing: Vec<Asker<W>>,
     written: Vec<(String, W)>,
     /// Who asked for a look, and for a round.
     looking: Vec<W>,
@@ -104,21 +104,7 @@ pub struct Root<W> {
     faults: Faults,
 }
 
-/// What was asked for, and by whom.
-enum Asked<W> {
-    /// Changes, each of another key.
-    Changes(Vec<(Kept, Asker<W>)>),
-    /// That the value of this key, for a group, is that for all.
-    Promote(String, W),
-}
-
-/// Who asked for what is written.
-enum Writing<W> {
-    Changes(Vec<Asker<W>>),
-    Promote(W),
-}
-
-/// Who asked for a change, and what that may add.
+/// Who asked for a change, or to promote a value, and what that may add.
 type Asker<W> = (W, Cost);
 
 /// To whom, and that all is published, or why something is not.
@@ -167,7 +153,7 @@ impl<W> Root<W> {
             for_table: false,
             fresh: None,
             asked: Vec::new(),
-            writing: None,
+            writing: Vec::new(),
             written: Vec::new(),
             looking: Vec::new(),
             rounding: Vec::new(),
@@ -187,7 +173,7 @@ impl<W> Root<W> {
 
     /// How many jobs have no answer yet.
     pub fn jobs_out(&self) -> u32 {
-        self.reads + u32::from(self.writing.is_some()) + u32::from(self.keeping)
+        self.reads + u32::from(!self.writing.is_empty()) + u32::from(self.keeping)
     }
 
     /// What there is to say.
@@ -202,18 +188,11 @@ impl<W> Root<W> {
 
     /// Ends it: who asked for something and was not answered.
     pub fn ends(self) -> Vec<W> {
-        let asked = self.asked.into_iter().flat_map(|asked| match asked {
-            Asked::Changes(changes) => changes.into_iter().map(|(_, who)| who.0).collect(),
-            Asked::Promote(_, who) => vec![who],
-        });
-        let writing = self.writing.into_iter().flat_map(|writing| match writing {
-            Writing::Changes(all) => all.into_iter().map(|who| who.0).collect(),
-            Writing::Promote(who) => vec![who],
-        });
+        let asked = self.asked.into_iter().flat_map(|(_, who)| who).map(|(who, _)| who);
         let written = self.written.into_iter().map(|(_, who)| who);
         let answered = self.answers.into_iter().map(|(who, _)| who);
         let looking = self.looking.into_iter().chain(self.rounding).chain(self.diffing);
-        let looking = looking.chain(writing);
+        let looking = looking.chain(self.writing.into_iter().map(|(who, _)| who));
         asked.chain(written).chain(answered).chain(looking).collect()
     }
 
@@ -322,7 +301,7 @@ impl<W> Root<W> {
 
     /// Whether the disk has something to answer.
     pub fn is_busy(&self) -> bool {
-        self.reads > 0 || self.writing.is_some()
+        self.reads > 0 || !self.writing.is_empty()
     }
 
     /// How many harmless items a round begins with now.
@@ -383,13 +362,10 @@ impl<W> Root<W> {
 
     fn is_kept(&mut self, done: io::Result<()>) {
         self.keeping = false;
-        if let Err(error) = &done {
-            if !self.cannot_keep {
-                let path = self.config.settings.clone();
-                self.facts.push(Fact::IsNotKept(path, error.to_string()));
-            }
-        }
-        self.cannot_keep = done.is_err();
+        let why = done.err().map(|error| error.to_string());
+        let could_not = std::mem::replace(&mut self.cannot_keep, why.is_some());
+        let is_not_kept = |why| Fact::IsNotKept(self.config.settings.clone(), why);
+        self.facts.extend(why.filter(|_| !could_not).map(is_not_kept));
     }
 
     /// A round begins once the folder is read. One that is under way goes on instead.
@@ -558,27 +534,20 @@ impl<W> Root<W> {
             }
             _ => Ok(()),
         }?;
-        let change = ((key, value), (who, cost));
         match self.asked.last_mut() {
-            Some(Asked::Changes(batch)) if batch.iter().all(|it| it.0 .0 != change.0 .0) => {
-                batch.push(change);
+            Some((Job::Write(batch), all)) if batch.iter().all(|it| it.0 != key) => {
+                batch.push((key, value));
+                all.push((who, cost));
             }
-            _ => self.asked.push(Asked::Changes(vec![change])),
+            _ => self.asked.push((Job::Write(vec![(key, value)]), vec![(who, cost)])),
         }
         Ok(())
     }
 
     /// What is not written yet.
     fn waiting(&self) -> Asks {
-        let asked = self.asked.iter().flat_map(|asked| match asked {
-            Asked::Changes(changes) => &changes[..],
-            Asked::Promote(..) => &[],
-        });
-        let writing = self.writing.iter().flat_map(|writing| match writing {
-            Writing::Changes(all) => &all[..],
-            Writing::Promote(_) => &[],
-        });
-        asked.map(|(_, who)| who.1).chain(writing.map(|who| who.1)).collect()
+        let asked = self.asked.iter().flat_map(|(_, who)| who);
+        asked.chain(&self.writing).map(|(_, cost)| *cost).collect()
     }
 
     /// Makes the value that a setting has for a group the one for all, after [`Root::commit`]: by
@@ -596,7 +565,7 @@ impl<W> Root<W> {
                 Err("there is no room for a second one".into())
             }
             _ => {
-                self.asked.push(Asked::Promote(key, who));
+                self.asked.push((Job::Promote(key), vec![(who, Cost::default())]));
                 Ok(())
             }
         }
@@ -638,57 +607,48 @@ impl<W> Root<W> {
         self.is_new && has_none
     }
 
-    /// Has what was asked for written, one batch after the other.
+    /// Has what was asked for written, one job after the other.
     pub fn commit(&mut self) {
-        if self.writing.is_some() || self.asked.is_empty() {
-            return;
+        if self.writing.is_empty() && !self.asked.is_empty() {
+            let (job, who) = self.asked.remove(0);
+            self.writing = who;
+            self.jobs.push(job);
         }
-        let (job, writing) = match self.asked.remove(0) {
-            Asked::Changes(batch) => {
-                let (changes, who) = batch.into_iter().unzip();
-                (Job::Write(changes), Writing::Changes(who))
-            }
-            Asked::Promote(key, who) => (Job::Promote(key), Writing::Promote(who)),
-        };
-        self.writing = Some(writing);
-        self.jobs.push(job);
     }
 
     fn is_written(&mut self, all: Vec<Written>, others: bool, now: Instant) {
         others.then(|| self.notified(now));
-        match self.writing.take() {
-            Some(Writing::Changes(writing)) => {
-                for (((key, value), done), (who, _)) in all.into_iter().zip(writing) {
-                    let done = match done {
-                        // (the folder lacks it, and that is held)
-                        Err(Refused::NotSet) if self.is_published_before(&key) => Ok(()),
-                        Err(Refused::NotSet) => Err(format!("`{}` is not set", shown(&key)).into()),
-                        done => done,
-                    };
-                    // (also where it is as it was: whoever asked for it is told a number)
-                    match done.map(|()| self.takes_written(&key, value)) {
-                        Ok(()) => self.written.push((key, who)),
-                        Err(why) => self.answers.push((who, Err(why))),
-                    }
+        let writing = std::mem::take(&mut self.writing);
+        if writing.len() == all.len() {
+            for (((key, value), done), (who, _)) in all.into_iter().zip(writing) {
+                let done = match done {
+                    // (the folder lacks it, and that is held)
+                    Err(Refused::NotSet) if self.is_published_before(&key) => Ok(()),
+                    Err(Refused::NotSet) => Err(format!("`{}` is not set", shown(&key)).into()),
+                    done => done,
+                };
+                // (also where it is as it was: whoever asked for it is told a number)
+                match done.map(|()| self.takes_written(&key, value)) {
+                    Ok(()) => self.written.push((key, who)),
+                    Err(why) => self.answers.push((who, Err(why))),
                 }
             }
-            Some(Writing::Promote(who)) => {
-                let (mut last, mut failed) = (None, None);
-                for ((key, value), done) in all {
-                    match done {
-                        Ok(()) => self.takes_written(&key, value),
-                        Err(why) => failed = failed.or(Some(why)),
-                    }
-                    last = Some(key);
+        } else if let Some((who, _)) = writing.into_iter().next() {
+            // (a value is promoted by two changes)
+            let (mut last, mut failed) = (None, None);
+            for ((key, value), done) in all {
+                match done {
+                    Ok(()) => self.takes_written(&key, value),
+                    Err(why) => failed = failed.or(Some(why)),
                 }
-                match (last, failed) {
-                    (Some(key), None) => self.written.push((key, who)),
-                    (_, why) => {
-                        self.answers.push((who, Err(why.unwrap_or("nothing is written".into()))))
-                    }
+                last = Some(key);
+            }
+            match (last, failed) {
+                (Some(key), None) => self.written.push((key, who)),
+                (_, why) => {
+                    self.answers.push((who, Err(why.unwrap_or("nothing is written".into()))))
                 }
             }
-            None => (),
         }
         if !self.known {
             self.look(now);

@@ -1,8 +1,8 @@
 //! A second root: an agent that may be promoted, and one that was.
 //!
-//! Which of these it is [its files](crate::roles) say at a start. Nothing here waits for them, looks
-//! at a clock or writes: what is to be done is a [`Job`], what came of it is [told](Standby::done),
-//! and what there is to say is a [`Fact`].
+//! Which of these it is [its files](crate::roles) say at a start. Nothing here waits for them,
+//! looks at a clock or writes: what is to be done is a [`Job`], what came of it is
+//! [told](Standby::done), and what there is to say is a [`Fact`].
 use crate::config::Config;
 use crate::facts::{Fact, Lacks};
 use crate::newer::{says, Says};
@@ -79,8 +79,13 @@ pub struct Standby<W> {
 pub type Answer<W> = (W, Result<String, Refused>);
 
 impl<W> Standby<W> {
-    /// One that begins as its files say.
-    pub fn new(config: &Config, begun: Begun, now: Instant) -> Standby<W> {
+    /// One that begins as its files say, after what an earlier life applied.
+    pub fn new(
+        config: &Config,
+        begun: Begun,
+        applied: BTreeMap<String, Vec<u8>>,
+        now: Instant,
+    ) -> Standby<W> {
         let Begun { folders, role, rank, noted, may, fact } = begun;
         Standby {
             name: config.peers.name.clone(),
@@ -90,7 +95,7 @@ impl<W> Standby<W> {
             facts: fact.into_iter().collect(),
             role,
             rank,
-            applied: BTreeMap::new(),
+            applied: if role == Role::Looks { applied } else { BTreeMap::new() },
             until: now + LOOKS,
             looked: BTreeMap::new(),
             others: BTreeMap::new(),
@@ -99,13 +104,6 @@ impl<W> Standby<W> {
             may,
             asked: None,
             answers: Vec::new(),
-        }
-    }
-
-    /// This is what an earlier life has applied.
-    pub fn has(&mut self, applied: BTreeMap<String, Vec<u8>>) {
-        if self.role == Role::Looks {
-            self.applied = applied;
         }
     }
 

@@ -181,7 +181,6 @@ fn what_came_while_it_drained_is_published_when_that_ends() {
     assert_eq!((next(&mut root, now), root.is_draining()), (Some(('C', 504)), false));
 }
 
-/// What is written when a change and a promotion of a value are asked for: one after the other.
 #[test]
 fn who_asks_for_a_change_is_answered_when_it_is_published() {
     let now = Instant::now();
@@ -202,14 +201,42 @@ fn who_asks_for_a_change_is_answered_when_it_is_published() {
     assert_eq!((root.answers(), root.ends()), (vec![("two", Ok(()))], vec![]));
 }
 
+#[test]
+fn a_value_that_is_promoted_is_two_changes_and_one_answer() {
+    let now = Instant::now();
+    let mut root = root(now);
+    let change = |key: &str, value: Option<&str>| (key.to_string(), value.map(|it| it.into()));
+    let written = |all: Vec<disk::Written>| disk::Done::Written { all, others: false };
+    root.ask("a@eu", Some(b"5".into()), "one").unwrap();
+    root.commit();
+    root.done(written(vec![(change("a..eu", Some("5")), Ok(()))]), now);
+    assert_eq!((next(&mut root, now), root.answers()), (Some(('C', 504)), vec![("one", Ok(()))]));
+    root.jobs();
+    // (what fails is answered, and the next one is begun)
+    let promote = || disk::Job::Promote("a..eu".into());
+    root.promote("a@eu", "two").unwrap();
+    root.promote("a@eu", "three").unwrap();
+    root.commit();
+    assert_eq!((root.jobs(), root.jobs_out()), (vec![promote()], 1));
+    root.done(written(vec![(change("a..eu", None), Err("no space".into()))]), now);
+    assert_eq!(
+        (root.jobs(), root.answers()),
+        (vec![promote()], vec![("two", Err("no space".into()))])
+    );
+    let all = [change("a", Some("5")), change("a..eu", None)].map(|it| (it, Ok(())));
+    root.done(written(all.into()), now);
+    let body = root.next(100, now).unwrap().body;
+    let changes = Meaning::Changes(vec![("a", Some(b"5")), ("a..eu", None)]);
+    assert_eq!(body.meaning(), Some((505, changes)));
+    assert_eq!((root.answers(), root.jobs_out()), (vec![("three", Ok(()))], 0));
+}
+
 /// One that begins as this, of rank 50, and may have published up to this number.
 fn standby(role: Role, may: Option<u64>, now: Instant) -> Standby<&'static str> {
     let (config, fact) = (config(), None);
     let folders = Folders::of(&config).unwrap();
     let begun = Begun { folders, role, rank: 50, noted: None, may, fact };
-    let mut standby = Standby::new(&config, begun, now);
-    standby.has(values(&[("a", "1")]));
-    standby
+    Standby::new(&config, begun, values(&[("a", "1")]), now)
 }
 
 #[test]
@@ -250,6 +277,31 @@ fn a_root_that_sees_one_of_a_higher_rank_twice_stands_by() {
     assert_eq!(lines(standby.facts()), ["root first is another root: this one stands by"]);
     standby.done(roles::Done::StandsBy(Err(at("/settings")("no space"))));
     assert_eq!(lines(standby.facts()), ["root its folder does not know: /settings: no space"]);
+    // (and an agent as any other when somebody says so)
+    standby.demote("who").unwrap();
+    assert_eq!((standby.jobs(), standby.answers()), (vec![roles::Job::Demote], vec![]));
+    assert_eq!((standby.done(roles::Done::Demoted(Ok(()))), standby.role()), (None, Role::Below));
+    assert_eq!(standby.answers(), [("who", Ok(String::new()))]);
+    assert_eq!(lines(standby.facts()), ["root this is an agent as any other now"]);
+}
+
+#[test]
+fn what_is_wrong_with_the_mark_of_a_root_is_said_at_a_start() {
+    let (config, words) = (config(), |it: &str| format!("root /settings/.root {it}"));
+    for (fact, said) in [
+        (
+            Fact::MayBeOfOthers as fn(_) -> _,
+            "does not belong to the user of the agent alone: left out",
+        ),
+        (Fact::IsNoFile, "is no plain file: it stands by"),
+        (Fact::HasNoRank, "has no number: any other root goes on"),
+    ] {
+        let (folders, role) = (Folders::of(&config).unwrap(), Role::Below);
+        let fact = Some(fact(folders.root.join(".root")));
+        let begun = Begun { folders, role, rank: 0, noted: None, may: None, fact };
+        let mut standby = Standby::<()>::new(&config, begun, BTreeMap::new(), Instant::now());
+        assert_eq!((lines(standby.facts()), standby.facts()), (vec![words(said)], vec![]));
+    }
 }
 
 #[test]
