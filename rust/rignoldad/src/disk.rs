@@ -55,7 +55,7 @@ pub enum Done {
     },
     Recalled(Option<Record>),
     /// And why it cannot be.
-    Kept(io::Result<()>),
+    Kept(Result<(), String>),
 }
 
 /// A change, and why it was not done.
@@ -142,7 +142,7 @@ impl Place {
             },
             Job::Write(changes) => self.write(changes),
             Job::Recall => Done::Recalled(self.keeps.read()),
-            Job::Keep(text) => Done::Kept(self.keeps.write(&text)),
+            Job::Keep(text) => Done::Kept(self.keeps.write(&text).map_err(|e| e.to_string())),
             Job::Promote(key) => match read_plain(&self.file(&key), VALUE_BYTES) {
                 // (the first one first: whoever is ended between them leaves what is right, too)
                 Ok(value) => self.write(vec![(parts(&key).0.into(), Some(value)), (key, None)]),

@@ -17,7 +17,6 @@ use rignolda::settings::{differences, parts, published_by, shown, Published, Pub
 use rignoldactl::source::{no_key, Faults, Found};
 use rignoldactl::{is_sha256, Diff};
 use std::collections::{BTreeMap, BTreeSet};
-use std::io;
 use std::time::{Duration, Instant};
 
 /// How long after a change of the folder it is read.
@@ -360,12 +359,11 @@ impl<W> Root<W> {
         }
     }
 
-    fn is_kept(&mut self, done: io::Result<()>) {
+    fn is_kept(&mut self, done: Result<(), String>) {
         self.keeping = false;
-        let why = done.err().map(|error| error.to_string());
-        let could_not = std::mem::replace(&mut self.cannot_keep, why.is_some());
+        let could_not = std::mem::replace(&mut self.cannot_keep, done.is_err());
         let is_not_kept = |why| Fact::IsNotKept(self.config.settings.clone(), why);
-        self.facts.extend(why.filter(|_| !could_not).map(is_not_kept));
+        self.facts.extend(done.err().filter(|_| !could_not).map(is_not_kept));
     }
 
     /// A round begins once the folder is read. One that is under way goes on instead.

@@ -128,7 +128,7 @@ fn where_the_disk_is_late_a_round_is_of_what_is_known() {
     // (the table is to be of what the disk says, and waits for that no longer)
     root.tick(late, || 1);
     assert_eq!((next(&mut root, late), root.jobs_out()), (Some(('T', 505)), 3));
-    root.done(disk::Done::Kept(Err(std::io::Error::other("no space"))), late);
+    root.done(disk::Done::Kept(Err("no space".into())), late);
     let said = "settings /settings: what is published cannot be kept: no space";
     assert_eq!(acts(&mut root), (vec![disk::Job::Read], vec![said.into()]));
     for _ in 0..2 {
