@@ -495,6 +495,7 @@ impl Agent {
         let folders = Folders::of(&config);
         let (mut standby, root) = match &folders {
             Some(it) => (Some(Standby::new(&config, it.begun(), applied, now)), None),
+            // (a root that restarts goes on above the numbers of its earlier lives)
             None => (None, begun(&config, applied, clock(), now, &wake)?),
         };
         let (root, disk) = root.unzip();
