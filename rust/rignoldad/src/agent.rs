@@ -10,6 +10,8 @@ use crate::digest::{Ends, Published};
 use crate::disk::{Disk, ASKED};
 use crate::fact;
 use crate::facts::Lacks;
+use crate::files;
+use crate::hooks;
 use crate::journal;
 use crate::label::Labels;
 use crate::metrics;
@@ -24,6 +26,7 @@ use crate::root::Root;
 use crate::serve::Ticket;
 use crate::standby::{Change, Standby};
 use crate::tree::{Below, EACH};
+use crate::workers::Workers;
 use mio::unix::SourceFd;
 use mio::{Events, Interest, Poll, Registry, Token, Waker};
 use rignolda::net::wire::HEAD_BYTES;
@@ -63,8 +66,6 @@ const CHECKS_OF_LEAF: [Duration; 2] = [Duration::from_millis(1_800), Duration::f
 const FULL: Duration = Duration::from_millis(100);
 /// How many faults of the root's folder its status names.
 const FAULTS: usize = 8;
-/// How soon the loop asks again what was done about files.
-const ASKS_AGAIN: Duration = Duration::from_millis(20);
 /// How many events are taken in one turn.
 const EVENTS: usize = 256;
 /// An event of a line has its number; that of another descriptor has this bit and the descriptor.
@@ -136,7 +137,9 @@ struct State {
     /// At the root: the digests of what it published.
     published: Published,
     table: Table,
+    /// What it applies, and who does that.
     applier: Option<Applier>,
+    workers: Option<Workers>,
     /// Where it may be promoted.
     standby: Option<Standby<Ticket>>,
     below: Below,
@@ -360,7 +363,13 @@ impl State {
 
     /// Takes up what was done about settings.
     fn applied(&mut self, now: Instant) {
-        if let Some(floor) = self.applier.as_ref().and_then(Applier::found_later) {
+        if let (Some(applier), Some(workers)) = (&mut self.applier, &mut self.workers) {
+            workers.go_on(applier, now);
+            for fact in applier.facts() {
+                journal::lines(fact.name(), [fact.to_string()]);
+            }
+        }
+        if let Some(floor) = self.applier.as_mut().and_then(Applier::found_later) {
             let words = format_args!("its files have change {floor}, and its memory is older");
             self.on_fact("numbers", words);
             self.restarts(floor);
@@ -414,6 +423,7 @@ impl Handler for State {
             if !applier.take(&meaning, sequence, self.table.heard) {
                 self.table.misses();
             }
+            self.workers.iter_mut().for_each(|it| it.begin(applier, now));
             self.applying = self.applying.or_else(|| applier.is_busy().then_some(now));
         }
         if self.table.full && !was_full {
@@ -489,9 +499,11 @@ impl Agent {
         let poll = Poll::new().map_err(at("poll"))?;
         let waker = Waker::new(poll.registry(), WAKE).map_err(at("poll"))?;
         let wake: Arc<dyn Fn() + Send + Sync> = Arc::new(move || drop(waker.wake()));
-        let applier = config.apply.as_ref().map(|it| Applier::new(it, wake.clone())).transpose();
-        let applier = applier.map_err(at("apply: its threads cannot be started"))?;
-        let applied = applier.as_ref().map_or(BTreeMap::new(), Applier::settings);
+        let apply = config.apply.as_ref();
+        let applier = apply.map(|it| Applier::new(it, hooks::due(&it.folder)));
+        let workers = apply.map(|it| Workers::new(it, wake.clone())).transpose();
+        let workers = workers.map_err(at("apply: its threads cannot be started"))?;
+        let applied = apply.map_or(BTreeMap::new(), files::settings);
         let folders = Folders::of(&config);
         let (mut standby, root) = match &folders {
             Some(it) => (Some(Standby::new(&config, it.begun(), applied, now)), None),
@@ -504,7 +516,7 @@ impl Agent {
         let roles = roles.map_err(at("root: its thread cannot be started"))?;
         config.peers.rank = standby.as_ref().and_then(Standby::rank);
         let mut table = Table::default();
-        table.taker = Taker::new(applier.as_ref().map_or(0, Applier::floor));
+        table.taker = Taker::new(config.apply.as_ref().map_or(0, files::floor));
         let (handshakes, own) = (Handshakes::new(wake.clone()), Own::default());
         let listeners: Vec<_> = config.listen.iter().map(listen).collect::<Result<_, _>>()?;
         let servers: Vec<_> = control.chain(counts).collect::<Result<_, _>>()?;
@@ -551,6 +563,7 @@ impl Agent {
                 is_root: root.is_some(),
                 table,
                 applier,
+                workers,
                 standby,
                 round_at: Some(now),
                 changed: true,
@@ -660,7 +673,7 @@ impl Agent {
         let expires = u64::try_from(self.expires.saturating_sub(unix_now())).unwrap_or(0);
         // (the clock may be set meanwhile)
         let expires = Some(now + Duration::from_secs(expires).min(CLOCK));
-        let files = self.state.applying.map(|_| now + ASKS_AGAIN);
+        let files = self.state.applier.as_ref().and_then(Applier::until);
         let more = (self.may_publish() || !self.unsure.is_empty()).then_some(now);
         let (peers, checks) = (self.peers.deadline(now), Some(self.checked + self.checks()[1]));
         let standby = self.state.standby.as_ref().and_then(Standby::deadline);
@@ -808,6 +821,7 @@ impl Agent {
             (!self.listens()).then_some("it does not listen where it is to"),
             self.maker.fault(tls.is_some()),
             misses.then_some("it has no parent, and one answers whoever comes anew"),
+            applier.zip(self.state.workers.as_ref()).and_then(|(it, workers)| workers.fault(it)),
             applier.zip(apply).and_then(|(applier, config)| applier.fault(config)),
             root.and_then(|((root, disk), config)| {
                 root.fault(config).or_else(|| disk.fault(&config.settings, root.jobs_out()))

@@ -3,8 +3,11 @@
 //! One is run for each change of a key. Others are each for the keys that some patterns name, with
 //! one run for all of these that changed together.
 use crate::config::Apply;
+use crate::files::MARKER;
+use crate::floor::read_floor;
 use crate::folder::{remove, unlink, Folder};
-use rignolda::settings::{is_key, older, Change, Waiting};
+use crate::place::{Identity, Place};
+use rignolda::settings::{is_key, is_newer, older, Change, Waiting};
 use std::collections::BTreeSet;
 use std::fs::{self, File, OpenOptions};
 use std::io::{self, Seek, Write};
@@ -12,6 +15,7 @@ use std::os::unix::fs::OpenOptionsExt;
 use std::path::{Path, PathBuf};
 use std::process::{Command, Stdio};
 use std::sync::atomic::{AtomicU64, Ordering};
+use std::sync::Arc;
 use std::time::Duration;
 
 /// The folder of the keys whose hooks are due, in the folder of the settings.
@@ -40,25 +44,71 @@ impl Hook {
     }
 
     /// Runs it to its end for these keys, of which the last change has this number.
-    pub fn run(&self, at: &House, keys: &BTreeSet<String>, number: u64) -> Result<(), String> {
+    fn run(&self, at: &House, keys: &BTreeSet<String>, number: u64) -> Result<(), String> {
         let names: String = keys.iter().flat_map(|key| [key, "\n"]).collect();
         let mut command = command(&self.run, self.timeout, at.folder, number);
         finished(command.current_dir(at.folder).stdin(at.given(names.as_bytes())?))
     }
 }
 
+/// What a worker of hooks is to do, as this is configured, and where a folder is the agent's own.
+#[derive(Debug)]
+pub struct Job {
+    pub what: What,
+    pub config: Arc<Apply>,
+    pub taken: Option<Identity>,
+}
+
+#[derive(Debug)]
+pub enum What {
+    /// To tell the hook of a change; unless the files are from a later body than this number.
+    One(String, Change, u64),
+    /// To tell one of keys that changed together, of which the last has this number.
+    Many(Hook, BTreeSet<String>, u64),
+    /// To take back that hooks of these keys are due.
+    Settle(Vec<String>),
+}
+
+/// What came of it.
+#[derive(Debug)]
+pub enum Came {
+    Ran(Result<(), String>),
+    /// The hook was told nothing: the files are from a body of this number.
+    Newer(u64, Change),
+    Settled,
+}
+
+/// Does what a worker is to do, to its end.
+pub fn work(Job { what, config, taken }: Job) -> Came {
+    // (the folder, as long as the one at its place is the agent's own)
+    let place = taken.and_then(|taken| {
+        Place::open(&config.folder).ok().filter(|it| it.is() == taken)
+    });
+    let own = place.as_ref().map(Place::at);
+    let house = House { folder: &config.folder, own };
+    match what {
+        What::One(key, change, floor) => {
+            match own.map_or(0, |own| read_floor(&own.join(MARKER))) {
+                number if is_newer(number, floor) => Came::Newer(number, change),
+                _ => Came::Ran(run(&house, &config, &key, &change)),
+            }
+        }
+        What::Many(hook, keys, last) => Came::Ran(hook.run(&house, &keys, last)),
+        What::Settle(keys) => {
+            own.iter().for_each(|own| keys.iter().for_each(|key| settle(own, key)));
+            Came::Settled
+        }
+    }
+}
+
 /// Where a hook runs: the folder, as it is named, and a path to it while it is the agent's own.
 #[derive(Debug)]
-pub struct House<'a> {
+struct House<'a> {
     folder: &'a Path,
     own: Option<&'a Path>,
 }
 
-impl<'a> House<'a> {
-    pub fn new(folder: &'a Path, own: Option<&'a Path>) -> House<'a> {
-        House { folder, own }
-    }
-
+impl House<'_> {
     /// These bytes as an input. (It is a file and not a pipe, since a hook need not read it.)
     fn given(&self, bytes: &[u8]) -> Result<Stdio, String> {
         static COUNT: AtomicU64 = AtomicU64::new(0);
@@ -86,14 +136,12 @@ pub fn fits(pattern: &str, key: &str) -> bool {
     rest.ends_with(back)
 }
 
-/// What is known of the runs of a hook.
+/// What a hook is still to be told.
 #[derive(Debug, Default)]
 pub struct Runs {
     /// The keys that change now, together; and those that changed since the last run began.
     pub changing: Waiting,
     pub waiting: Waiting,
-    /// Of the run that goes on, its keys and the first number.
-    pub running: Option<(BTreeSet<String>, u64)>,
     /// The keys of runs that failed.
     pub due: BTreeSet<String>,
 }
@@ -101,16 +149,12 @@ pub struct Runs {
 impl Runs {
     /// The oldest number that is not told yet.
     pub fn first(&self) -> Option<u64> {
-        let running = self.running.as_ref().map(|it| it.1);
-        let waiting = self.waiting.first().into_iter().chain(self.changing.first());
-        waiting.chain(running).reduce(older)
+        self.waiting.first().into_iter().chain(self.changing.first()).reduce(older)
     }
 
-    /// How many of its runs are for this key: one that goes on, and one that is to come.
-    pub fn lacking(&self, key: &str) -> usize {
-        let is_running = self.running.as_ref().is_some_and(|it| it.0.contains(key));
-        let waits = self.waiting.has(key) || self.changing.has(key) || self.due.contains(key);
-        usize::from(is_running) + usize::from(waits)
+    /// Whether a run is to come for this key.
+    pub fn lacks(&self, key: &str) -> bool {
+        self.waiting.has(key) || self.changing.has(key) || self.due.contains(key)
     }
 
     /// A key changes: the hook is told of it together with others.
@@ -126,19 +170,18 @@ impl Runs {
         }
     }
 
-    /// Begins a run where something waits and none goes on: of these keys, and the last number.
-    pub fn begin(&mut self) -> Option<(BTreeSet<String>, u64)> {
-        let first = self.waiting.first().filter(|_| self.running.is_none())?;
+    /// Begins a run where something waits: of these keys, and the first and the last number.
+    pub fn begin(&mut self) -> Option<(BTreeSet<String>, u64, u64)> {
+        let first = self.waiting.first()?;
         let changes = std::mem::take(&mut self.waiting).in_order();
         let last = changes.last().map_or(first, |(_, change)| change.last);
         let keys: BTreeSet<String> = changes.into_iter().map(|(key, _)| key).collect();
-        self.running = Some((keys.clone(), first));
-        Some((keys, last))
+        Some((keys, first, last))
     }
 }
 
 /// Runs the hook of a change to its end, or until its time is up.
-pub fn run(at: &House, config: &Apply, key: &str, change: &Change) -> Result<(), String> {
+fn run(at: &House, config: &Apply, key: &str, change: &Change) -> Result<(), String> {
     let Some(hook) = &config.hook else { return Ok(()) };
     let input = match change.value.as_deref() {
         None => Stdio::null(),
@@ -216,7 +259,7 @@ pub fn announce(folder: &Path, key: &str) -> io::Result<()> {
 }
 
 /// Takes back that hooks of this key are due. What else has that name stays.
-pub fn settle(folder: &Path, key: &str) {
+fn settle(folder: &Path, key: &str) {
     let path = pending(folder).ok().flatten().map(|it| it.join(key));
     if let Some(path) = path.filter(|path| is(path, |it| it.is_file() && it.len() == 0)) {
         let _ = fs::remove_file(path);

@@ -1,8 +1,10 @@
 //! The files of settings and their hooks.
 use rignolda::settings::{furthest, Heard, Meaning, Publisher, Table};
-use rignoldad::apply::{refusal, Applied, Applier, Outcome};
+use rignoldad::apply::{refusal, Applied, Applier as Machine, Outcome};
 use rignoldad::config::Apply;
-use rignoldad::hooks::Hook;
+use rignoldad::files;
+use rignoldad::hooks::{self, Hook};
+use rignoldad::workers::Workers;
 use std::cell::Cell;
 use std::collections::BTreeMap;
 use std::fs::{self, Permissions};
@@ -11,7 +13,7 @@ use std::os::unix::fs::{symlink, MetadataExt, PermissionsExt};
 use std::path::{Path, PathBuf};
 use std::process::{Command, Stdio};
 use std::sync::atomic::{AtomicU64, Ordering};
-use std::sync::Arc;
+use std::sync::{Arc, Mutex};
 use std::time::{Duration, Instant};
 
 /// A folder of one test, removed at its end.
@@ -79,6 +81,86 @@ trait Bodies {
     fn table<const N: usize>(&mut self, entries: [(&str, &[u8]); N], sequence: u64);
 }
 
+/// An applier and its workers, in a loop that goes on until it is dropped.
+struct Applier {
+    config: Apply,
+    both: Arc<Mutex<(Machine, Workers)>>,
+}
+
+impl Applier {
+    fn new(config: &Apply) -> Applier {
+        let machine = Machine::new(config, hooks::due(&config.folder));
+        let workers = Workers::new(config, Arc::new(|| ())).unwrap();
+        let both = Arc::new(Mutex::new((machine, workers)));
+        let goes_on = Arc::downgrade(&both);
+        std::thread::spawn(move || {
+            while let Some(both) = goes_on.upgrade() {
+                go_on(&mut both.lock().unwrap());
+                drop(both);
+                std::thread::sleep(Duration::from_millis(1));
+            }
+        });
+        Applier { config: config.clone(), both }
+    }
+
+    /// What the applier says now.
+    fn is<T>(&self, what: impl FnOnce(&mut Machine) -> T) -> T {
+        let mut both = self.both.lock().unwrap();
+        go_on(&mut both);
+        let is = what(&mut both.0);
+        go_on(&mut both);
+        is
+    }
+
+    fn take(&mut self, meaning: &Meaning<'_>, number: u64, heard: Heard) -> bool {
+        self.is(|it| it.take(meaning, number, heard))
+    }
+
+    fn reload(&mut self, config: &Apply) {
+        self.is(|it| it.reload(config));
+    }
+
+    fn floor(&self) -> u64 {
+        files::floor(&self.config)
+    }
+
+    fn applied(&self, sequence: u64) -> u64 {
+        self.is(|it| it.applied(sequence))
+    }
+
+    fn done(&mut self) -> Vec<Applied> {
+        self.is(Machine::done)
+    }
+
+    fn found_later(&self) -> Option<u64> {
+        self.is(Machine::found_later)
+    }
+
+    fn files(&self, sequence: u64) -> Option<(u64, u64)> {
+        self.is(|it| it.files(sequence))
+    }
+
+    fn is_busy(&self) -> bool {
+        self.is(|it| it.is_busy())
+    }
+
+    fn failing(&self) -> u64 {
+        self.is(|it| it.failing())
+    }
+
+    fn hook_failures(&self) -> u64 {
+        self.is(|it| it.hook_failures())
+    }
+
+    fn mended(&self) -> u64 {
+        self.is(|it| it.mended())
+    }
+}
+
+fn go_on((machine, workers): &mut (Machine, Workers)) {
+    workers.go_on(machine, Instant::now());
+}
+
 impl Bodies for Applier {
     fn says(&mut self, meaning: Meaning<'_>, number: u64, looks: bool, fills: bool) {
         let heard = Heard { takes: true, applies: true, looks, fills, ..Heard::default() };
@@ -100,7 +182,7 @@ impl Bodies for Applier {
 }
 
 fn start(config: &Apply) -> Applier {
-    Applier::new(config, Arc::new(|| ())).unwrap()
+    Applier::new(config)
 }
 
 fn until(what: impl Fn() -> bool) {

@@ -65,6 +65,19 @@ impl<J: Send + 'static, D: Send + 'static> Worker<J, D> {
     /// That of the system, where it has no thread.
     pub fn start(
         name: &str,
+        work: impl FnMut(J) -> D + Send + 'static,
+        wake: impl Fn() + Send + 'static,
+    ) -> io::Result<Worker<J, D>> {
+        Worker::start_as(thread::Builder::new().name(name.into()), work, wake)
+    }
+
+    /// Starts it as such a thread.
+    ///
+    /// # Errors
+    ///
+    /// As those of [`Worker::start`].
+    pub fn start_as(
+        thread: thread::Builder,
         mut work: impl FnMut(J) -> D + Send + 'static,
         wake: impl Fn() + Send + 'static,
     ) -> io::Result<Worker<J, D>> {
@@ -72,7 +85,7 @@ impl<J: Send + 'static, D: Send + 'static> Worker<J, D> {
         let (to, done) = mpsc::channel();
         let works = Arc::new(AtomicBool::new(false));
         let is_working = Arc::clone(&works);
-        let thread = thread::Builder::new().name(name.into()).spawn(move || {
+        let thread = thread.spawn(move || {
             for job in asked {
                 is_working.store(true, Ordering::Relaxed);
                 if to.send(work(job)).is_err() {
