@@ -2,7 +2,7 @@
 //! look-up of names and handshakes of TLS, and never waits for anything else than for all of them
 //! at once.
 use crate::answers::{Answers, What};
-use crate::apply::{Applied, Applier, Outcome};
+use crate::apply::{Applied, Applier, Fact, Outcome};
 use crate::asked;
 use crate::config::{plain, Address, Apply, Config, Fault, Parent};
 use crate::control::{self, Asked, Server, Shown};
@@ -365,8 +365,8 @@ impl State {
     fn applied(&mut self, now: Instant) {
         if let (Some(applier), Some(workers)) = (&mut self.applier, &mut self.workers) {
             workers.go_on(applier, now);
-            for fact in applier.facts() {
-                journal::lines(fact.name(), [fact.to_string()]);
+            for (fact, words) in applier.facts().iter().map(Fact::line) {
+                journal::lines(fact, [words]);
             }
         }
         if let Some(floor) = self.applier.as_mut().and_then(Applier::found_later) {

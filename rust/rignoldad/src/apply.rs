@@ -22,10 +22,11 @@
 //! is known of one folder alone, and not of what comes to its place: each body is applied in a
 //! folder that is held open.
 use crate::config::{is_key, Apply};
-pub use crate::consent::refusal;
-use crate::files::{self, Ended, Keep, Kept, Mark, Marked, MARKER};
+use crate::files::MARKER;
 pub use crate::files::{beside, GROUPS};
-use crate::hooks::{self, Came, Hook, Runs, What};
+use crate::hooks::{Hook, Runs};
+use crate::jobs::{Done, Ended, Job, Kept, Mark, What};
+pub use crate::others::refusal;
 use crate::others::LISTS;
 use crate::place::Identity;
 use rignolda::settings::{is_newer, older, Change, Heard, Meaning, Waiting, SETTINGS};
@@ -85,7 +86,7 @@ impl fmt::Display for Outcome {
 #[derive(Clone, Debug, PartialEq)]
 pub enum Fact {
     /// So many files, of which this is one, were not as they were put.
-    Mended(u64, String),
+    Mended(usize, String),
     /// So much in the folder is none of settings; the first of it.
     Others(usize, String),
     /// What lay at the place of values for groups has this name now.
@@ -93,41 +94,20 @@ pub enum Fact {
 }
 
 impl Fact {
-    /// What the journal names it.
-    pub fn name(&self) -> &'static str {
-        match self {
-            Fact::Mended(..) => "mended",
-            Fact::Others(..) | Fact::Aside(_) => "settings",
-        }
-    }
-}
-
-impl fmt::Display for Fact {
-    fn fmt(&self, f: &mut fmt::Formatter<'_>) -> fmt::Result {
+    /// What the journal names it, and the words.
+    pub fn line(&self) -> (&'static str, String) {
         match self {
             Fact::Mended(count, first) => {
-                write!(f, "{count} files were not as they were put, as {first}")
+                ("mended", format!("{count} files were not as they were put, as {first}"))
             }
             Fact::Others(count, first) => {
-                write!(f, "{count} in the folder are none of settings, as {first}")
+                ("settings", format!("{count} in the folder are none of settings, as {first}"))
             }
-            Fact::Aside(to) => write!(f, "what lay at {GROUPS} was another folder: it is {to} now"),
+            Fact::Aside(to) => {
+                ("settings", format!("what lay at {GROUPS} was another folder: it is {to} now"))
+            }
         }
     }
-}
-
-/// What a worker is to do: that of files, or the one of hooks with this number.
-#[derive(Debug)]
-pub enum Job {
-    Files(files::Job),
-    Hook(usize, hooks::Job),
-}
-
-/// What came of it.
-#[derive(Debug)]
-pub enum Done {
-    Files(files::Done, Vec<Fact>),
-    Hook(usize, Came),
 }
 
 /// Decides what is done to keep the files of a folder as the settings are, and to run their hooks.
@@ -145,10 +125,9 @@ pub struct Applier {
     /// the loop knows. And whether what the worker of files knows of them is to be forgotten.
     later: Option<u64>,
     forgets: bool,
-    /// The files that are being kept, and what the worker of files has in hand.
+    /// The files that are being kept, and whether the worker of files has a job. When it has rested.
     turn: Option<Turn>,
-    in_hand: Option<InHand>,
-    /// When that worker has rested.
+    is_asked: bool,
     rests: Option<Instant>,
     /// Whether the digest that the worker has is that of all files; whether it was so when all were
     /// looked at last, with the same mode, and that mode.
@@ -178,14 +157,6 @@ pub struct Applier {
     facts: Vec<Fact>,
 }
 
-/// What the worker of files has in hand.
-#[derive(Clone, Copy, Debug, PartialEq)]
-enum InHand {
-    /// The folder, or nothing of it.
-    NoFile,
-    Files,
-}
-
 /// Files that are being kept.
 #[derive(Debug)]
 struct Turn {
@@ -194,64 +165,31 @@ struct Turn {
     config: Arc<Apply>,
     looks: bool,
     due: Due,
-    /// Those that are left, and the values as they are published.
+    /// Those that are left; and until when they wait for marks that are going.
     left: VecDeque<(String, Change)>,
-    all: Waiting,
-    /// Until when they wait for marks that are going.
     waits: Option<Instant>,
-    /// How many were not as they were put, and the first of these.
-    mended: u64,
-    first_mended: String,
+    /// Those that were not as they were put.
+    mended: Vec<String>,
 }
 
-/// A hook that runs: of a key, or of many.
+/// A hook that a worker runs: that of a key, or one that has one run for many.
 #[derive(Debug)]
 struct Running {
-    told: Told,
+    hook: Option<Hook>,
+    keys: BTreeSet<String>,
     /// The first and the last number that it is told of.
     first: u64,
     last: u64,
     step: Step,
 }
 
-#[derive(Debug)]
-enum Told {
-    One(String),
-    Many(Hook, BTreeSet<String>),
-}
-
-impl Told {
-    fn keys(&self) -> Vec<&String> {
-        match self {
-            Told::One(key) => vec![key],
-            Told::Many(_, keys) => keys.iter().collect(),
-        }
-    }
-}
-
-#[derive(Debug)]
+#[derive(Debug, PartialEq)]
 enum Step {
-    Begins(What),
     Runs,
     /// It ended well.
     Ended,
     /// The marks of its keys are going.
     Settles,
-}
-
-impl Running {
-    /// Whether it is for this key.
-    fn has(&self, key: &str) -> bool {
-        match &self.told {
-            Told::One(own) => own == key,
-            Told::Many(_, keys) => keys.contains(key),
-        }
-    }
-
-    /// Whether it is this hook, which has one run for many keys.
-    fn is_of(&self, hook: &Hook) -> bool {
-        matches!(&self.told, Told::Many(own, _) if own == hook)
-    }
 }
 
 /// Which hooks are due of keys whose files may be right.
@@ -272,21 +210,14 @@ impl Due {
         self.all.iter().chain(&self.own).chain(self.runs.values().flatten()).cloned()
     }
 
-    /// What is to be done about a key.
-    fn work(&self, key: &str, differs: bool) -> Work<'_> {
+    /// Whether all hooks are told of a key, and its own; and which are of the others.
+    fn told(&self, key: &str, differs: bool) -> (bool, bool, Vec<&Hook>) {
         let all = differs || self.all.contains(key);
         let is_told =
             |(hook, due): &(&Hook, &BTreeSet<String>)| due.contains(key) || all && hook.is_for(key);
         let hooks = self.runs.iter().filter(is_told).map(|(hook, _)| hook);
-        Work { all, own: all || self.own.contains(key), hooks: hooks.collect() }
+        (all, all || self.own.contains(key), hooks.collect())
     }
-}
-
-/// What is to be done about a key: whether all hooks are told; and which are, its own and others.
-struct Work<'a> {
-    all: bool,
-    own: bool,
-    hooks: Vec<&'a Hook>,
 }
 
 impl Applier {
@@ -307,8 +238,9 @@ impl Applier {
         for (hook, runs) in old {
             self.failing.remove(&hook.name());
             let waiting = runs.waiting.in_order().into_iter().chain(runs.changing.in_order());
-            let running = self.running.iter().flatten().filter(|it| it.is_of(&hook));
-            let running = running.flat_map(|it| it.told.keys()).cloned();
+            let running = self.running.iter().flatten();
+            let running = running.filter(|it| it.hook.as_ref() == Some(&hook));
+            let running = running.flat_map(|it| it.keys.iter().cloned());
             self.due.extend(waiting.map(|(key, _)| key).chain(running).chain(runs.due));
         }
         self.config = Arc::new(config.clone());
@@ -367,7 +299,7 @@ impl Applier {
         (self.holds, self.looks, self.forgets) = (true, true, true);
         (self.digest, self.whole) = (None, None);
         if let Some(turn) = &mut self.turn {
-            (turn.left, turn.all) = Default::default();
+            turn.left.clear();
         }
         let hooks = take(&mut self.hooks).in_order();
         self.due.extend(hooks.into_iter().map(|(key, _)| key));
@@ -375,74 +307,73 @@ impl Applier {
 
     // ---- Jobs
 
-    /// What the workers are to do now: each has one job at most.
-    pub fn jobs(&mut self, now: Instant) -> Vec<Job> {
+    /// What the workers are to do now, each one job at most: those of hooks, which have numbers from
+    /// 1 on, and that of files.
+    pub fn jobs(&mut self, now: Instant) -> Vec<(usize, Job)> {
         let mut jobs = Vec::new();
-        for at in 0..HOOKS {
-            let what = self.settles(at).or_else(|| self.runs(at));
-            jobs.extend(what.map(|what| {
-                let (config, taken) = (self.config.clone(), self.taken);
-                Job::Hook(at, hooks::Job { what, config, taken })
-            }));
+        // (marks may go where no file is put, so they come first)
+        for at in (0..=HOOKS).rev() {
+            let what = match at.checked_sub(1) {
+                Some(hook) => self.settles(hook).or_else(|| self.runs(hook)),
+                None => self.keeps(now),
+            };
+            let (config, taken) = (&self.config, self.taken);
+            jobs.extend(what.map(|what| (at, Job { what, config: config.clone(), taken })));
         }
-        jobs.extend(self.files_job(now).map(Job::Files));
         jobs
     }
 
     /// When there may be more to do although nothing comes.
     pub fn until(&self) -> Option<Instant> {
         let waits = self.turn.as_ref().map_or(self.rests, |turn| turn.waits);
-        waits.filter(|_| self.in_hand.is_none())
+        waits.filter(|_| !self.is_asked)
     }
 
-    /// Takes up what came of a job.
-    pub fn ended(&mut self, done: Done, now: Instant) {
-        match done {
-            Done::Hook(at, came) => self.came(at, came),
-            Done::Files(done, facts) => {
-                self.in_hand = None;
-                self.facts.extend(facts);
-                match done {
-                    files::Done::Marked(marked) => self.marked(marked),
-                    files::Done::Kept(kept, ended) => self.kept(kept, ended, now),
-                    files::Done::Rested => (),
-                }
+    /// Takes up what came of the job of a worker.
+    pub fn ended(&mut self, at: usize, done: Done, now: Instant) {
+        if let Some(hook) = at.checked_sub(1) {
+            return self.ran(hook, done);
+        }
+        self.is_asked = false;
+        match (done, self.turn.take()) {
+            (Done::Marked(files, is), Some(turn)) => self.marked(turn, files, is),
+            (Done::Refused(outcome), Some(turn)) => {
+                // (and it is looked at as a whole before a digest is known again)
+                (self.looks, self.digest) = (true, None);
+                self.report(MARKER, turn.first, outcome);
             }
+            (Done::Later(number), _) => self.is_behind(number),
+            (Done::Kept(kept, ended), Some(turn)) => self.kept(turn, kept, ended, now),
+            (Done::Rested(fact), _) => self.facts.extend(fact),
+            // (the memory is spoiled)
+            _ => (),
         }
     }
 
     /// What the worker of files is to do, if it is to do anything.
-    fn files_job(&mut self, now: Instant) -> Option<files::Job> {
-        if self.in_hand.is_some() {
+    fn keeps(&mut self, now: Instant) -> Option<What> {
+        if self.is_asked {
             return None;
         }
-        if let Some(turn) = &mut self.turn {
-            let settling = self.running.iter().flatten();
-            let settling = settling.filter(|it| matches!(it.step, Step::Settles));
-            let is_going = |key: &str| settling.clone().any(|it| it.has(key));
-            if turn.left.iter().take(PART).any(|(key, _)| is_going(key)) {
-                let until = now + UNMARKS;
-                let until = turn.waits.map_or(until, |at| at.min(until));
-                turn.waits = Some(until).filter(|until| now < *until);
-                if turn.waits.is_some() {
-                    return None;
-                }
+        let what = if let Some(turn) = &mut self.turn {
+            let settling = self.running.iter().flatten().filter(|it| it.step == Step::Settles);
+            let is_going = |key: &String| settling.clone().any(|it| it.keys.contains(key));
+            let until = turn.waits.map_or(now + UNMARKS, |at| at.min(now + UNMARKS));
+            if now < until && turn.left.iter().take(PART).any(|(key, _)| is_going(key)) {
+                turn.waits = Some(until);
+                return None;
             }
-            let part = turn.left.drain(..turn.left.len().min(PART)).collect();
-            let last = turn.left.is_empty().then(|| take(&mut turn.all));
-            let (config, looks) = (turn.config.clone(), turn.looks);
             turn.waits = None;
-            self.in_hand = Some(InHand::Files);
-            return Some(files::Job::Keep(Keep { part, config, looks, last }));
-        }
-        if !self.holds && !self.files.is_empty() {
-            self.in_hand = Some(InHand::NoFile);
-            return Some(files::Job::Mark(self.begins()));
-        }
-        self.rests = self.rests.map(|at| at.min(now + LISTS));
-        self.rests.take_if(|at| *at <= now)?;
-        self.in_hand = Some(InHand::NoFile);
-        Some(files::Job::Rest)
+            let part = turn.left.drain(..turn.left.len().min(PART)).collect();
+            What::Keep(part, turn.left.is_empty())
+        } else if !self.holds && !self.files.is_empty() {
+            What::Mark(self.begins())
+        } else {
+            self.rests.take_if(|at| *at <= now || *at > now + LISTS)?;
+            What::Rest
+        };
+        self.is_asked = true;
+        Some(what)
     }
 
     /// Begins to keep what waits.
@@ -456,27 +387,15 @@ impl Applier {
             looks,
             due: Due::of(self),
             left: VecDeque::new(),
-            all: Waiting::default(),
             waits: None,
-            mended: 0,
-            first_mended: String::new(),
+            mended: Vec::new(),
         });
         let lacks = self.failing.get(MARKER).cloned().filter(|_| !files.is_whole());
-        let (config, floor, taken) = (self.config.clone(), self.floor, self.taken);
-        Mark { files, floor, config, taken, looks, forgets, lacks }
+        Mark { files, floor: self.floor, looks, forgets, lacks }
     }
 
-    fn marked(&mut self, marked: Marked) {
-        let Some(mut turn) = self.turn.take() else { return };
-        let (mut files, all, is) = match marked {
-            Marked::Is { files, all, is } => (files, all, is),
-            Marked::IsLater(number) => return self.is_behind(number),
-            Marked::Not(outcome) => {
-                // (and it is looked at as a whole before a digest is known again)
-                (self.looks, self.digest) = (true, None);
-                return self.report(MARKER, turn.first, outcome);
-            }
-        };
+    /// The folder is marked: the files are to be kept.
+    fn marked(&mut self, mut turn: Turn, mut files: Waiting, is: Option<Identity>) {
         if self.failing.contains_key(MARKER) {
             self.report(MARKER, turn.first, Outcome::Done);
         }
@@ -497,17 +416,17 @@ impl Applier {
             }
         }
         if !self.forgets {
-            (turn.left, turn.all) = (files.in_order().into(), all);
+            turn.left = files.in_order().into();
         }
         self.turn = Some(turn);
     }
 
-    fn kept(&mut self, kept: Vec<Kept>, ended: Option<Ended>, now: Instant) {
-        let Some(mut turn) = self.turn.take() else { return };
+    /// Some files were kept, or the last ones, and all else that there is in the folder.
+    fn kept(&mut self, mut turn: Turn, kept: Vec<Kept>, ended: Option<Ended>, now: Instant) {
         for it in kept {
             self.kept_one(&mut turn, it);
         }
-        let Some(Ended { is, sum, whole, grouped }) = ended else {
+        let Some(Ended { is, sum, whole, grouped, facts }) = ended else {
             self.turn = Some(turn);
             return;
         };
@@ -517,10 +436,10 @@ impl Applier {
                 status => self.report(&key, sequence, status),
             }
         }
-        if turn.mended > 0 {
-            self.mended += turn.mended;
-            self.facts.push(Fact::Mended(turn.mended, turn.first_mended));
-        }
+        self.facts.extend(facts);
+        self.mended += turn.mended.len() as u64;
+        let first = turn.mended.first();
+        self.facts.extend(first.map(|it| Fact::Mended(turn.mended.len(), it.clone())));
         self.runs.values_mut().for_each(Runs::changed);
         if self.taken != is {
             // (what was put before that is gone)
@@ -535,59 +454,46 @@ impl Applier {
     fn kept_one(&mut self, turn: &mut Turn, kept: Kept) {
         let Kept { key, change, put, differs, done } = kept;
         if turn.looks && self.is_again && put && differs {
-            turn.mended += 1;
-            if turn.mended == 1 {
-                turn.first_mended.clone_from(&key);
-            }
+            turn.mended.push(key.clone());
         }
-        let work = turn.due.work(&key, differs);
-        if !work.own && work.hooks.is_empty() {
+        let (all, own, hooks) = turn.due.told(&key, differs);
+        if !own && hooks.is_empty() {
             return;
         }
-        if let Err(why) = done {
-            self.report(&key, change.last, Outcome::File(why));
-            self.due.insert(key);
+        if done.is_err() || self.forgets {
+            // (its file is not so, or those that are there are from later)
+            self.due.insert(key.clone());
+            let why = done.err().map(Outcome::File);
+            why.into_iter().for_each(|why| self.report(&key, change.last, why));
             return;
         }
-        if self.forgets {
-            // (the files are from later than its value)
-            self.due.insert(key);
-            return;
-        }
-        if work.all {
+        if all {
             self.due.remove(&key);
         }
-        for hook in work.hooks {
+        for hook in hooks {
             match self.runs.get_mut(hook) {
                 Some(runs) => runs.change(&key, &change),
                 // (there are others meanwhile)
                 None => drop(self.due.insert(key.clone())),
             }
         }
-        if work.own {
+        if own {
             self.failed.remove(&key);
             match turn.config.hook {
                 None => self.report(&key, change.last, Outcome::Done),
-                // (its value is alone already, where the file was put)
-                Some(_) if differs => self.hooks.put(&key, change),
-                Some(_) => self.hooks.put(&key, change.alone()),
+                Some(_) => self.hooks.put(&key, if differs { change } else { change.alone() }),
             }
         }
     }
 
-    // ---- Hooks
-
-    /// The keys of which no hook is due any more, where a hook has ended well and no file is put:
+    /// The keys of which no hook is due any more, where one has ended well and no file is put:
     /// their marks are to go. Without any, it is over.
     fn settles(&mut self, at: usize) -> Option<What> {
-        let it = self.running[at].as_ref().filter(|it| matches!(it.step, Step::Ended))?;
-        if self.in_hand == Some(InHand::Files) {
-            return None;
-        }
-        let keys = if self.is_gone(it) { Vec::new() } else { it.told.keys() };
-        let keys = keys.into_iter().filter(|key| self.lacking(key) <= 1).cloned();
-        let keys: Vec<String> = keys.collect();
-        let mut it = self.running[at].take()?;
+        let is_put = self.is_asked && self.turn.is_some();
+        let ended = |it: &mut Running| it.step == Step::Ended && !is_put;
+        let mut it = self.running[at].take_if(ended)?;
+        let keys = it.keys.iter().filter(|key| !self.is_gone(&it) && self.lacking(key) == 0);
+        let keys: Vec<String> = keys.cloned().collect();
         if keys.is_empty() {
             self.over(it, Outcome::Done);
             return None;
@@ -597,89 +503,82 @@ impl Applier {
         Some(What::Settle(keys))
     }
 
-    /// What a worker begins to run, where it has nothing to do.
+    /// What a worker of hooks begins to run, where it has nothing to do: one for many keys, and
+    /// else that of the oldest change whose key has none that runs.
     fn runs(&mut self, at: usize) -> Option<What> {
-        if self.running[at].is_none() {
-            self.running[at] = self.next_hook();
+        if self.running[at].is_some() {
+            return None;
         }
-        let it = self.running[at].as_mut().filter(|it| matches!(it.step, Step::Begins(_)))?;
-        match std::mem::replace(&mut it.step, Step::Runs) {
-            Step::Begins(what) => Some(what),
-            _ => None,
-        }
-    }
-
-    /// The hook that runs next: those for many keys, and else the oldest change first whose key has
-    /// none that runs.
-    fn next_hook(&mut self) -> Option<Running> {
         let running = || self.running.iter().flatten();
-        let is_free = |hook: &Hook| !running().any(|it| it.is_of(hook));
-        let many = self.runs.iter_mut().filter(|(hook, _)| is_free(hook));
-        let mut many = many.filter_map(|(hook, runs)| Some((hook, runs.begin()?)));
-        if let Some((hook, (keys, first, last))) = many.next() {
-            let step = Step::Begins(What::Many(hook.clone(), keys.clone(), last));
-            return Some(Running { told: Told::Many(hook.clone(), keys), first, last, step });
-        }
-        let one = |it: &Running, key: &str| matches!(&it.told, Told::One(own) if own == key);
-        let (key, change) = self.hooks.pop_of(|key| !running().any(|it| one(it, key)))?;
-        let (first, last) = (change.first, change.last);
-        let step = Step::Begins(What::One(key.clone(), change, self.floor));
-        Some(Running { told: Told::One(key), first, last, step })
+        let is_free = |hook: &Hook| !running().any(|it| it.hook.as_ref() == Some(hook));
+        let mut many = self.runs.iter_mut().filter(|(hook, _)| is_free(hook));
+        let many = many.find_map(|(hook, runs)| Some((hook, runs.begin()?)));
+        let (run, what) = if let Some((hook, (keys, first, last))) = many {
+            let what = What::Many(hook.clone(), keys.clone(), last);
+            (Running { hook: Some(hook.clone()), keys, first, last, step: Step::Runs }, what)
+        } else {
+            let has = |it: &Running, key: &str| it.hook.is_none() && it.keys.contains(key);
+            let (key, change) = self.hooks.pop_of(|key| !running().any(|it| has(it, key)))?;
+            let (keys, first, last) = ([key.clone()].into(), change.first, change.last);
+            let what = What::One(key, change, self.floor);
+            (Running { hook: None, keys, first, last, step: Step::Runs }, what)
+        };
+        self.running[at] = Some(run);
+        Some(what)
     }
 
     /// Takes up what came of what a worker of hooks did.
-    fn came(&mut self, at: usize, came: Came) {
+    fn ran(&mut self, at: usize, done: Done) {
         let Some(mut it) = self.running.get_mut(at).and_then(Option::take) else { return };
-        it.step = match (came, &it.told) {
-            (Came::Ran(Ok(())), _) => Step::Ended,
-            (Came::Ran(Err(why)), _) => return self.over(it, Outcome::Hook(why)),
-            (Came::Settled, _) => return self.over(it, Outcome::Done),
-            // (the number came meanwhile)
-            (Came::Newer(number, change), Told::One(key)) if !is_newer(number, self.floor) => {
-                Step::Begins(What::One(key.clone(), change, self.floor))
+        match done {
+            Done::Ran(Ok(())) => {
+                it.step = Step::Ended;
+                self.running[at] = Some(it);
             }
-            (Came::Newer(number, _), told) => {
+            Done::Ran(Err(why)) => self.over(it, Outcome::Hook(why)),
+            Done::Newer(number, _) if is_newer(number, self.floor) => {
                 // (its value is none of those that the files have)
-                self.due.extend(told.keys().into_iter().cloned());
-                return self.is_behind(number);
+                self.due.extend(it.keys);
+                self.is_behind(number);
             }
-        };
-        self.running[at] = Some(it);
+            Done::Newer(_, change) => {
+                // (that number came meanwhile: it is told then, or of what waits since)
+                for key in it.keys {
+                    let newer = self.hooks.pop_of(|it| it == key).map(|(_, newer)| newer);
+                    self.hooks.put(&key, change.clone());
+                    newer.into_iter().for_each(|newer| self.hooks.put(&key, newer));
+                }
+            }
+            _ => self.over(it, Outcome::Done),
+        }
     }
 
     /// A hook has ended, and nothing more is to be done for that.
     fn over(&mut self, it: Running, outcome: Outcome) {
         let failed = outcome != Outcome::Done;
         self.failures += u64::from(failed);
-        match it.told {
-            Told::One(key) => {
-                if failed {
-                    self.failed.insert(key.clone());
-                }
-                self.report(&key, it.last, outcome);
-            }
-            Told::Many(hook, keys) => {
-                // (else all hooks are told of them at the next round, and this one fails no more)
-                if let Some(runs) = self.runs.get_mut(&hook) {
-                    if failed {
-                        runs.due.extend(keys);
-                    }
-                    self.report(&hook.name(), it.last, outcome);
-                }
-            }
+        let key = || it.keys.first().cloned().unwrap_or_default();
+        let (name, due) = match &it.hook {
+            None => (key(), Some(&mut self.failed)),
+            // (else all hooks are told of them at the next round, and this one fails no more)
+            Some(hook) => (hook.name(), self.runs.get_mut(hook).map(|runs| &mut runs.due)),
+        };
+        if let Some(due) = due {
+            due.extend(it.keys.into_iter().filter(|_| failed));
+            self.report(&name, it.last, outcome);
         }
     }
 
     /// Whether the hook that runs is one that there is no more.
     fn is_gone(&self, it: &Running) -> bool {
-        matches!(&it.told, Told::Many(hook, _) if !self.runs.contains_key(hook))
+        it.hook.as_ref().is_some_and(|hook| !self.runs.contains_key(hook))
     }
 
     /// How many runs of hooks are for this key, those that go on and those that are to come.
     fn lacking(&self, key: &str) -> usize {
         let waits = self.hooks.has(key) || self.failed.contains(key);
         let running = self.running.iter().flatten();
-        let running = running.filter(|it| it.has(key) && !self.is_gone(it)).count();
+        let running = running.filter(|it| it.keys.contains(key) && !self.is_gone(it)).count();
         let runs = self.runs.values().filter(|it| it.lacks(key)).count();
         usize::from(waits) + usize::from(self.due.contains(key)) + running + runs
     }
@@ -760,11 +659,13 @@ impl Applier {
         self.whole.clone().filter(|_| self.digest.is_some() && !waits)
     }
 
-    /// Whether the worker of files has a job, and which of those of hooks have one.
-    pub fn asked(&self) -> (bool, [bool; HOOKS]) {
-        let is_asked = |it: &Running| matches!(it.step, Step::Runs | Step::Settles);
-        let hooks = self.running.each_ref().map(|it| it.as_ref().is_some_and(is_asked));
-        (self.in_hand.is_some(), hooks)
+    /// Which workers have a job.
+    pub fn asked(&self) -> [bool; 1 + HOOKS] {
+        let is_asked = |at: usize| match at.checked_sub(1) {
+            Some(at) => self.running[at].as_ref().is_some_and(|it| it.step != Step::Ended),
+            None => self.is_asked,
+        };
+        std::array::from_fn(is_asked)
     }
 
     /// What of its state cannot be, where something cannot: to be asked each second or two.

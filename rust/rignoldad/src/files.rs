@@ -2,12 +2,12 @@
 //! answers what each came to be. What follows from that, [the applier](crate::apply) decides.
 use crate::apply::{Applied, Fact, Outcome};
 use crate::config::Apply;
-use crate::consent::refused;
 use crate::digest::Digest;
 use crate::floor::{self, read_floor, Marker};
 use crate::folder::{unlink, Folder};
 use crate::hooks;
-use crate::others::Others;
+use crate::jobs::{Done, Ended, Kept, Mark};
+use crate::others::{refused, Others};
 use crate::place::{has_mount, Identity, Place};
 use rignolda::settings::{parts, shown, Change, Waiting, VALUE_BYTES};
 use rignolda_tls::moved_aside;
@@ -15,7 +15,8 @@ use rignoldactl::source::{read_folder, read_plain};
 use std::collections::BTreeMap;
 use std::fs;
 use std::io;
-use std::path::{Path, PathBuf};
+use std::mem::take;
+use std::path::Path;
 use std::sync::Arc;
 
 /// The folder of values as they were published, of keys that have one for some group; and their
@@ -24,79 +25,6 @@ pub const GROUPS: &str = ".groups";
 const GROUPS_MODE: u32 = 0o600;
 /// The file that says that a folder is an agent's, and up to which number its files are.
 pub const MARKER: &str = ".rignolda";
-/// What is to be done. Before files are kept, the folder is marked.
-#[derive(Debug)]
-pub enum Job {
-    Mark(Mark),
-    Keep(Keep),
-    /// Nothing came for a while.
-    Rest,
-}
-
-/// Opens the folder, and says there up to which number its files are about to be.
-#[derive(Debug)]
-pub struct Mark {
-    pub files: Waiting,
-    pub floor: u64,
-    pub config: Arc<Apply>,
-    /// Which folder is the agent's own.
-    pub taken: Option<Identity>,
-    /// Whether all files are looked at; and whether what is known of them is forgotten first.
-    pub looks: bool,
-    pub forgets: bool,
-    /// Why nothing is to be kept, if the folder itself is no reason.
-    pub lacks: Option<Outcome>,
-}
-
-/// Makes some files what they should be. At last it is given what is kept beside them.
-#[derive(Debug)]
-pub struct Keep {
-    pub part: Vec<(String, Change)>,
-    pub config: Arc<Apply>,
-    pub looks: bool,
-    pub last: Option<Waiting>,
-}
-
-/// What came of a job.
-#[derive(Debug)]
-pub enum Done {
-    Marked(Marked),
-    Kept(Vec<Kept>, Option<Ended>),
-    Rested,
-}
-
-/// What came of it that a folder was to be marked.
-#[derive(Debug)]
-pub enum Marked {
-    /// It is this one. What is to be kept is known: the files, and what is beside them.
-    Is { files: Waiting, all: Waiting, is: Option<Identity> },
-    Not(Outcome),
-    /// Its files are from a later body, of this number.
-    IsLater(u64),
-}
-
-/// What a file came to be.
-#[derive(Debug)]
-pub struct Kept {
-    pub key: String,
-    pub change: Change,
-    /// Whether its value is the one that was put last; and whether the file was not so.
-    pub put: bool,
-    pub differs: bool,
-    pub done: Result<(), String>,
-}
-
-/// What the folder is once all files were kept.
-#[derive(Debug)]
-pub struct Ended {
-    pub is: Option<Identity>,
-    /// The digest of the files, as far as they were looked at; and that of all, if it is known.
-    pub sum: u64,
-    pub whole: Option<String>,
-    /// What came of values as they are published.
-    pub grouped: Vec<Applied>,
-}
-
 /// The number up to which the files are, as an earlier life left them.
 pub fn floor(config: &Apply) -> u64 {
     read_floor(&config.folder.join(MARKER))
@@ -129,6 +57,10 @@ pub struct Files {
     marker: Marker,
     /// The folder of values as they are published.
     grouped: Folder,
+    /// How files are kept now, whether all are looked at, and those values.
+    config: Arc<Apply>,
+    looks: bool,
+    all: Waiting,
     /// The digest of the files that were kept since all were looked at; and, where these may be
     /// promoted, that of the values as they are published.
     digest: Digest,
@@ -140,11 +72,14 @@ pub struct Files {
 }
 
 impl Files {
-    pub fn new(folder: PathBuf) -> Files {
+    pub fn new(folder: &Path) -> Files {
         Files {
-            grouped: Folder::new(folder.join(GROUPS)),
-            folder: Folder::new(folder),
+            folder: Folder::new(folder.into()),
             marker: Marker::default(),
+            grouped: Folder::new(folder.join(GROUPS)),
+            config: Arc::default(),
+            looks: false,
+            all: Waiting::default(),
             digest: Digest::default(),
             of_grouped: None,
             others: Others::default(),
@@ -153,32 +88,20 @@ impl Files {
         }
     }
 
-    /// Does a job: what came of it, and what there is to be said.
-    pub fn work(&mut self, job: Job) -> (Done, Vec<Fact>) {
-        let done = match job {
-            Job::Mark(it) => {
-                let marked = self.mark(it);
-                if !matches!(marked, Marked::Is { .. }) {
-                    self.folder.close();
-                    self.marker.close();
-                }
-                Done::Marked(marked)
-            }
-            Job::Keep(Keep { part, config, looks, last }) => {
-                let keep = |(key, change)| self.keep(&config, key, change, looks);
-                let kept = part.into_iter().map(keep).collect();
-                Done::Kept(kept, last.map(|all| self.ends(&config, all, looks)))
-            }
-            Job::Rest => {
-                self.rest();
-                Done::Rested
-            }
-        };
-        (done, std::mem::take(&mut self.facts))
+    /// Opens the folder, and marks it. Files are kept in it then, unless it is refused.
+    pub fn begins(&mut self, mark: Mark, config: Arc<Apply>, taken: Option<Identity>) -> Done {
+        let done = self.mark(mark, config, taken);
+        if !matches!(done, Done::Marked(..)) {
+            self.folder.close();
+            self.marker.close();
+        }
+        done
     }
 
-    fn mark(&mut self, mark: Mark) -> Marked {
-        let Mark { files, floor, config, taken, mut looks, forgets, lacks } = mark;
+    fn mark(&mut self, mark: Mark, config: Arc<Apply>, taken: Option<Identity>) -> Done {
+        let Mark { files, floor, looks, forgets, lacks } = mark;
+        (self.config, self.looks) = (config, looks);
+        let config = self.config.clone();
         if self.folder.path() != config.folder {
             // (the memory is spoiled)
             self.folder = Folder::new(config.folder.clone());
@@ -186,10 +109,11 @@ impl Files {
             self.grouped = Folder::new(config.folder.join(GROUPS));
         }
         if forgets {
-            self.forget(&config);
+            self.forget();
             (self.digest, self.of_grouped) = (Digest::default(), None);
         }
-        let (mut files, all) = files.of_groups(&config.groups);
+        let mut files = files;
+        (files, self.all) = files.of_groups(&config.groups);
         // (until it is the agent's, nothing in it is touched; the next table sets all then)
         let refused = match self.folder.open() {
             Err(error) => Some(error.to_string()),
@@ -198,36 +122,45 @@ impl Files {
         };
         // (what came while it was refused was dropped, so a change alone is not enough)
         if let Some(why) = refused.map(Outcome::File).or(lacks) {
-            return Marked::Not(why);
+            return Done::Refused(why);
         }
         // (else older ones could follow what is written now, by a process that is ended meanwhile)
         match self.says(floor, files.is_whole()) {
             Ok(None) => (),
-            Ok(Some(number)) => return Marked::IsLater(number),
-            Err(error) => return Marked::Not(Outcome::File(error.to_string())),
+            Ok(Some(number)) => return Done::Later(number),
+            Err(error) => return Done::Refused(Outcome::file(&error)),
         }
         if taken != self.folder.is() {
             // (of another folder nothing is known, and a change alone does not make it right)
             // (what is in it is as much its own, values for groups too)
-            self.forget(&config);
-            looks = true;
+            self.forget();
+            self.looks = true;
         }
         if files.is_whole() {
             // (a folder in it is no setting, and may be somebody's)
-            files.unset_others(if looks { self.folder.names() } else { self.folder.keys() });
-            if looks {
+            files.unset_others(self.there(&self.folder));
+            if self.looks {
                 self.digest = Digest::default();
                 // (what cannot be so is seen by whoever cannot list it)
                 let _ = self.folder.is_listed_by_readers(config.mode);
             }
         }
-        Marked::Is { files, all, is: self.folder.is() }
+        Done::Marked(files, self.folder.is())
     }
 
     /// Nothing is known of what is in the folder.
-    fn forget(&mut self, config: &Apply) {
+    fn forget(&mut self) {
         self.folder.forget();
-        self.grouped = Folder::new(config.folder.join(GROUPS));
+        self.grouped = Folder::new(self.folder.path().join(GROUPS));
+    }
+
+    /// The files of a folder that a table may unset.
+    fn there(&self, folder: &Folder) -> Vec<String> {
+        if self.looks {
+            folder.names()
+        } else {
+            folder.keys()
+        }
     }
 
     /// Says in the folder that it is an agent's, and up to which number its files will be; and so
@@ -249,22 +182,22 @@ impl Files {
 
     /// Makes one file what it should be, where it differs: before that, a mark says that its hooks
     /// are due.
-    fn keep(&mut self, config: &Apply, key: String, mut change: Change, looks: bool) -> Kept {
-        let (folder, value) = (&mut self.folder, change.value.as_deref());
+    pub fn keep(&mut self, key: String, mut change: Change) -> Kept {
+        let Files { folder, digest, config, looks, .. } = self;
+        let value = change.value.as_deref();
         let put = value.map_or(!folder.knows(&key), |value| folder.had(&key, value));
-        let had = !looks && value.is_some() && put;
+        let had = !*looks && value.is_some() && put;
         let differs = !had && folder.differs(&key, value, config.mode);
         let is_told = || config.hook.is_some() || config.hooks.iter().any(|it| it.is_for(&key));
-        let announced =
-            if differs && is_told() { hooks::announce(folder.at(), &key) } else { Ok(()) };
-        let done = match announced {
-            Ok(()) if differs => folder.put(&key, value, config.mode),
-            announced => announced.map(|()| true),
-        };
+        let mut done = Ok(true);
+        if differs {
+            let announced = if is_told() { hooks::announce(folder.at(), &key) } else { Ok(()) };
+            done = announced.and_then(|()| folder.put(&key, value, config.mode));
+        }
         match value {
-            _ if differs && !matches!(done, Ok(true)) => see(&mut self.digest, folder, &key),
-            Some(value) if !had => self.digest.set(&key, Some(value)),
-            None => self.digest.unset(&key),
+            _ if differs && !matches!(done, Ok(true)) => see(digest, folder, &key),
+            Some(value) if !had => digest.set(&key, Some(value)),
+            None => digest.unset(&key),
             _ => (),
         }
         if differs && config.hook.is_some() {
@@ -275,37 +208,40 @@ impl Files {
     }
 
     /// All files were kept: so are the values as they are published.
-    fn ends(&mut self, config: &Apply, all: Waiting, looks: bool) -> Ended {
-        let is_whole = all.is_whole();
-        if !config.may_be_root {
+    pub fn ends(&mut self) -> Ended {
+        let is_whole = self.all.is_whole();
+        if !self.config.may_be_root {
             self.of_grouped = None;
-        } else if is_whole && looks {
+        } else if is_whole && self.looks {
             self.of_grouped = Some(Digest::default());
         }
-        let grouped = self.keep_grouped(all, looks);
-        if looks {
+        let grouped = self.keep_grouped();
+        if self.looks {
             self.facts.extend(self.others.may_say(&self.folder, is_whole));
         }
         self.may_go = true;
         self.folder.close();
         let whole = self.of_grouped.as_ref().map(|it| self.digest.whole(it));
-        Ended { is: self.folder.is(), sum: self.digest.sum, whole, grouped }
+        let (is, sum, facts) = (self.folder.is(), self.digest.sum, take(&mut self.facts));
+        Ended { is, sum, whole, grouped, facts }
     }
 
-    /// Leaves nothing open, and does what may wait.
-    fn rest(&mut self) {
+    /// Leaves nothing open, and does what may wait: what there is to be said.
+    pub fn rest(&mut self) -> Option<Fact> {
         self.marker.close();
-        self.facts.extend(self.others.say_if_due(&self.folder));
-        if std::mem::take(&mut self.may_go) {
+        let fact = self.others.say_if_due(&self.folder);
+        if take(&mut self.may_go) {
             self.folder.begins_again();
         }
+        fact
     }
 
     /// Opens the folder of values as they are published, where it is there or one is to be put;
     /// whether there is one. One that has no marker is the agent's where it was there when that
     /// took the folder around it, and is no mount, or where it has nothing else than these values.
-    fn open_grouped(&mut self, all: &Waiting) -> io::Result<bool> {
-        let (folder, at) = (&mut self.grouped, self.folder.at().join(GROUPS));
+    fn open_grouped(&mut self) -> io::Result<bool> {
+        let Files { grouped: folder, all, .. } = self;
+        let at = self.folder.at().join(GROUPS);
         let place = match Place::open_itself(&at) {
             Err(_) if !all.sets() => return Ok(false),
             Err(_) => {
@@ -329,7 +265,7 @@ impl Files {
                 let to = to.file_name().unwrap_or_default().to_string_lossy().into_owned();
                 self.facts.push(Fact::Aside(to));
                 folder.leave(None);
-                return self.open_grouped(all);
+                return self.open_grouped();
             }
             folder.forget();
             folder.begins()?;
@@ -339,29 +275,27 @@ impl Files {
 
     /// Keeps values as they are published, of keys that have one for some group, and the digest of
     /// these, if there is one and they could be kept: what came of each.
-    fn keep_grouped(&mut self, mut all: Waiting, looks: bool) -> Vec<Applied> {
-        let (was, sequence) = (self.grouped.is(), all.first().unwrap_or(0));
-        let opened = self.open_grouped(&all);
+    fn keep_grouped(&mut self) -> Vec<Applied> {
+        let (was, sequence) = (self.grouped.is(), self.all.first().unwrap_or(0));
+        let opened = self.open_grouped();
+        let mut all = take(&mut self.all);
         let status = opened.as_ref().map_or_else(Outcome::file, |_| Outcome::Done);
         let mut came = vec![Applied { key: GROUPS.into(), sequence, status }];
-        match opened {
-            Ok(true) => (),
-            Ok(false) => return came,
-            Err(_) => {
-                self.grouped.leave(was);
-                self.of_grouped = None;
-                return came;
-            }
+        if opened.is_err() {
+            self.grouped.leave(was);
+            self.of_grouped = None;
         }
-        let folder = &mut self.grouped;
+        if !opened.unwrap_or(false) {
+            return came;
+        }
         if all.is_whole() {
-            let there = if looks { folder.names() } else { folder.keys() };
-            all.unset_others(there);
+            all.unset_others(self.there(&self.grouped));
         }
-        let mut is_kept = true;
+        let (mut is_kept, folder) = (true, &mut self.grouped);
         for (key, change) in all.in_order() {
             let value = change.value.as_deref();
-            let had = !looks && value.map_or(!folder.knows(&key), |value| folder.had(&key, value));
+            let put = value.map_or(!folder.knows(&key), |value| folder.had(&key, value));
+            let had = !self.looks && put;
             let differs = !had && folder.differs(&key, value, GROUPS_MODE);
             let kept = if differs { folder.put(&key, value, GROUPS_MODE) } else { Ok(true) };
             match (self.of_grouped.as_mut(), value) {

@@ -7,7 +7,7 @@ use crate::files::MARKER;
 use crate::floor::read_floor;
 use crate::folder::{remove, unlink, Folder};
 use crate::place::{Identity, Place};
-use rignolda::settings::{is_key, is_newer, older, Change, Waiting};
+use rignolda::settings::{is_key, older, Change, Waiting};
 use std::collections::BTreeSet;
 use std::fs::{self, File, OpenOptions};
 use std::io::{self, Seek, Write};
@@ -15,7 +15,6 @@ use std::os::unix::fs::OpenOptionsExt;
 use std::path::{Path, PathBuf};
 use std::process::{Command, Stdio};
 use std::sync::atomic::{AtomicU64, Ordering};
-use std::sync::Arc;
 use std::time::Duration;
 
 /// The folder of the keys whose hooks are due, in the folder of the settings.
@@ -44,77 +43,38 @@ impl Hook {
     }
 
     /// Runs it to its end for these keys, of which the last change has this number.
-    fn run(&self, at: &House, keys: &BTreeSet<String>, number: u64) -> Result<(), String> {
+    pub fn run(&self, at: &House, keys: &BTreeSet<String>, number: u64) -> Result<(), String> {
         let names: String = keys.iter().flat_map(|key| [key, "\n"]).collect();
         let mut command = command(&self.run, self.timeout, at.folder, number);
         finished(command.current_dir(at.folder).stdin(at.given(names.as_bytes())?))
     }
 }
 
-/// What a worker of hooks is to do, as this is configured, and where a folder is the agent's own.
+/// Where a hook runs: the folder, as it is named, and itself while it is the agent's own.
 #[derive(Debug)]
-pub struct Job {
-    pub what: What,
-    pub config: Arc<Apply>,
-    pub taken: Option<Identity>,
-}
-
-#[derive(Debug)]
-pub enum What {
-    /// To tell the hook of a change; unless the files are from a later body than this number.
-    One(String, Change, u64),
-    /// To tell one of keys that changed together, of which the last has this number.
-    Many(Hook, BTreeSet<String>, u64),
-    /// To take back that hooks of these keys are due.
-    Settle(Vec<String>),
-}
-
-/// What came of it.
-#[derive(Debug)]
-pub enum Came {
-    Ran(Result<(), String>),
-    /// The hook was told nothing: the files are from a body of this number.
-    Newer(u64, Change),
-    Settled,
-}
-
-/// Does what a worker is to do, to its end.
-pub fn work(Job { what, config, taken }: Job) -> Came {
-    // (the folder, as long as the one at its place is the agent's own)
-    let place = taken.and_then(|taken| {
-        Place::open(&config.folder).ok().filter(|it| it.is() == taken)
-    });
-    let own = place.as_ref().map(Place::at);
-    let house = House { folder: &config.folder, own };
-    match what {
-        What::One(key, change, floor) => {
-            match own.map_or(0, |own| read_floor(&own.join(MARKER))) {
-                number if is_newer(number, floor) => Came::Newer(number, change),
-                _ => Came::Ran(run(&house, &config, &key, &change)),
-            }
-        }
-        What::Many(hook, keys, last) => Came::Ran(hook.run(&house, &keys, last)),
-        What::Settle(keys) => {
-            own.iter().for_each(|own| keys.iter().for_each(|key| settle(own, key)));
-            Came::Settled
-        }
-    }
-}
-
-/// Where a hook runs: the folder, as it is named, and a path to it while it is the agent's own.
-#[derive(Debug)]
-struct House<'a> {
+pub struct House<'a> {
     folder: &'a Path,
-    own: Option<&'a Path>,
+    own: Option<Place>,
 }
 
-impl House<'_> {
+impl<'a> House<'a> {
+    /// The folder at this path, which is the agent's own where it is this one.
+    pub fn new(folder: &'a Path, taken: Option<Identity>) -> House<'a> {
+        let own = taken.and_then(|_| Place::open(folder).ok());
+        House { folder, own: own.filter(|it| Some(it.is()) == taken) }
+    }
+
+    /// The number up to which its files are.
+    pub fn floor(&self) -> u64 {
+        self.own.as_ref().map_or(0, |own| read_floor(&own.at().join(MARKER)))
+    }
+
     /// These bytes as an input. (It is a file and not a pipe, since a hook need not read it.)
     fn given(&self, bytes: &[u8]) -> Result<Stdio, String> {
         static COUNT: AtomicU64 = AtomicU64::new(0);
-        let own = self.own.ok_or("its input: the folder is gone, or another one")?;
+        let own = self.own.as_ref().ok_or("its input: the folder is gone, or another one")?;
         let name = format!("{INPUT}{}", COUNT.fetch_add(1, Ordering::Relaxed));
-        let input = input(&own.join(name), bytes);
+        let input = input(&own.at().join(name), bytes);
         input.map(Stdio::from).map_err(|e| format!("its input: {e}"))
     }
 }
@@ -181,7 +141,7 @@ impl Runs {
 }
 
 /// Runs the hook of a change to its end, or until its time is up.
-fn run(at: &House, config: &Apply, key: &str, change: &Change) -> Result<(), String> {
+pub fn run(at: &House, config: &Apply, key: &str, change: &Change) -> Result<(), String> {
     let Some(hook) = &config.hook else { return Ok(()) };
     let input = match change.value.as_deref() {
         None => Stdio::null(),
@@ -258,10 +218,11 @@ pub fn announce(folder: &Path, key: &str) -> io::Result<()> {
     Ok(())
 }
 
-/// Takes back that hooks of this key are due. What else has that name stays.
-fn settle(folder: &Path, key: &str) {
-    let path = pending(folder).ok().flatten().map(|it| it.join(key));
-    if let Some(path) = path.filter(|path| is(path, |it| it.is_file() && it.len() == 0)) {
+/// Takes back that hooks of these keys are due. What else has such a name stays.
+pub fn settle(at: &House, keys: &[String]) {
+    let pending = at.own.as_ref().and_then(|own| pending(own.at()).ok().flatten());
+    let paths = pending.iter().flat_map(|it| keys.iter().map(|key| it.join(key)));
+    for path in paths.filter(|path| is(path, |it| it.is_file() && it.len() == 0)) {
         let _ = fs::remove_file(path);
     }
 }

@@ -1,11 +1,14 @@
 //! The threads that keep files and run hooks: each does one job of [the applier](Applier) after the
 //! other, as it is told, and wakes the loop when it has done one.
-use crate::apply::{Applier, Done, Fact, Job, HOOKS};
+use crate::apply::{Applier, HOOKS};
 use crate::config::Apply;
-use crate::files::{self, Files};
-use crate::hooks;
+use crate::files::Files;
+use crate::hooks::{self, House};
+use crate::jobs::{Done, Job, What};
 use rignolda::net::Worker;
+use rignolda::settings::is_newer;
 use std::io;
+use std::path::PathBuf;
 use std::sync::Arc;
 use std::thread::Builder;
 use std::time::Instant;
@@ -16,49 +19,39 @@ const STACK_BYTES: usize = 16 << 20;
 /// Wakes the loop.
 pub type Wake = Arc<dyn Fn() + Send + Sync>;
 
-/// The workers of an applier. An agent without hooks has none for these, since they take memory.
+/// The workers of an applier: first that of files. Those of hooks take memory, so an agent without
+/// hooks has none.
 pub struct Workers {
-    files: Worker<files::Job, (files::Done, Vec<Fact>)>,
-    hooks: Vec<Worker<hooks::Job, hooks::Came>>,
+    all: Vec<Worker<Job, Done>>,
+    folder: PathBuf,
     wake: Wake,
-}
-
-fn start<J: Send + 'static, D: Send + 'static>(
-    name: &str,
-    work: impl FnMut(J) -> D + Send + 'static,
-    wake: &Wake,
-) -> io::Result<Worker<J, D>> {
-    let (thread, wake) = (Builder::new().name(name.into()).stack_size(STACK_BYTES), wake.clone());
-    Worker::start_as(thread, work, move || wake())
 }
 
 impl Workers {
     /// Starts the threads. Where one cannot be started, the others end, and nothing was done.
     pub fn new(config: &Apply, wake: Wake) -> io::Result<Workers> {
-        let mut files = Files::new(config.folder.clone());
-        let files = start("files", move |job| files.work(job), &wake)?;
-        let mut workers = Workers { files, hooks: Vec::new(), wake };
-        if config.hook.is_some() || !config.hooks.is_empty() {
-            workers.start_hooks()?;
-        }
+        let mut workers = Workers { all: Vec::new(), folder: config.folder.clone(), wake };
+        let has_hooks = config.hook.is_some() || !config.hooks.is_empty();
+        workers.start(if has_hooks { 1 + HOOKS } else { 1 })?;
         Ok(workers)
     }
 
-    fn start_hooks(&mut self) -> io::Result<()> {
-        while self.hooks.len() < HOOKS {
-            self.hooks.push(start("hooks", hooks::work, &self.wake)?);
+    fn start(&mut self, count: usize) -> io::Result<()> {
+        while self.all.len() < count {
+            let name = if self.all.is_empty() { "files" } else { "hooks" };
+            let thread = Builder::new().name(name.into()).stack_size(STACK_BYTES);
+            let (mut files, wake) = (Files::new(&self.folder), self.wake.clone());
+            let worker = Worker::start_as(thread, move |job| work(&mut files, job), move || wake());
+            self.all.push(worker?);
         }
         Ok(())
     }
 
     /// Has what came of jobs taken up, and begins those that follow.
     pub fn go_on(&mut self, applier: &mut Applier, now: Instant) {
-        while let Some((done, facts)) = self.files.done() {
-            applier.ended(Done::Files(done, facts), now);
-        }
-        for (at, worker) in self.hooks.iter().enumerate() {
-            while let Some(came) = worker.done() {
-                applier.ended(Done::Hook(at, came), now);
+        for (at, worker) in self.all.iter().enumerate() {
+            while let Some(done) = worker.done() {
+                applier.ended(at, done, now);
             }
         }
         self.begin(applier, now);
@@ -66,16 +59,13 @@ impl Workers {
 
     /// Begins the jobs that there are now.
     pub fn begin(&mut self, applier: &mut Applier, now: Instant) {
-        for job in applier.jobs(now) {
-            match job {
-                Job::Files(job) => self.files.begin(job),
-                Job::Hook(at, job) => {
-                    // (the first hook may have come since; where nobody can run it, it is seen)
-                    let _ = self.start_hooks();
-                    if let Some(it) = self.hooks.get(at) {
-                        it.begin(job);
-                    }
-                }
+        for (at, job) in applier.jobs(now) {
+            if at > 0 {
+                // (the first hook may have come since; where nobody can run it, that is seen)
+                let _ = self.start(1 + HOOKS);
+            }
+            if let Some(worker) = self.all.get(at) {
+                worker.begin(job);
             }
         }
     }
@@ -83,15 +73,37 @@ impl Workers {
     /// What of them is not as the applier has it, where something is not: to be asked each second
     /// or two.
     pub fn fault(&self, applier: &Applier) -> Option<&'static str> {
-        let (files, hooks) = applier.asked();
-        if !self.files.is_asked(u32::from(files)) {
-            return Some("nobody applies settings");
-        }
-        let fault = |(at, is_asked): (usize, bool)| {
-            let count = u32::from(is_asked);
-            let is_so = self.hooks.get(at).map_or(!is_asked, |it| it.is_asked(count));
-            (!is_so).then_some("a hook runs that no thread runs")
+        let is_so = |(at, is_asked): (usize, bool)| {
+            self.all.get(at).map_or(!is_asked, |it| it.is_asked(u32::from(is_asked)))
         };
-        hooks.into_iter().enumerate().find_map(fault)
+        match applier.asked().into_iter().enumerate().position(|it| !is_so(it))? {
+            0 => Some("nobody applies settings"),
+            _ => Some("a hook runs that no thread runs"),
+        }
+    }
+}
+
+/// Does a job to its end.
+fn work(files: &mut Files, Job { what, config, taken }: Job) -> Done {
+    let house = || House::new(&config.folder, taken);
+    match what {
+        What::Mark(mark) => files.begins(mark, config, taken),
+        What::Keep(part, is_last) => {
+            let kept = part.into_iter().map(|(key, change)| files.keep(key, change)).collect();
+            Done::Kept(kept, is_last.then(|| files.ends()))
+        }
+        What::Rest => Done::Rested(files.rest()),
+        What::One(key, change, floor) => {
+            let house = house();
+            match house.floor() {
+                number if is_newer(number, floor) => Done::Newer(number, change),
+                _ => Done::Ran(hooks::run(&house, &config, &key, &change)),
+            }
+        }
+        What::Many(hook, keys, last) => Done::Ran(hook.run(&house(), &keys, last)),
+        What::Settle(keys) => {
+            hooks::settle(&house(), &keys);
+            Done::Settled
+        }
     }
 }
