@@ -312,7 +312,7 @@ impl Applier {
     pub fn jobs(&mut self, now: Instant) -> Vec<(usize, Job)> {
         let mut jobs = Vec::new();
         // (marks may go where no file is put, so they come first)
-        for at in (0..=HOOKS).rev() {
+        for at in (1..=HOOKS).chain([0]) {
             let what = match at.checked_sub(1) {
                 Some(hook) => self.settles(hook).or_else(|| self.runs(hook)),
                 None => self.keeps(now),
@@ -492,7 +492,7 @@ impl Applier {
         let is_put = self.is_asked && self.turn.is_some();
         let ended = |it: &mut Running| it.step == Step::Ended && !is_put;
         let mut it = self.running[at].take_if(ended)?;
-        let keys = it.keys.iter().filter(|key| !self.is_gone(&it) && self.lacking(key) == 0);
+        let keys = it.keys.iter().filter(|key| !self.is_gone(&it) && !self.lacks(key));
         let keys: Vec<String> = keys.cloned().collect();
         if keys.is_empty() {
             self.over(it, Outcome::Done);
@@ -574,13 +574,14 @@ impl Applier {
         it.hook.as_ref().is_some_and(|hook| !self.runs.contains_key(hook))
     }
 
-    /// How many runs of hooks are for this key, those that go on and those that are to come.
-    fn lacking(&self, key: &str) -> usize {
-        let waits = self.hooks.has(key) || self.failed.contains(key);
-        let running = self.running.iter().flatten();
-        let running = running.filter(|it| it.keys.contains(key) && !self.is_gone(it)).count();
-        let runs = self.runs.values().filter(|it| it.lacks(key)).count();
-        usize::from(waits) + usize::from(self.due.contains(key)) + running + runs
+    /// Whether some run of a hook is for this key, one that goes on or is to come.
+    fn lacks(&self, key: &str) -> bool {
+        let all = [&self.failed, &self.due];
+        let mut running = self.running.iter().flatten().filter(|it| it.step != Step::Settles);
+        self.hooks.has(key)
+            || all.iter().any(|it| it.contains(key))
+            || self.runs.values().any(|it| it.lacks(key))
+            || running.any(|it| it.keys.contains(key) && !self.is_gone(it))
     }
 
     /// The oldest number of which hooks are still to be told.
@@ -699,5 +700,34 @@ impl Applier {
     /// How many files somebody else had changed and were put again, since the start.
     pub fn mended(&self) -> u64 {
         self.mended
+    }
+}
+
+#[cfg(test)]
+mod tests {
+    use super::*;
+    use crate::workers::Workers;
+
+    /// After a fault of the memory; else what fails is there.
+    #[test]
+    fn what_no_table_and_no_file_has_fails_no_more() {
+        let folder = std::env::temp_dir().join(format!("rignoldad-failing-{}", std::process::id()));
+        let config = Apply { folder: folder.clone(), mode: 0o640, ..Apply::default() };
+        let mut applier = Applier::new(&config, BTreeSet::new());
+        let mut workers = Workers::new(&config, Arc::new(|| ())).unwrap();
+        applier.failing.insert("junk".into(), Outcome::File("it is spoilt".into()));
+        assert_eq!(applier.failing(), 1);
+        let heard = Heard { takes: true, applies: true, looks: true, ..Heard::default() };
+        let table = Meaning::Table(vec![("a", Some(b"1"))]);
+        assert!(applier.take(&table, 1, heard));
+        let end = Instant::now() + Duration::from_secs(60);
+        while applier.applied(1) != 1 {
+            assert!(Instant::now() < end, "it is not applied in a minute");
+            workers.go_on(&mut applier, Instant::now());
+            std::thread::sleep(Duration::from_millis(2));
+        }
+        assert_eq!(applier.failing(), 0);
+        drop(workers);
+        std::fs::remove_dir_all(folder).unwrap();
     }
 }
