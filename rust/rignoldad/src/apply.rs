@@ -22,12 +22,10 @@
 //! is known of one folder alone, and not of what comes to its place: each body is applied in a
 //! folder that is held open.
 use crate::config::{is_key, Apply};
-use crate::files::MARKER;
-pub use crate::files::{beside, GROUPS};
+pub use crate::files::{beside, refusal, GROUPS};
+use crate::files::{LISTS, MARKER};
 use crate::hooks::{Hook, Runs};
 use crate::jobs::{Done, Ended, Job, Kept, Mark, What};
-pub use crate::others::refusal;
-use crate::others::LISTS;
 use crate::place::Identity;
 use rignolda::settings::{is_newer, older, Change, Heard, Meaning, Waiting, SETTINGS};
 use std::collections::{BTreeMap, BTreeSet, VecDeque};
@@ -164,7 +162,6 @@ struct Turn {
     first: u64,
     config: Arc<Apply>,
     looks: bool,
-    due: Due,
     /// Those that are left; and until when they wait for marks that are going.
     left: VecDeque<(String, Change)>,
     waits: Option<Instant>,
@@ -190,34 +187,6 @@ enum Step {
     Ended,
     /// The marks of its keys are going.
     Settles,
-}
-
-/// Which hooks are due of keys whose files may be right.
-#[derive(Debug)]
-struct Due {
-    all: BTreeSet<String>,
-    own: BTreeSet<String>,
-    runs: BTreeMap<Hook, BTreeSet<String>>,
-}
-
-impl Due {
-    fn of(applier: &Applier) -> Due {
-        let runs = applier.runs.iter().map(|(hook, it)| (hook.clone(), it.due.clone()));
-        Due { all: applier.due.clone(), own: applier.failed.clone(), runs: runs.collect() }
-    }
-
-    fn keys(&self) -> impl Iterator<Item = String> + '_ {
-        self.all.iter().chain(&self.own).chain(self.runs.values().flatten()).cloned()
-    }
-
-    /// Whether all hooks are told of a key, and its own; and which are of the others.
-    fn told(&self, key: &str, differs: bool) -> (bool, bool, Vec<&Hook>) {
-        let all = differs || self.all.contains(key);
-        let is_told =
-            |(hook, due): &(&Hook, &BTreeSet<String>)| due.contains(key) || all && hook.is_for(key);
-        let hooks = self.runs.iter().filter(is_told).map(|(hook, _)| hook);
-        (all, all || self.own.contains(key), hooks.collect())
-    }
 }
 
 impl Applier {
@@ -385,7 +354,6 @@ impl Applier {
             first: files.first().unwrap_or(0),
             config: self.config.clone(),
             looks,
-            due: Due::of(self),
             left: VecDeque::new(),
             waits: None,
             mended: Vec::new(),
@@ -405,7 +373,9 @@ impl Applier {
             self.looks |= !files.is_whole();
         }
         if files.is_whole() {
-            files.unset_others(turn.due.keys());
+            let runs = self.runs.values().map(|it| &it.due);
+            let due = [&self.due, &self.failed].into_iter().chain(runs);
+            files.unset_others(due.flatten().cloned());
             if turn.looks {
                 // (of what no table and no file has nothing fails any more)
                 self.failing.retain(|name, _| !is_key(name) || files.has(name));
@@ -456,7 +426,12 @@ impl Applier {
         if turn.looks && self.is_again && put && differs {
             turn.mended.push(key.clone());
         }
-        let (all, own, hooks) = turn.due.told(&key, differs);
+        // (also where the file is right, hooks of its key may be due)
+        let all = differs || self.due.contains(&key);
+        let own = all || self.failed.contains(&key);
+        let is_due = |it: &Hook| self.runs.get(it).is_some_and(|it| it.due.contains(&key));
+        let hooks = turn.config.hooks.iter().filter(|it| all && it.is_for(&key) || is_due(it));
+        let hooks: Vec<&Hook> = hooks.collect();
         if !own && hooks.is_empty() {
             return;
         }

@@ -1,13 +1,12 @@
 //! The worker of files: it keeps those of a folder as settings are, one job after the other, and
 //! answers what each came to be. What follows from that, [the applier](crate::apply) decides.
 use crate::apply::{Applied, Fact, Outcome};
-use crate::config::Apply;
+use crate::config::{is_key, Apply};
 use crate::digest::Digest;
 use crate::floor::{self, read_floor, Marker};
 use crate::folder::{unlink, Folder};
-use crate::hooks;
+use crate::hooks::{self, INPUT, PENDING};
 use crate::jobs::{Done, Ended, Kept, Mark};
-use crate::others::{refused, Others};
 use crate::place::{has_mount, Identity, Place};
 use rignolda::settings::{parts, shown, Change, Waiting, VALUE_BYTES};
 use rignolda_tls::moved_aside;
@@ -18,6 +17,7 @@ use std::io;
 use std::mem::take;
 use std::path::Path;
 use std::sync::Arc;
+use std::time::{Duration, Instant};
 
 /// The folder of values as they were published, of keys that have one for some group; and their
 /// mode.
@@ -25,6 +25,48 @@ pub const GROUPS: &str = ".groups";
 const GROUPS_MODE: u32 = 0o600;
 /// The file that says that a folder is an agent's, and up to which number its files are.
 pub const MARKER: &str = ".rignolda";
+/// How soon after a look at all that is in the folder the next one is, unless a table looks: where
+/// changes come faster than that, none of them waits for it.
+pub const LISTS: Duration = Duration::from_secs(1);
+/// Why this folder is not taken, where it is not: what no setting names is removed there, and it
+/// has what a setting could name, but nothing that says it is an agent's.
+pub fn refusal(config: &Apply) -> Option<String> {
+    let folder = &config.folder;
+    let there = fs::read_dir(folder).ok().filter(|_| !has_consent(config, folder))?;
+    let mut names = there.flatten().filter_map(|entry| entry.file_name().into_string().ok());
+    names.find(|name| is_key(name)).map(|name| has(config, &name))
+}
+
+/// Whether somebody said of the folder at this path that it is an agent's.
+fn has_consent(config: &Apply, at: &Path) -> bool {
+    config.take || [MARKER, PENDING].iter().any(|it| fs::symlink_metadata(at.join(it)).is_ok())
+}
+
+/// Why a folder that has this name is not taken.
+fn has(config: &Apply, name: &str) -> String {
+    let folder = config.folder.display();
+    format!("{folder} has `{name}`, and no `{MARKER}`: all of it would go; see `take`")
+}
+
+/// Why the folder that is open is not taken, where it is not, and these files are to be in it: the
+/// first one of a life, or a later one that came to its place.
+///
+/// Of the first one it is also the agent's where a table names all that is in it, so that nothing
+/// would go. In a later one each file has to have the value that the agent put, or puts.
+fn refused(config: &Apply, folder: &Folder, files: &Waiting, is_first: bool) -> Option<String> {
+    if has_consent(config, folder.at()) {
+        return None;
+    }
+    let stranger = if is_first {
+        let all = folder.names().into_iter().chain(folder.others()).filter(|it| is_key(it));
+        let named = |name: &String| files.is_whole() && files.has(name);
+        all.filter(|it| !named(it)).min()
+    } else {
+        folder.stranger(|name| files.value(name))
+    };
+    stranger.map(|name| has(config, &name))
+}
+
 /// The number up to which the files are, as an earlier life left them.
 pub fn floor(config: &Apply) -> u64 {
     read_floor(&config.folder.join(MARKER))
@@ -138,7 +180,8 @@ impl Files {
         }
         if files.is_whole() {
             // (a folder in it is no setting, and may be somebody's)
-            files.unset_others(self.there(&self.folder));
+            let there = if self.looks { self.folder.names() } else { self.folder.keys() };
+            files.unset_others(there);
             if self.looks {
                 self.digest = Digest::default();
                 // (what cannot be so is seen by whoever cannot list it)
@@ -152,15 +195,6 @@ impl Files {
     fn forget(&mut self) {
         self.folder.forget();
         self.grouped = Folder::new(self.folder.path().join(GROUPS));
-    }
-
-    /// The files of a folder that a table may unset.
-    fn there(&self, folder: &Folder) -> Vec<String> {
-        if self.looks {
-            folder.names()
-        } else {
-            folder.keys()
-        }
     }
 
     /// Says in the folder that it is an agent's, and up to which number its files will be; and so
@@ -288,10 +322,10 @@ impl Files {
         if !opened.unwrap_or(false) {
             return came;
         }
-        if all.is_whole() {
-            all.unset_others(self.there(&self.grouped));
-        }
         let (mut is_kept, folder) = (true, &mut self.grouped);
+        if all.is_whole() {
+            all.unset_others(if self.looks { folder.names() } else { folder.keys() });
+        }
         for (key, change) in all.in_order() {
             let value = change.value.as_deref();
             let put = value.map_or(!folder.knows(&key), |value| folder.had(&key, value));
@@ -310,6 +344,44 @@ impl Files {
         folder.close();
         self.of_grouped.take_if(|_| !is_kept);
         came
+    }
+}
+
+/// What is in the folder and is nothing of the agent's, and not removed either.
+#[derive(Debug, Default)]
+struct Others {
+    said: Vec<String>,
+    /// When it was looked for, and whether it is to be looked for since then.
+    at: Option<Instant>,
+    is_due: bool,
+}
+
+impl Others {
+    /// Looks for it now, or a little later: all that is in the folder is listed for it.
+    fn may_say(&mut self, folder: &Folder, is_whole: bool) -> Option<Fact> {
+        match is_whole || self.at.is_none_or(|at| at.elapsed() >= LISTS) {
+            true => return self.say(folder),
+            false => self.is_due = true,
+        }
+        None
+    }
+
+    /// Looks for it if that is still to be done.
+    fn say_if_due(&mut self, folder: &Folder) -> Option<Fact> {
+        self.is_due.then(|| self.say(folder)).flatten()
+    }
+
+    /// Names it once.
+    fn say(&mut self, folder: &Folder) -> Option<Fact> {
+        let mut all = folder.others();
+        all.retain(|name| {
+            ![MARKER, PENDING, GROUPS].contains(&&**name) && !name.starts_with(INPUT)
+        });
+        all.sort();
+        let is_new = all != self.said && !all.is_empty();
+        let fact = is_new.then(|| Fact::Others(all.len(), all[..all.len().min(3)].join(" ")));
+        *self = Others { said: all, at: Some(Instant::now()), is_due: false };
+        fact
     }
 }
 

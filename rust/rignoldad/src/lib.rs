@@ -29,7 +29,6 @@ pub mod label;
 pub mod last_said;
 pub mod metrics;
 pub mod newer;
-pub mod others;
 pub mod page;
 pub mod place;
 pub mod rank;
