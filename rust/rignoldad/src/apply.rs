@@ -123,7 +123,7 @@ pub struct Applier {
     /// the loop knows. And whether what the worker of files knows of them is to be forgotten.
     later: Option<u64>,
     forgets: bool,
-    /// The files that are being kept, and whether the worker of files has a job. When it has rested.
+    /// The files that are being kept, whether the worker of files has a job, and when it rests.
     turn: Option<Turn>,
     is_asked: bool,
     rests: Option<Instant>,
@@ -276,8 +276,8 @@ impl Applier {
 
     // ---- Jobs
 
-    /// What the workers are to do now, each one job at most: those of hooks, which have numbers from
-    /// 1 on, and that of files.
+    /// What the workers are to do now, each one job at most: those of hooks, which have the numbers
+    /// from 1 on, and that of files, which has 0.
     pub fn jobs(&mut self, now: Instant) -> Vec<(usize, Job)> {
         let mut jobs = Vec::new();
         // (marks may go where no file is put, so they come first)

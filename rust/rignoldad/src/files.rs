@@ -28,6 +28,7 @@ pub const MARKER: &str = ".rignolda";
 /// How soon after a look at all that is in the folder the next one is, unless a table looks: where
 /// changes come faster than that, none of them waits for it.
 pub const LISTS: Duration = Duration::from_secs(1);
+
 /// Why this folder is not taken, where it is not: what no setting names is removed there, and it
 /// has what a setting could name, but nothing that says it is an agent's.
 pub fn refusal(config: &Apply) -> Option<String> {
@@ -141,7 +142,7 @@ impl Files {
     }
 
     fn mark(&mut self, mark: Mark, config: Arc<Apply>, taken: Option<Identity>) -> Done {
-        let Mark { files, floor, looks, forgets, lacks } = mark;
+        let Mark { mut files, floor, looks, forgets, lacks } = mark;
         (self.config, self.looks) = (config, looks);
         let config = self.config.clone();
         if self.folder.path() != config.folder {
@@ -154,7 +155,6 @@ impl Files {
             self.forget();
             (self.digest, self.of_grouped) = (Digest::default(), None);
         }
-        let mut files = files;
         (files, self.all) = files.of_groups(&config.groups);
         // (until it is the agent's, nothing in it is touched; the next table sets all then)
         let refused = match self.folder.open() {
