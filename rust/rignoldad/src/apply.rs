@@ -190,7 +190,7 @@ enum Step {
 }
 
 impl Applier {
-    /// Begins, where an earlier life left [these keys](hooks::due) of which hooks are due.
+    /// Begins, where an earlier life left [these keys](crate::hooks::due) of which hooks are due.
     pub fn new(config: &Apply, due: BTreeSet<String>) -> Applier {
         let mut applier = Applier { due, ..Applier::default() };
         applier.set_up(config);
