@@ -423,7 +423,7 @@ impl Handler for State {
             if !applier.take(&meaning, sequence, self.table.heard) {
                 self.table.misses();
             }
-            self.workers.iter_mut().for_each(|it| it.begin(applier, now));
+            self.workers.iter_mut().for_each(|it| it.go_on(applier, now));
             self.applying = self.applying.or_else(|| applier.is_busy().then_some(now));
         }
         if self.table.full && !was_full {

@@ -705,4 +705,19 @@ mod tests {
         drop(workers);
         std::fs::remove_dir_all(folder).unwrap();
     }
+
+    /// After a fault of the memory, too.
+    #[test]
+    fn a_job_that_no_worker_has_is_seen() {
+        let config = Apply::default();
+        let workers = Workers::new(&config, Arc::new(|| ())).unwrap();
+        let mut applier = Applier::new(&config, BTreeSet::new());
+        assert_eq!(workers.fault(&applier), None);
+        let keys = BTreeSet::from(["a".into()]);
+        let run = Running { hook: None, keys, first: 1, last: 1, step: Step::Runs };
+        applier.running[2] = Some(run);
+        assert_eq!(workers.fault(&applier), Some("a hook runs that no thread runs"));
+        applier.is_asked = true;
+        assert_eq!(workers.fault(&applier), Some("nobody applies settings"));
+    }
 }

@@ -47,18 +47,13 @@ impl Workers {
         Ok(())
     }
 
-    /// Has what came of jobs taken up, and begins those that follow.
+    /// Has what came of jobs taken up, and begins those that there are now.
     pub fn go_on(&mut self, applier: &mut Applier, now: Instant) {
         for (at, worker) in self.all.iter().enumerate() {
             while let Some(done) = worker.done() {
                 applier.ended(at, done, now);
             }
         }
-        self.begin(applier, now);
-    }
-
-    /// Begins the jobs that there are now.
-    pub fn begin(&mut self, applier: &mut Applier, now: Instant) {
         for (at, job) in applier.jobs(now) {
             if at > 0 {
                 // (the first hook may have come since; where nobody can run it, that is seen)
