@@ -1,136 +1,15 @@
 //! What is decided about files and hooks: a script of jobs and what came of them, without a thread,
 //! a clock or a file.
-use rignolda::settings::{Change, Heard, Meaning, Table, Waiting};
-use rignoldad::apply::{Applied, Applier, Outcome};
+use rignolda::settings::{Meaning, Table, Waiting};
+use rignoldad::apply::{Applier, Outcome};
 use rignoldad::config::Apply;
 use rignoldad::hooks::Hook;
-use rignoldad::jobs::{Done, Ended, Kept, What};
-use rignoldad::place::{Identity, Place};
-use std::collections::{BTreeMap, BTreeSet};
-use std::path::Path;
-use std::time::{Duration, Instant};
+use rignoldad::jobs::{Done, What};
+use script::{shown, with_hook, Script};
+use std::time::Duration;
 
-/// An applier, and the jobs that its workers have.
-struct Script {
-    applier: Applier,
-    out: BTreeMap<usize, What>,
-    now: Instant,
-}
-
-/// A folder that there is. (Nothing is done in it.)
-fn folder() -> Option<Identity> {
-    Some(Place::open(Path::new("/")).unwrap().is())
-}
-
-fn with_hook() -> Apply {
-    Apply { hook: Some("/hook".into()), ..Apply::default() }
-}
-
-/// What a worker is to do, in short.
-fn shown(what: &What) -> String {
-    let value = |change: &Change| match change.value.as_deref() {
-        Some(value) => format!("={}", String::from_utf8_lossy(value)),
-        None => "-".into(),
-    };
-    match what {
-        What::Mark(mark) => format!("mark {}", mark.floor),
-        What::Keep(part, is_last) => {
-            let part = part.iter().map(|(key, change)| format!(" {key}{}", value(change)));
-            ["keep", &part.collect::<String>(), if *is_last { " and all" } else { "" }].concat()
-        }
-        What::Rest => "rest".into(),
-        What::One(key, change, floor) => format!("tell {key}{} at {floor}", value(change)),
-        What::Many(_, keys, last) => format!("tell {keys:?} {last}"),
-        What::Settle(keys) => format!("settle {keys:?}"),
-    }
-}
-
-impl Script {
-    fn new(config: &Apply) -> Script {
-        let applier = Applier::new(config, BTreeSet::new());
-        Script { applier, out: BTreeMap::new(), now: Instant::now() }
-    }
-
-    /// A body comes, and is applied.
-    fn says(&mut self, meaning: Meaning<'_>, number: u64) {
-        let looks = matches!(meaning, Meaning::Table(_));
-        let heard = Heard { takes: true, applies: true, looks, ..Heard::default() };
-        assert!(self.applier.take(&meaning, number, heard));
-    }
-
-    fn set(&mut self, key: &str, value: &str, number: u64) {
-        self.says(Meaning::Changes(vec![(key, Some(value.as_bytes()))]), number);
-    }
-
-    fn table(&mut self, keys: &[&str], number: u64) {
-        let entries = keys.iter().map(|key| (*key, Some(&b"1"[..])));
-        self.says(Meaning::Table(entries.collect()), number);
-    }
-
-    /// The workers get their jobs: which these are, the one of files last.
-    fn jobs(&mut self) -> Vec<String> {
-        let mut shows = Vec::new();
-        for (at, job) in self.applier.jobs(self.now) {
-            shows.push(format!("{at} {}", shown(&job.what)));
-            assert!(self.out.insert(at, job.what).is_none(), "it has one: {shows:?}");
-        }
-        let asked = self.applier.asked().into_iter().enumerate();
-        let asked = asked.filter(|(_, is_asked)| *is_asked).map(|(at, _)| at);
-        assert!(asked.eq(self.out.keys().copied()), "{shows:?}");
-        shows
-    }
-
-    /// A job is done.
-    fn ended(&mut self, at: usize, done: Done) {
-        assert!(self.out.remove(&at).is_some());
-        self.applier.ended(at, done, self.now);
-    }
-
-    /// The folder is marked.
-    fn marked(&mut self) {
-        let Some(What::Mark(mark)) = self.out.get_mut(&0) else { panic!("{:?}", self.out) };
-        let files = std::mem::take(&mut mark.files);
-        self.ended(0, Done::Marked(files, folder()));
-    }
-
-    /// Files are kept; of these keys it fails, and the others differed, or did not.
-    fn kept(&mut self, failing: &[&str], differs: bool) {
-        let Some(What::Keep(part, is_last)) = self.out.get_mut(&0) else {
-            panic!("{:?}", self.out)
-        };
-        let (part, is_last) = (std::mem::take(part), *is_last);
-        let kept = part.into_iter().map(|(key, change)| {
-            let fails = failing.contains(&&*key);
-            let done = if fails { Err("no room".into()) } else { Ok(()) };
-            Kept { key, change, put: false, differs: differs || fails, done }
-        });
-        let (grouped, facts) = (Vec::new(), Vec::new());
-        let ended = Ended { is: folder(), sum: 7, whole: None, grouped, facts };
-        let done = Done::Kept(kept.collect(), is_last.then_some(ended));
-        self.ended(0, done);
-    }
-
-    /// All files are kept of what waits.
-    fn keeps(&mut self, failing: &[&str], differs: bool) {
-        assert!(self.jobs().last().is_some_and(|it| it.starts_with("0 mark")));
-        self.marked();
-        while self.jobs().iter().any(|it| it.starts_with("0 keep")) {
-            self.kept(failing, differs);
-        }
-    }
-
-    /// A hook ends well, and its mark goes.
-    fn well(&mut self, at: usize) {
-        self.ended(at, Done::Ran(Ok(())));
-        assert!(self.jobs().iter().any(|it| it.starts_with(&format!("{at} settle"))));
-        self.ended(at, Done::Settled);
-    }
-
-    fn done(&mut self) -> Vec<(String, u64, Outcome)> {
-        let done = self.applier.done().into_iter();
-        done.map(|Applied { key, sequence, status }| (key, sequence, status)).collect()
-    }
-}
+mod script;
+mod world;
 
 #[test]
 fn a_file_that_fails_is_due_until_it_is_kept() {
@@ -395,6 +274,12 @@ fn a_mark_goes_when_no_hook_of_its_key_is_left() {
     it.ended(1, Done::Settled);
     it.ended(3, Done::Settled);
     assert_eq!((it.jobs(), it.applier.applied(1)), (vec![], 1));
+    // (the one that fails is due, and the mark stays)
+    it.set("a", "2", 2);
+    it.keeps(&[], true);
+    it.ended(1, Done::Ran(Err("it fails".into())));
+    it.ended(2, Done::Ran(Ok(())));
+    assert_eq!((it.jobs(), it.applier.applied(2)), (vec![], 2));
 }
 
 #[test]
