@@ -20,6 +20,7 @@ pub fn folder() -> Option<Identity> {
     Some(Place::open(Path::new("/")).unwrap().is())
 }
 
+/// A hook for each change.
 pub fn with_hook() -> Apply {
     Apply { hook: Some("/hook".into()), ..Apply::default() }
 }
@@ -44,6 +45,7 @@ pub fn shown(what: &What) -> String {
 }
 
 impl Script {
+    /// Nothing is applied, and nothing is due.
     pub fn new(config: &Apply) -> Script {
         let applier = Applier::new(config, BTreeSet::new());
         Script { applier, out: BTreeMap::new(), now: Instant::now() }
@@ -56,10 +58,12 @@ impl Script {
         assert!(self.applier.take(&meaning, number, heard));
     }
 
+    /// A key is set.
     pub fn set(&mut self, key: &str, value: &str, number: u64) {
         self.says(Meaning::Changes(vec![(key, Some(value.as_bytes()))]), number);
     }
 
+    /// All that is set is these keys, each to 1.
     pub fn table(&mut self, keys: &[&str], number: u64) {
         let entries = keys.iter().map(|key| (*key, Some(&b"1"[..])));
         self.says(Meaning::Table(entries.collect()), number);
@@ -124,6 +128,7 @@ impl Script {
         self.ended(at, Done::Settled);
     }
 
+    /// What was done since it was asked last.
     pub fn done(&mut self) -> Vec<(String, u64, Outcome)> {
         let done = self.applier.done().into_iter();
         done.map(|Applied { key, sequence, status }| (key, sequence, status)).collect()
