@@ -508,6 +508,25 @@ fn a_changed_setup_turns_a_link() {
     );
 }
 
+/// Two agents may be each other's parents, though one of them makes all connections between them.
+#[test]
+fn whoever_looks_for_a_parent_is_a_child_though_it_may_be_a_parent_too() {
+    let mut net = Net::new(vec![
+        setup("root", vec![], children(&[("a", false)])),
+        setup(
+            "a",
+            vec![parent("root", Some("root")), parent("b", None)],
+            children(&[("b", false)]),
+        ),
+        setup("b", vec![parent("a", Some("a"))], children(&[("a", true)])),
+    ]);
+    net.publish("root", "T0");
+    net.steps(1_000);
+    assert!(net.agent("b").peers.parent().is_some(), "it has no parent");
+    assert_eq!(net.agent("b").said.items, ["T0"]);
+    assert!(!net.said("a", "refused somewhere, which calls itself b: its name"));
+}
+
 #[test]
 fn slow_hellos_and_too_many_are_dropped() {
     let mut net = path([false, false]);

@@ -11,10 +11,10 @@
 mod connection;
 
 use connection::{Connection, Due, Reply};
-use rignolda::net::{Address, Handler, Line, Peers, Store, Turn, Worker};
+use rignolda::net::{Address, Store, Turn, Worker};
 use std::path::PathBuf;
 use std::sync::Arc;
-use std::time::{Duration, Instant};
+use std::time::Duration;
 use std::{fmt, io};
 
 /// How an agent logs in to a store.
@@ -51,35 +51,25 @@ impl Stores {
         Stores { login, timeout, wake, workers: Vec::new() }
     }
 
-    /// Tells an agent what came of the turns that are over.
-    pub fn done<L: Line>(&self, peers: &mut Peers<L, Address>, now: Instant, to: &mut dyn Handler) {
-        for (address, worker) in &self.workers {
-            if let Some(got) = worker.done() {
-                peers.turned(address, got, now, to);
-            }
-        }
+    /// What came of the turns that are over.
+    pub fn done(&self) -> impl Iterator<Item = (&Address, io::Result<Vec<Vec<u8>>>)> {
+        self.workers.iter().filter_map(|(address, worker)| Some((address, worker.done()?)))
     }
 
-    /// Begins the turns that an agent has to do now.
-    pub fn go_on<L: Line>(
-        &mut self,
-        peers: &mut Peers<L, Address>,
-        now: Instant,
-        to: &mut dyn Handler,
-    ) {
-        for (address, turn) in peers.turns(now, to) {
-            match self.worker(&address, peers.name()) {
-                Ok(worker) => worker.begin(turn),
-                Err(why) => peers.turned(&address, Err(why), now, to),
-            }
-        }
+    /// Begins a turn of an agent of this name.
+    ///
+    /// # Errors
+    ///
+    /// Where the store can have no thread; then nothing is begun.
+    pub fn begin(&mut self, address: &Address, turn: Turn, name: &str) -> io::Result<()> {
+        self.worker(address, name).map(|worker| worker.begin(turn))
     }
 
-    /// What cannot be, where something cannot: to be asked once a second.
-    pub fn fault<L: Line>(&self, peers: &Peers<L, Address>) -> Option<&'static str> {
-        let mut all = self.workers.iter();
-        let is_so = all.all(|(address, it)| it.is_asked(u32::from(peers.asks(address))));
-        (!is_so).then_some("a store was asked for something else")
+    /// What cannot be, where something cannot: to be asked once a second. `asks`: whether the agent
+    /// waits for this store.
+    pub fn fault(&self, asks: impl Fn(&Address) -> bool) -> Option<&'static str> {
+        let is_so = |(address, it): &(Address, StoreWorker)| it.is_asked(u32::from(asks(address)));
+        (!self.workers.iter().all(is_so)).then_some("a store was asked for something else")
     }
 
     fn worker(&mut self, address: &Address, name: &str) -> io::Result<&StoreWorker> {

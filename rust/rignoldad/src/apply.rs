@@ -108,6 +108,15 @@ impl Fact {
     }
 }
 
+/// What an agent finds of what an earlier life applied: the number of its files, the settings as
+/// they were published, and the keys of which hooks are due.
+#[derive(Clone, Debug, Default)]
+pub struct Found {
+    pub floor: u64,
+    pub settings: BTreeMap<String, Vec<u8>>,
+    pub due: BTreeSet<String>,
+}
+
 /// Decides what is done to keep the files of a folder as the settings are, and to run their hooks.
 #[derive(Debug, Default)]
 pub struct Applier {

@@ -15,7 +15,7 @@ const GROUPS: usize = 256;
 /// It is the sum of [that of each one](rignoldactl::digest), so a change costs no more than its own
 /// bytes. It tells what came about by a fault, and is no signature. What follows from a digest goes
 /// by [that of all](Digest::whole) instead.
-#[derive(Debug, Default)]
+#[derive(Clone, Debug, Default)]
 pub struct Digest {
     each: BTreeMap<String, [u8; 32]>,
     pub sum: u64,

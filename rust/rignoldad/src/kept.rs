@@ -43,7 +43,7 @@ impl Record {
     }
 
     /// What a file says; nothing where it is none.
-    fn parse(text: &str) -> Option<Record> {
+    pub fn parse(text: &str) -> Option<Record> {
         let mut kept = Record::default();
         for line in text.lines() {
             let (key, digits) = line.split_once(' ').filter(|(key, _)| is_key(key))?;

@@ -1,7 +1,7 @@
 //! Labels in place of digests, for who may ask and may not read: a digest tells a value that can be
 //! guessed.
 use openssl::sha::Sha256;
-use rignoldactl::{Key, Keys, Seen, Status};
+use rignoldactl::{Key, Keys, Response, Seen, Status};
 
 /// What makes labels: the same digest has the same one as long as the process runs, and nobody else
 /// can make it.
@@ -40,6 +40,14 @@ impl Labels {
         self.key(&mut keys.all);
         keys.groups.values_mut().for_each(|key| self.key(key));
         keys
+    }
+
+    /// An answer of the machine, as operators are shown it.
+    pub fn response(&self, response: Response) -> Response {
+        match response {
+            Response::Key(keys) => Response::Key(self.keys(keys)),
+            response => response,
+        }
     }
 
     /// What is known of an agent, and of those below it.

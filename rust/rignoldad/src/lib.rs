@@ -4,12 +4,12 @@
 //! over a connection. Here is the shell around it: sockets, files and watching.
 #![forbid(unsafe_code)]
 
-pub mod agent;
 pub mod answers;
 pub mod apply;
 pub mod asked;
 pub mod asks;
 pub mod batch;
+pub mod came;
 pub mod check;
 pub mod config;
 pub mod control;
@@ -27,8 +27,11 @@ pub mod journal;
 pub mod kept;
 pub mod label;
 pub mod last_said;
+pub mod lines;
+pub mod machine;
 pub mod metrics;
 pub mod newer;
+pub mod operators;
 pub mod page;
 pub mod place;
 pub mod rank;
@@ -37,9 +40,15 @@ pub mod refused;
 pub mod renews;
 pub mod repeats;
 pub mod reports;
+pub mod requests;
 pub mod roles;
 pub mod root;
+pub mod shell;
+pub mod sockets;
 pub mod standby;
+pub mod status;
+pub mod system;
+pub mod threads;
 pub mod tree;
 pub mod workers;
 

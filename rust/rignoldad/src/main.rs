@@ -37,7 +37,7 @@ fn main() -> ExitCode {
         (true, _) => checked(&words),
         (false, [file]) => match Config::read(file) {
             Err(faults) => faults.into_iter().map(|fault| (0, fault)).collect(),
-            Ok(config) => match rignoldad::agent::run(file, config) {
+            Ok(config) => match rignoldad::shell::run(file, config) {
                 Ok(()) => Vec::new(),
                 Err(why) => {
                     rignoldad::journal::flush();

@@ -24,6 +24,11 @@ pub struct Identity {
 }
 
 impl Identity {
+    /// That of a folder that is nowhere but in a trial.
+    pub fn of_number(number: u64) -> Identity {
+        Identity { device: 0, number, made: None }
+    }
+
     /// That of what this says.
     fn of(it: &Metadata) -> Identity {
         Identity { device: it.dev(), number: it.ino(), made: it.created().ok() }

@@ -69,6 +69,7 @@ pub struct Folders {
 }
 
 /// What they say at a start.
+#[derive(Debug)]
 pub struct Begun {
     pub folders: Folders,
     pub role: Role,

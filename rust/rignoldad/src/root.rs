@@ -451,6 +451,11 @@ impl<W> Root<W> {
         }
     }
 
+    /// Whether all of these settings, which the folder has, are published, and nothing else is.
+    pub fn has_published(&self, settings: &BTreeMap<String, Vec<u8>>) -> bool {
+        self.publisher.settings() == settings && !self.publisher.is_changed()
+    }
+
     /// Whether something waits to be published.
     pub fn waits(&self) -> bool {
         // (of what is held at a start, those keys are published that somebody names)

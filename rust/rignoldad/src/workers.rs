@@ -47,21 +47,33 @@ impl Workers {
         Ok(())
     }
 
-    /// Has what came of jobs taken up, and begins those that there are now.
+    /// What came of jobs since this was asked last, and at which worker.
+    pub fn done(&self) -> Vec<(usize, Done)> {
+        let done = |(at, worker): (usize, _)| {
+            std::iter::from_fn(move || Some((at, Worker::done(worker)?)))
+        };
+        self.all.iter().enumerate().flat_map(done).collect()
+    }
+
+    /// Has a worker begin a job.
+    pub fn begin(&mut self, at: usize, job: Job) {
+        if at > 0 {
+            // (the first hook may have come since; where nobody can run it, that is seen)
+            let _ = self.start(1 + HOOKS);
+        }
+        if let Some(worker) = self.all.get(at) {
+            worker.begin(job);
+        }
+    }
+
+    /// Has what came of jobs taken up, and begins those that there are now: where an applier is by
+    /// itself.
     pub fn go_on(&mut self, applier: &mut Applier, now: Instant) {
-        for (at, worker) in self.all.iter().enumerate() {
-            while let Some(done) = worker.done() {
-                applier.ended(at, done, now);
-            }
+        for (at, done) in self.done() {
+            applier.ended(at, done, now);
         }
         for (at, job) in applier.jobs(now) {
-            if at > 0 {
-                // (the first hook may have come since; where nobody can run it, that is seen)
-                let _ = self.start(1 + HOOKS);
-            }
-            if let Some(worker) = self.all.get(at) {
-                worker.begin(job);
-            }
+            self.begin(at, job);
         }
     }
 

@@ -300,6 +300,18 @@ impl<L: Line, A: Clone + PartialEq + fmt::Display> Peers<L, A> {
         &self.relay
     }
 
+    /// The same, so that a trial may set what an agent remembers to anything.
+    #[doc(hidden)]
+    pub fn relay_mut(&mut self) -> &mut Relay {
+        &mut self.relay
+    }
+
+    /// The parents that there may be, for such a trial.
+    #[doc(hidden)]
+    pub fn parents_mut(&mut self) -> &mut Parents {
+        &mut self.parents
+    }
+
     /// The parent that it is connected to, and since when.
     pub fn parent(&self) -> Option<(&Parent<A>, Instant)> {
         let since = match self.above {

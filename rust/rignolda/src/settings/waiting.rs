@@ -21,7 +21,7 @@ use std::sync::Arc;
 /// assert_eq!((change.first, change.last), (7, 8));
 /// assert_eq!(waiting.first(), Some(7));
 /// ```
-#[derive(Debug, Default)]
+#[derive(Clone, Debug, Default)]
 pub struct Waiting {
     changes: BTreeMap<String, Change>,
     /// The first and the last number that wait for the whole table, if one waits.

@@ -305,7 +305,13 @@ impl<L: Line, A: Clone + PartialEq + fmt::Display> Peers<L, A> {
     /// known that it looks for a parent.
     fn caller(&self, from: &str, is_child: bool) -> Result<(Whom, usize), Refusal> {
         let is = |it: &Parent<A>| it.address.is_none() && it.name.as_deref() == Some(from);
-        if let Some(at) = self.setup.parents.iter().position(is) {
+        let place = self.setup.parents.iter().position(is);
+        // (two may be each other's parents, and one of them make all connections)
+        let comes = match &self.setup.children {
+            Children::Named(children) => is_child && children.get(from) == Some(&None),
+            Children::Any => false,
+        };
+        if let (Some(at), false) = (place, comes) {
             return Ok((Whom::Parent, at));
         }
         let mut parents = self.setup.parents.iter();
