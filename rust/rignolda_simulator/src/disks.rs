@@ -1,0 +1,297 @@
+//! The disk of an agent, in memory: what its workers do with it, and what is left of it by a crash,
+//! a loss of power or a copy that comes back.
+use crate::lines::End;
+use crate::random::Random;
+use rignolda::settings::{is_newer, parts, Change, Waiting};
+use rignoldactl::source::{self, Faults};
+use rignoldad::apply::{self, Applied, Outcome};
+use rignoldad::digest::Digest;
+use rignoldad::disk;
+use rignoldad::files;
+use rignoldad::jobs::{Done, Ended, Job, Kept, Mark, What};
+use rignoldad::kept::Record;
+use rignoldad::machine::{Act, Found, Input};
+use rignoldad::place::Identity;
+use std::collections::{BTreeMap, BTreeSet};
+
+/// Settings by their keys.
+pub type Settings = BTreeMap<String, Vec<u8>>;
+
+/// What was put into an agent's folder, or removed there: its key, and its value.
+pub type Put = (String, Option<Vec<u8>>);
+
+/// The disk of an agent, and what its workers know of it.
+#[derive(Clone, Debug)]
+pub struct Disk {
+    /// The number in its marker.
+    pub marker: u64,
+    /// The files of settings; what the agent made of them, whatever somebody did to them since; and
+    /// the values as they were published.
+    pub files: Settings,
+    pub own: Settings,
+    grouped: Settings,
+    /// The keys of which hooks are due.
+    pending: BTreeSet<String>,
+    /// What a root has kept of what it published.
+    record: Option<String>,
+    /// What was put since it was judged.
+    pub puts: Vec<Put>,
+    /// Until when whatever is written fails, and hooks do.
+    pub fails: u64,
+    pub hooks_fail: u64,
+    /// Until when each of its workers is busy.
+    busy: [u64; 6],
+    /// What the worker of files knows: what it put last, and the digest of files.
+    known: Settings,
+    digest: Digest,
+    looks: bool,
+    all: Waiting,
+    life: u64,
+    /// Whether all of the root's folder was read, and what changed there since.
+    was_read: bool,
+    pub changed: Option<BTreeSet<String>>,
+    random: Random,
+}
+
+impl Disk {
+    /// An empty one.
+    pub fn new(random: Random) -> Disk {
+        Disk {
+            marker: 0,
+            files: Settings::new(),
+            own: Settings::new(),
+            grouped: Settings::new(),
+            pending: BTreeSet::new(),
+            record: None,
+            puts: Vec::new(),
+            fails: 0,
+            hooks_fail: 0,
+            busy: [0; 6],
+            known: Settings::new(),
+            digest: Digest::default(),
+            looks: false,
+            all: Waiting::default(),
+            life: 0,
+            was_read: false,
+            changed: None,
+            random,
+        }
+    }
+
+    /// What a process finds that begins.
+    pub fn begins(&mut self) -> Found {
+        (self.known, self.digest, self.busy) = (Settings::new(), Digest::default(), [0; 6]);
+        (self.was_read, self.changed) = (false, None);
+        let mut settings = Settings::new();
+        if self.marker != 0 {
+            settings = self.files.clone();
+            self.grouped.keys().for_each(|key| drop(settings.remove(parts(key).0)));
+            settings.extend(self.grouped.clone());
+        }
+        let applied = apply::Found { floor: self.marker, settings, due: self.pending.clone() };
+        Found { applied: Some(applied), standby: None }
+    }
+
+    /// The disk of another time comes in the place of this one.
+    pub fn goes_back(&mut self, to: Disk) {
+        let random = self.random.clone();
+        *self = Disk { random, life: self.life + 1, puts: Vec::new(), ..to };
+    }
+
+    /// When a job that is begun now is done, which takes up to so long: one of a worker comes after
+    /// the other.
+    pub fn takes(&mut self, act: &Act, most: u64, now: u64) -> u64 {
+        let (worker, most) = match act {
+            Act::Apply(at, _) => (*at, 2 * most),
+            _ => (5, most),
+        };
+        let busy = &mut self.busy[worker];
+        *busy = (*busy).max(now) + self.random.below(most + 1);
+        *busy
+    }
+
+    /// A worker does a job: what came of it. The root's folder is lent.
+    pub fn works(
+        &mut self,
+        act: Act,
+        folder: &mut Settings,
+        now: u64,
+    ) -> Option<Input<'static, End>> {
+        Some(match act {
+            Act::Disk(job) => Input::Disk(self.root_works(job, folder, now)),
+            Act::Apply(at, job) => Input::Applied(at, self.applies(job, now)),
+            _ => return None,
+        })
+    }
+
+    fn refuses(&self, until: u64, now: u64) -> Result<(), String> {
+        if now < until {
+            Err("No space left on device (os error 28)".into())
+        } else {
+            Ok(())
+        }
+    }
+
+    // ---- The files of what is applied
+
+    fn applies(&mut self, Job { what, config, taken }: Job, now: u64) -> Done {
+        match what {
+            What::Mark(mark) => self.mark(mark, &config.groups, taken, now),
+            What::Keep(part, is_last) => {
+                let kept = part.into_iter().map(|it| self.keep(it, now)).collect();
+                Done::Kept(kept, is_last.then(|| self.ends(now)))
+            }
+            What::Rest => Done::Rested(None),
+            What::One(_, change, floor) if is_newer(self.marker, floor) => {
+                Done::Newer(self.marker, change)
+            }
+            What::One(..) | What::Many(..) => {
+                let fails = now < self.hooks_fail || self.random.once_in(50);
+                Done::Ran(if fails { Err("exit status: 1".into()) } else { Ok(()) })
+            }
+            What::Settle(keys) => {
+                self.pending.retain(|key| !keys.contains(key));
+                Done::Settled
+            }
+        }
+    }
+
+    fn mark(&mut self, mark: Mark, groups: &[String], taken: Option<Identity>, now: u64) -> Done {
+        let is = Some(Identity::of_number(self.life));
+        let forgets = mark.forgets || taken != is;
+        if forgets {
+            self.known.clear();
+        }
+        self.looks = mark.looks || forgets;
+        let mut files;
+        (files, self.all) = mark.files.of_groups(groups);
+        if let Some(why) = self.refuses(self.fails, now).err().map(Outcome::File).or(mark.lacks) {
+            return Done::Refused(why);
+        }
+        if is_newer(self.marker, mark.floor) && self.marker != 0 {
+            return Done::Later(self.marker);
+        }
+        self.marker = mark.floor;
+        if files.is_whole() {
+            let there = self.files.keys().chain(self.known.keys()).cloned();
+            files.unset_others(there.collect::<Vec<_>>());
+            if self.looks {
+                self.digest = Digest::default();
+            }
+        }
+        Done::Marked(files, is)
+    }
+
+    fn keep(&mut self, (key, change): (String, Change), now: u64) -> Kept {
+        let value = change.value.as_deref().map(<[u8]>::to_vec);
+        let put = self.known.get(&key) == value.as_ref();
+        let had = !self.looks && value.is_some() && put;
+        let differs = !had && self.files.get(&key) != value.as_ref();
+        let done = if differs { self.refuses(self.fails, now) } else { Ok(()) };
+        if done.is_ok() {
+            if differs {
+                self.pending.insert(key.clone());
+                self.puts.push((key.clone(), value.clone()));
+            }
+            set(&mut self.files, &key, value.clone());
+            set(&mut self.own, &key, value.clone());
+            set(&mut self.known, &key, value);
+        }
+        match self.files.get(&key) {
+            Some(value) => self.digest.set(&key, Some(value)),
+            None => self.digest.unset(&key),
+        }
+        Kept { key, change, put, differs, done }
+    }
+
+    fn ends(&mut self, now: u64) -> Ended {
+        let (mut grouped, mut all) = (Vec::new(), std::mem::take(&mut self.all));
+        if all.is_whole() {
+            all.unset_others(self.grouped.keys().cloned());
+        }
+        for (key, change) in all.in_order() {
+            let value = change.value.as_deref().map(<[u8]>::to_vec);
+            let differs = self.grouped.get(&key) != value.as_ref();
+            let done = if differs { self.refuses(self.fails, now) } else { Ok(()) };
+            if done.is_ok() {
+                set(&mut self.grouped, &key, value);
+            }
+            let status = done.map_or_else(Outcome::File, |()| Outcome::Done);
+            grouped.push(Applied { key: files::beside(&key), sequence: change.last, status });
+        }
+        let is = Some(Identity::of_number(self.life));
+        Ended { is, sum: self.digest.sum, whole: None, grouped, facts: Vec::new() }
+    }
+
+    // ---- The root's folder
+
+    fn root_works(&mut self, job: disk::Job, folder: &mut Settings, now: u64) -> disk::Done {
+        match job {
+            disk::Job::Recall => {
+                disk::Done::Recalled(self.record.as_deref().and_then(Record::parse))
+            }
+            disk::Job::Keep(text) => {
+                let done = self.refuses(self.fails, now);
+                if done.is_ok() {
+                    self.record = Some(text);
+                }
+                disk::Done::Kept(done)
+            }
+            disk::Job::Read => self.reads(folder),
+            disk::Job::Changed => match self.changed.replace(BTreeSet::new()) {
+                Some(keys) if self.was_read && !keys.is_empty() => {
+                    let value = |key: String| (key.clone(), folder.get(&key).cloned());
+                    disk::Done::Keys(keys.into_iter().map(value).collect())
+                }
+                _ => self.reads(folder),
+            },
+            disk::Job::Write(changes) => self.writes(changes, folder, now),
+            disk::Job::Promote(key) => {
+                let value = folder.get(&key).cloned();
+                self.writes(vec![(parts(&key).0.into(), value), (key, None)], folder, now)
+            }
+        }
+    }
+
+    fn reads(&mut self, folder: &Settings) -> disk::Done {
+        (self.was_read, self.changed) = (true, Some(BTreeSet::new()));
+        let settings = folder.clone();
+        let (unread, faults) = (BTreeMap::new(), Faults::default());
+        disk::Done::Read(Ok(source::Found { settings, unread, faults }))
+    }
+
+    fn writes(&mut self, changes: Vec<Put>, folder: &mut Settings, now: u64) -> disk::Done {
+        let refused = self.refuses(self.fails, now);
+        let write = |(key, value): Put| {
+            let done = refused.clone().map_err(rignoldad::refused::Refused::from);
+            if done.is_ok() {
+                set(folder, &key, value.clone());
+            }
+            ((key, value), done)
+        };
+        disk::Done::Written { all: changes.into_iter().map(write).collect(), others: false }
+    }
+}
+
+/// A setting is this from now on, or unset.
+pub fn set(settings: &mut Settings, key: &str, value: Option<Vec<u8>>) {
+    match value {
+        Some(value) => drop(settings.insert(key.into(), value)),
+        None => drop(settings.remove(key)),
+    }
+}
+
+/// What agents of these groups ought to have, if this was published.
+pub fn counting(settings: &Settings, groups: &[String]) -> Settings {
+    let mut all = Settings::new();
+    for (key, value) in settings {
+        match parts(key) {
+            (_, None) => drop(all.entry(key.clone()).or_insert_with(|| value.clone())),
+            (file, Some(group)) if groups.iter().any(|it| it == group) => {
+                all.insert(file.into(), value.clone());
+            }
+            _ => (),
+        }
+    }
+    all
+}

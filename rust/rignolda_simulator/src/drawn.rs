@@ -1,0 +1,152 @@
+//! What a run is of, as its seed draws it: the shape of a tree, its links, groups and times.
+use crate::random::Random;
+use rignolda::net::{Address, Children, Parent, Setup};
+use rignoldad::config::{Apply, Config, Root};
+use std::collections::BTreeMap;
+use std::path::PathBuf;
+use std::time::Duration;
+
+/// The room of an agent's list.
+pub const ROOM: u64 = 64;
+/// The deepest that an agent is drawn: the depth that a root counts on if it knows none.
+const DEEPEST: usize = 10;
+
+/// What is drawn for a run.
+pub struct Drawn {
+    pub configs: Vec<Config>,
+    /// By how many milliseconds lines are slow at most; and files, of each agent.
+    pub slow: u64,
+    pub files: Vec<u64>,
+    pub round: u64,
+    /// For how long there are faults, in milliseconds; and how often one comes, and a change.
+    pub span: u64,
+    pub pause: u64,
+    pub changes: u64,
+}
+
+/// The name of an agent.
+pub fn name(agent: usize) -> String {
+    format!("n{agent}")
+}
+
+/// Which agent has this name, if one has.
+pub fn agent(name: &str) -> Option<usize> {
+    name.strip_prefix('n')?.parse().ok()
+}
+
+fn address(agent: usize) -> Address {
+    Address::Unix(PathBuf::from(format!("/{}", name(agent))))
+}
+
+/// Which agent listens at this address, if one does.
+pub fn listens(address: &Address) -> Option<usize> {
+    match address {
+        Address::Unix(path) => agent(path.file_name()?.to_str()?),
+        _ => None,
+    }
+}
+
+impl Drawn {
+    /// A run of at most so many agents.
+    pub fn new(seed: u64, most: u64) -> Drawn {
+        let mut random = Random::new(seed, "tree", 0);
+        let most = most.max(3);
+        let large = random.once_in(4);
+        let count = 3 + random.below(if large { most - 2 } else { (most - 2).min(9) }) as usize;
+        let parents = parents(count, &mut random);
+        let slow = random.of(&[0, 5, 40, 100]);
+        let round = if slow >= 40 { 20_000 } else { 10_000 };
+        let times = (random.of(&[500, 2_000]), random.of(&[2_000, 20_000, 60_000]));
+        let mut configs: Vec<Config> =
+            (0..count).map(|it| config(it, times, round, &mut random)).collect();
+        for (it, parents) in parents.iter().enumerate() {
+            for parent in parents {
+                // (one end makes the connection)
+                let is_called = !random.once_in(5);
+                let price = random.once_in(10).then(|| random.below(6) as u16);
+                configs[it].peers.parents.push(Parent {
+                    name: Some(name(*parent)),
+                    address: is_called.then(|| address(*parent)),
+                    price,
+                });
+                if let Children::Named(all) = &mut configs[*parent].peers.children {
+                    all.insert(name(it), (!is_called).then(|| address(it)));
+                }
+            }
+        }
+        Drawn {
+            configs,
+            slow,
+            files: (0..count).map(|_| random.of(&[0, 3, 50, 400])).collect(),
+            round,
+            span: 20_000 + random.below(100_000),
+            pause: random.of(&[200, 1_000, 5_000]),
+            changes: random.of(&[300, 3_000, 20_000]),
+        }
+    }
+}
+
+/// Whom each agent may have as parents: a line, a star, a heap, or any, with more parents or few.
+fn parents(count: usize, random: &mut Random) -> Vec<Vec<usize>> {
+    let (mut parents, mut depths) = (vec![Vec::new(); count], vec![0; count]);
+    let shape = random.below(5);
+    for it in 1..count {
+        let first = match shape {
+            0 => it - 1,
+            1 => 0,
+            2 => (it - 1) / 2,
+            _ => random.at(it),
+        };
+        let first = if depths[first] < DEEPEST { first } else { 0 };
+        depths[it] = depths[first] + 1;
+        parents[it].push(first);
+        let more = match shape {
+            3 => 1 + random.below(2),
+            4 => u64::from(random.once_in(3)),
+            _ => u64::from(random.once_in(8)),
+        };
+        for _ in 0..more {
+            let other = random.at(count);
+            if other != it && !parents[it].contains(&other) {
+                parents[it].push(other);
+            }
+        }
+    }
+    parents
+}
+
+fn config(it: usize, times: (u64, u64), round: u64, random: &mut Random) -> Config {
+    let groups = if random.once_in(4) { vec!["canary".into()] } else { Vec::new() };
+    Config {
+        peers: Setup {
+            name: name(it),
+            parents: Vec::new(),
+            rank: None,
+            children: Children::Named(BTreeMap::new()),
+            ack_timeout: Duration::from_millis(times.0),
+            evict: Duration::from_millis(times.1),
+            poll: Duration::from_millis(100),
+        },
+        listen: vec![address(it)],
+        backlog: ROOM,
+        root: (it == 0).then(|| Root {
+            settings: PathBuf::from("/root"),
+            standby: false,
+            round: Duration::from_millis(round),
+            harmless: None,
+            hold: false,
+            unsets: Some(usize::MAX),
+        }),
+        tls: None,
+        store: Default::default(),
+        insecure: false,
+        apply: Some(Apply {
+            folder: PathBuf::from(format!("/{}/applied", name(it))),
+            mode: 0o640,
+            groups,
+            ..Apply::default()
+        }),
+        control: None,
+        metrics: None,
+    }
+}

@@ -1,0 +1,293 @@
+//! Faults: of lines, processes, disks, clocks and of memory.
+use crate::disks::{set, Disk};
+use crate::drawn;
+use crate::random::Random;
+use crate::world::World;
+use rignolda::net::{Body, Way};
+use rignolda::settings::Meaning;
+use rignoldactl::Seen;
+use std::collections::BTreeMap;
+use std::sync::Arc;
+
+/// Of which kinds faults are.
+#[derive(Clone, Copy, Debug, PartialEq, Eq, PartialOrd, Ord)]
+pub enum Class {
+    /// Lines, processes, disks and the root's clock.
+    World,
+    /// These, and what agents remember.
+    Memory,
+    /// These, and the markers of their folders.
+    Markers,
+}
+
+/// A disk of another time, and what its agent had put by then.
+pub type Copy = (Disk, BTreeMap<String, usize>);
+
+/// What faults are drawn from.
+pub struct Faults {
+    pub class: Class,
+    random: Random,
+    /// How many of each kind there were.
+    pub counts: BTreeMap<&'static str, u64>,
+    older: Vec<Vec<Copy>>,
+    values: u64,
+}
+
+impl Faults {
+    pub fn new(seed: u64, class: Class, agents: usize) -> Faults {
+        Faults {
+            class,
+            random: Random::new(seed, "faults", 0),
+            counts: BTreeMap::new(),
+            older: (0..agents).map(|_| Vec::new()).collect(),
+            values: 0,
+        }
+    }
+
+    /// A time of up to this long.
+    pub fn time(&mut self, most: u64) -> u64 {
+        self.random.below(most.max(1))
+    }
+
+    /// The root's folder changes.
+    pub fn change(&mut self, world: &mut World) {
+        for _ in 0..1 + self.random.below(3) {
+            let group = self.random.of(&["", "", "", "..canary"]);
+            let key = format!("k{}{group}", self.random.below(12));
+            let long = if world.drawn.slow >= 40 { 600 } else { 40_000 };
+            let length = self.random.of(&[3, 3, 30, 30, 300, long]);
+            self.values += 1;
+            let filler = vec![b'a' + self.random.below(26) as u8; self.random.at(length)];
+            let value = [format!("{} ", self.values).as_bytes(), &filler].concat();
+            let value = (!self.random.once_in(4)).then_some(value);
+            set(&mut world.folder, &key, value);
+            world.agents[0].disk.changed.iter_mut().for_each(|it| it.extend([key.clone()]));
+            world.judge.changed(&world.folder);
+        }
+        world.changed();
+    }
+
+    /// Something goes wrong.
+    pub fn strike(&mut self, world: &mut World) {
+        let it = self.random.at(world.agents.len());
+        let kinds = match self.class {
+            Class::World => 19,
+            Class::Memory => 27,
+            Class::Markers => 29,
+        };
+        let kind = self.random.below(kinds);
+        let what = match kind {
+            0..=5 => self.of_line(world, it, kind),
+            6 | 7 => {
+                let most = [2_000, 20_000][kind as usize - 6];
+                world.agents[it].stopped = world.clock.now() + self.time(most);
+                Some("agent stops")
+            }
+            8 | 9 => self.crash(world, it),
+            10 => self.goes_back(world, it),
+            11 => {
+                world.agents[it].refuses = world.clock.now() + self.time(20_000);
+                Some("agent refuses")
+            }
+            12 => {
+                let other = self.random.at(world.agents.len());
+                world.apart.insert([it.min(other), it.max(other)]);
+                Some("two are apart")
+            }
+            13 => {
+                world.apart.clear();
+                Some("none are apart")
+            }
+            14 => self.set_back(world),
+            15 | 16 => {
+                let key = format!("k{}", self.random.below(12));
+                let spoilt = (!self.random.once_in(3)).then(|| b"spoilt".to_vec());
+                set(&mut world.agents[it].disk.files, &key, spoilt);
+                Some("file is spoilt")
+            }
+            17 => {
+                world.agents[it].disk.fails = world.clock.now() + self.time(5_000);
+                Some("disk is full")
+            }
+            18 => {
+                world.agents[it].disk.hooks_fail = world.clock.now() + self.time(5_000);
+                Some("hooks fail")
+            }
+            19..=26 => self.of_memory(world, it, kind),
+            _ => {
+                world.judge.is_spoilt = true;
+                let number = self.number(world);
+                world.agents[it].disk.marker = self.random.of(&[number, number, 0]);
+                let starts = self.time(2_000);
+                world.end(it, false, starts);
+                Some("marker is spoilt")
+            }
+        };
+        if let Some(machine) = world.agents[it].machine.as_mut().filter(|_| kind >= 19) {
+            // (what it knows of its own deadline is of before)
+            machine.peers.tick(machine.came.now, &mut machine.came);
+        }
+        what.into_iter().for_each(|it| *self.counts.entry(it).or_default() += 1);
+        if let (true, Some(what)) = (world.talks, what) {
+            eprintln!("{:>9} n{it} FAULT {what}", world.clock.now());
+        }
+    }
+
+    /// Keeps a copy of a disk, which may come back.
+    pub fn copies(&mut self, world: &World, it: usize) {
+        if self.older[it].len() < 20 && self.random.once_in(4) {
+            let copy = (world.agents[it].disk.clone(), world.judge.places(it));
+            self.older[it].push(copy);
+        }
+    }
+
+    fn of_line(&mut self, world: &mut World, it: usize, kind: u64) -> Option<&'static str> {
+        let lines = world.agents[it].machine.as_ref()?.peers.lines();
+        let lines: Vec<_> = lines.map(|(_, line, _)| line).collect();
+        if lines.is_empty() {
+            return None;
+        }
+        let line = lines[self.random.at(lines.len())];
+        Some(match kind {
+            0..=2 => {
+                line.breaks([self.random.at(4), self.random.at(4)]);
+                "line breaks"
+            }
+            3 => {
+                line.falls_silent(self.random.once_in(2));
+                "line falls silent"
+            }
+            _ => {
+                let most = [50, 1_500][kind as usize - 4];
+                lines.iter().for_each(|it| it.slows(self.random.below(most)));
+                "lines are slow"
+            }
+        })
+    }
+
+    fn crash(&mut self, world: &mut World, it: usize) -> Option<&'static str> {
+        world.agents[it].machine.as_ref()?;
+        let (power, most) = (self.random.once_in(3), self.random.of(&[1_000, 6_000, 90_000]));
+        let starts = self.time(if it == 0 { most.min(6_000) } else { most });
+        world.end(it, power, starts);
+        Some(if power { "machine loses power" } else { "agent crashes" })
+    }
+
+    fn goes_back(&mut self, world: &mut World, it: usize) -> Option<&'static str> {
+        let copies = self.older[it].len();
+        let (disk, places) = self.older[it].get(self.random.at(copies.max(1)))?.clone();
+        let starts = self.random.below(3_000);
+        world.end(it, false, starts);
+        world.agents[it].disk.goes_back(disk);
+        world.judge.goes_back(it, places);
+        Some("older disk comes back")
+    }
+
+    fn set_back(&mut self, world: &mut World) -> Option<&'static str> {
+        if !self.random.once_in(3) {
+            return None;
+        }
+        world.agents[0].ahead -= self.time(7_200_000) as i64;
+        world.judge.is_set_back = true;
+        let starts = self.time(2_000);
+        world.end(0, false, starts);
+        Some("root's clock is set back")
+    }
+
+    // ---- Memory
+
+    /// A number, near those that there are or not.
+    fn number(&mut self, world: &World) -> u64 {
+        let root = world.agents[0].machine.as_ref();
+        let near = root.map_or(7, |it| it.came.table.taker.number);
+        match self.random.below(5) {
+            0 => self.random.number(),
+            1 => near.wrapping_add(self.random.below(300)),
+            2 => near.wrapping_sub(self.random.below(300)),
+            3 => near.wrapping_add(self.random.below(1 << 40)),
+            _ => self.random.below(9),
+        }
+    }
+
+    /// A body that nobody published.
+    fn body(&mut self, world: &mut World) -> Arc<Body> {
+        let values: Vec<String> =
+            (0..3).map(|_| format!("forged {}", self.random.below(99))).collect();
+        values.iter().for_each(|it| world.judge.forges(it.as_bytes()));
+        let all = ["k1", "k2", "k77"].into_iter().zip(&values);
+        let all: Vec<_> = all.map(|(key, value)| (key, Some(value.as_bytes()))).collect();
+        if self.random.once_in(8) {
+            let item = self.random.number() as u32;
+            return Arc::new(Body { item, bytes: b"no body".to_vec() });
+        }
+        let meaning = match self.random.below(3) {
+            0 => Meaning::Changes(all),
+            1 => Meaning::Table(all),
+            _ => Meaning::Harmless,
+        };
+        Body::new(self.number(world), &meaning)
+    }
+
+    /// Some of what an agent remembers is anything.
+    fn of_memory(&mut self, world: &mut World, it: usize, kind: u64) -> Option<&'static str> {
+        world.agents[it].machine.as_ref()?;
+        world.judge.is_spoilt = true;
+        let bodies: Vec<_> = (0..1 + self.random.below(20))
+            .map(|_| (self.body(world), self.random.below(255) as u16))
+            .collect();
+        let (number, other) = (self.number(world), self.number(world));
+        let drawn: Vec<u64> = (0..4).map(|_| self.random.number()).collect();
+        let count = world.agents.len();
+        let names = (0..self.random.below(6)).map(|_| drawn::name(self.random.at(count))).collect();
+        let machine = world.agents[it].machine.as_mut()?;
+        Some(match kind {
+            19 | 20 => {
+                let taker = &mut machine.came.table.taker;
+                taker.number = number;
+                taker.floor = if drawn[0] % 3 == 0 { other } else { taker.floor };
+                machine.came.table.changed = drawn[1];
+                machine.came.ahead = if drawn[2] % 3 == 0 { other } else { machine.came.ahead };
+                "numbers are spoilt"
+            }
+            21 | 22 => {
+                let relay = machine.peers.relay_mut();
+                for (body, label) in bodies {
+                    match it {
+                        0 => drop(relay.publish(&body)),
+                        _ => drop(relay.on_frame(None, label, &body)),
+                    }
+                    if drawn[0] % 3 == 0 {
+                        relay.last_is_a_table();
+                    }
+                }
+                "list is spoilt"
+            }
+            23 => {
+                let way = Way { cost: (drawn[0] % 256) as u16, names };
+                let _ = machine.peers.parents_mut().hears(way);
+                "way is spoilt"
+            }
+            24 => {
+                let child = machine.peers.relay().children().next()?.0.clone();
+                let seen = Seen {
+                    name: child.clone(),
+                    sequence: number,
+                    ahead: other,
+                    connected: true,
+                    ..Seen::default()
+                };
+                let now = machine.came.now;
+                machine.came.below.heard(&child, &rignoldactl::report(&[seen]), now);
+                "what is known of below is spoilt"
+            }
+            25 => {
+                machine.came.published = Default::default();
+                "digests are forgotten"
+            }
+            _ => {
+                machine.root.as_mut()?.hears([number]);
+                "the root's numbers are spoilt"
+            }
+        })
+    }
+}

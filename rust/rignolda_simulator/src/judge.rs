@@ -1,0 +1,229 @@
+//! What is judged, as the pages promise it: at each turn of an agent, each quarter of a second, and
+//! after the last fault.
+use crate::disks::{counting, Disk, Put, Settings};
+use crate::drawn::{self, Drawn, ROOM};
+use crate::lines::End;
+use rignolda::net::BODY_BYTES;
+use rignolda::settings::{is_newer, SETTINGS};
+use rignoldactl::{Compared, Seen};
+use rignoldad::machine::Machine;
+use std::collections::{BTreeMap, BTreeSet};
+
+/// For how long agents may be on a ring of parents, in milliseconds.
+const RING: u64 = 60_000;
+
+/// How a promise is broken: which one, and by whom.
+pub type Broken = String;
+
+/// The values that a file of agents of some groups had, in the order in which the root's folder had
+/// them. The first one is none.
+type History = BTreeMap<String, Vec<Option<Vec<u8>>>>;
+
+/// What is known of the run.
+pub struct Judge {
+    groups: Vec<Vec<String>>,
+    /// By groups, what files had to be after each change of the folder.
+    histories: BTreeMap<Vec<String>, History>,
+    folders: BTreeMap<Vec<String>, Settings>,
+    /// The place in its history of what each agent put last, by key.
+    places: Vec<BTreeMap<String, usize>>,
+    /// How often the folder has changed; and how often it had when each agent's files were what it
+    /// said. (Somebody may change a file after that, and nobody knows it before the next look.)
+    version: u64,
+    right: Vec<u64>,
+    /// Values that a fault put somewhere.
+    forged: BTreeSet<Vec<u8>>,
+    /// Whether memory was spoilt, or the root's clock set back: then numbers say nothing about what
+    /// is older, until all is right once.
+    pub is_spoilt: bool,
+    pub is_set_back: bool,
+    rings: BTreeMap<usize, u64>,
+    /// How often `wait` would have ended, and how often each line was written.
+    pub waits: u64,
+    /// How many tables of rounds the root has published, and the number of the last one.
+    pub rounds: u64,
+    round: u64,
+    pub facts: BTreeMap<&'static str, u64>,
+}
+
+impl Judge {
+    pub fn new(drawn: &Drawn) -> Judge {
+        let groups = drawn.configs.iter().map(|it| match &it.apply {
+            Some(apply) => apply.groups.clone(),
+            None => Vec::new(),
+        });
+        let groups: Vec<_> = groups.collect();
+        Judge {
+            places: vec![BTreeMap::new(); groups.len()],
+            histories: groups.iter().map(|it| (it.clone(), History::new())).collect(),
+            folders: groups.iter().map(|it| (it.clone(), Settings::new())).collect(),
+            version: 0,
+            right: vec![0; groups.len()],
+            groups,
+            forged: BTreeSet::new(),
+            is_spoilt: false,
+            is_set_back: false,
+            rings: BTreeMap::new(),
+            waits: 0,
+            rounds: 0,
+            round: 0,
+            facts: BTreeMap::new(),
+        }
+    }
+
+    /// The root's folder is this from now on.
+    pub fn changed(&mut self, folder: &Settings) {
+        let before = self.version;
+        self.version += 1;
+        for (groups, history) in &mut self.histories {
+            let (new, old) = (counting(folder, groups), self.folders.get_mut(groups));
+            let Some(old) = old else { continue };
+            if *old == new {
+                let same = self.right.iter_mut().zip(&self.groups).filter(|(_, it)| *it == groups);
+                same.filter(|it| *it.0 == before).for_each(|it| *it.0 = self.version);
+            }
+            for key in old.keys().chain(new.keys()).collect::<BTreeSet<_>>() {
+                if old.get(key) != new.get(key) {
+                    let values = history.entry(key.clone()).or_insert_with(|| vec![None]);
+                    values.push(new.get(key).cloned());
+                }
+            }
+            *old = new;
+        }
+    }
+
+    /// A fault put this value somewhere.
+    pub fn forges(&mut self, value: &[u8]) {
+        self.forged.insert(value.into());
+    }
+
+    /// The disk of this agent is one of another time.
+    pub fn goes_back(&mut self, it: usize, places: BTreeMap<String, usize>) {
+        self.places[it] = places;
+    }
+
+    /// What an agent has put last, by key: as places in the history.
+    pub fn places(&self, it: usize) -> BTreeMap<String, usize> {
+        self.places[it].clone()
+    }
+
+    /// An agent wrote a line.
+    pub fn fact(&mut self, fact: &'static str) {
+        *self.facts.entry(fact).or_default() += 1;
+    }
+
+    /// An agent ended by itself. It may, if its memory was spoilt.
+    pub fn ends(&self, it: usize, why: &str) -> Result<(), Broken> {
+        match self.is_spoilt || why.is_empty() {
+            true => Ok(()),
+            false => Err(format!("ENDS: n{it}: {why}")),
+        }
+    }
+
+    /// After a turn of an agent.
+    pub fn turn(
+        &mut self,
+        it: usize,
+        machine: &Machine<End>,
+        disk: &mut Disk,
+    ) -> Result<(), Broken> {
+        let puts = std::mem::take(&mut disk.puts);
+        if self.right[it] < self.version && disk.own == self.folders[&self.groups[it]] {
+            self.right[it] = self.version;
+        }
+        puts.into_iter().try_for_each(|put| self.put(it, put))?;
+        let round = machine.came.table.round;
+        if it == 0 && round != self.round {
+            (self.round, self.rounds) = (round, self.rounds + 1);
+        }
+        let relay = machine.peers.relay();
+        let (kept, bytes) = relay.kept();
+        if kept > ROOM || bytes > 5 * BODY_BYTES {
+            return Err(format!("MEMORY: n{it} keeps {kept} items, {bytes} bytes"));
+        }
+        let ends = machine.config.peers.parents.len() + relay.children().count();
+        let lines = machine.peers.lines().count();
+        if lines > 64 + 4 * ends + 4 {
+            return Err(format!("MEMORY: n{it} has {lines} lines"));
+        }
+        let below = machine.came.below.agents() as usize;
+        if !self.is_spoilt && below > 8 * self.groups.len() {
+            return Err(format!("MEMORY: n{it} knows {below} below it"));
+        }
+        let settings = machine.came.table.keys.len();
+        if settings > SETTINGS {
+            return Err(format!("MEMORY: n{it} has {settings} settings"));
+        }
+        Ok(())
+    }
+
+    /// A file was put: its value is one that was published, and no older one than before.
+    fn put(&mut self, it: usize, (key, value): Put) -> Result<(), Broken> {
+        let none = vec![None];
+        let history = self.histories.get(&self.groups[it]).and_then(|it| it.get(&key));
+        let values = history.unwrap_or(&none);
+        if value.as_ref().is_some_and(|it| self.forged.contains(it)) {
+            return Ok(());
+        }
+        let last = self.places[it].get(&key).copied().unwrap_or(0);
+        let later = (last..values.len()).find(|at| values[*at] == value);
+        match later.or_else(|| values.iter().rposition(|it| *it == value)) {
+            None => {
+                let text = value.as_deref().map(String::from_utf8_lossy);
+                return Err(format!("UNKNOWN: n{it} puts {key} {text:?}, which nobody published"));
+            }
+            Some(at) if at < last && !self.is_spoilt && !self.is_set_back => {
+                return Err(format!("OLDER: n{it} puts {key} {at} after {last}"));
+            }
+            Some(at) => drop(self.places[it].insert(key, at)),
+        }
+        Ok(())
+    }
+
+    /// What `wait --everywhere` does now: where it would end, all files are of the folder as it is.
+    pub fn wait(&mut self, sequence: u64, list: &[Seen], disks: &[&Disk]) -> Result<(), Broken> {
+        if list.iter().any(|it| lacks(it, sequence)) {
+            return Ok(());
+        }
+        self.waits += 1;
+        for (it, disk) in disks.iter().enumerate() {
+            let is_named = list.iter().any(|seen| drawn::agent(&seen.name) == Some(it));
+            let is_right = disk.own == self.folders[&self.groups[it]];
+            if self.right[it] < self.version && !is_right {
+                let how = if is_named { "WAIT" } else { "UNNAMED" };
+                return Err(format!(
+                    "{how}: {sequence} is said to be everywhere; n{it} has it not"
+                ));
+            }
+        }
+        Ok(())
+    }
+
+    /// Which agents lie on rings of parents now.
+    pub fn rings(&mut self, rings: &[usize], now: u64) -> Result<(), Broken> {
+        self.rings.retain(|it, _| rings.contains(it));
+        for it in rings {
+            let since = *self.rings.entry(*it).or_insert(now);
+            if now > since + RING {
+                return Err(format!("RING: n{it} lies on one for a minute"));
+            }
+        }
+        Ok(())
+    }
+
+    /// Whose files are not what the folder says.
+    pub fn wrong(&self, files: &dyn Fn(usize) -> Settings) -> Vec<usize> {
+        let is_wrong = |it: &usize| files(*it) != self.folders[&self.groups[*it]];
+        (0..self.groups.len()).filter(is_wrong).collect()
+    }
+}
+
+/// Whether an agent has not all up to a sequence number, as `wait` says.
+fn lacks(seen: &Seen, sequence: u64) -> bool {
+    !seen.connected
+        || seen.failing > 0
+        || !seen.whole
+        || is_newer(sequence, seen.applied)
+        || matches!(seen.compared, Compared::Differs | Compared::NotKnown)
+        || seen.cut
+}
