@@ -110,6 +110,14 @@ impl Disk {
         *busy
     }
 
+    /// A worker was doing a job when its process ended: of some it had done a part.
+    pub fn ends_at(&mut self, mut act: Act, folder: &mut Settings, now: u64) {
+        if let Act::Apply(_, Job { what: What::Mark(mark), .. }) = &mut act {
+            mark.goes_on &= self.random.once_in(2);
+        }
+        drop(self.works(act, folder, now));
+    }
+
     /// A worker does a job: what came of it. The root's folder is lent.
     pub fn works(
         &mut self,
@@ -136,7 +144,17 @@ impl Disk {
 
     fn applies(&mut self, Job { what, config, taken }: Job, now: u64) -> Done {
         match what {
-            What::Mark(mark) => self.mark(mark, &config.groups, taken, now),
+            What::Mark(mark) => {
+                let goes_on = mark.goes_on;
+                match self.mark(mark, &config.groups, taken, now) {
+                    Done::Marked(files, is) if goes_on => {
+                        let kept = files.in_order().into_iter().map(|it| self.keep(it, now));
+                        let kept = kept.collect();
+                        Done::KeptAtOnce(is, kept, self.ends(now))
+                    }
+                    done => done,
+                }
+            }
             What::Keep(part, is_last) => {
                 let kept = part.into_iter().map(|it| self.keep(it, now)).collect();
                 Done::Kept(kept, is_last.then(|| self.ends(now)))

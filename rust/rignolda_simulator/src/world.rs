@@ -157,7 +157,7 @@ impl World {
             if let Comes::Works(act) = what {
                 // (each worker does one after the other)
                 if begun < agent.random.below(3) {
-                    drop(agent.disk.works(*act, &mut self.folder, now));
+                    agent.disk.ends_at(*act, &mut self.folder, now);
                 }
                 begun += 1;
             }

@@ -322,6 +322,12 @@ impl Applier {
             }
             (Done::Later(number), _) => self.is_behind(number),
             (Done::Kept(kept, ended), Some(turn)) => self.kept(turn, kept, ended, now),
+            (Done::KeptAtOnce(is, kept, ended), Some(turn)) => {
+                self.marked(turn, Waiting::default(), is);
+                if let Some(turn) = self.turn.take() {
+                    self.kept(turn, kept, Some(ended), now);
+                }
+            }
             (Done::Rested(fact), _) => self.facts.extend(fact),
             // (the memory is spoiled)
             _ => (),
@@ -368,7 +374,9 @@ impl Applier {
             mended: Vec::new(),
         });
         let lacks = self.failing.get(MARKER).cloned().filter(|_| !files.is_whole());
-        Mark { files, floor: self.floor, looks, forgets, lacks }
+        let goes = self.running.iter().flatten().any(|it| it.step == Step::Settles);
+        let goes_on = !goes && !files.is_whole() && files.count() <= PART;
+        Mark { files, floor: self.floor, looks, forgets, lacks, goes_on }
     }
 
     /// The folder is marked: the files are to be kept.

@@ -142,7 +142,7 @@ impl Files {
     }
 
     fn mark(&mut self, mark: Mark, config: Arc<Apply>, taken: Option<Identity>) -> Done {
-        let Mark { mut files, floor, looks, forgets, lacks } = mark;
+        let Mark { mut files, floor, looks, forgets, lacks, .. } = mark;
         (self.config, self.looks) = (config, looks);
         let config = self.config.clone();
         if self.folder.path() != config.folder {
@@ -239,6 +239,11 @@ impl Files {
         }
         let done = done.map(drop).map_err(|error| error.to_string());
         Kept { key, change, put, differs, done }
+    }
+
+    /// Makes these files what they should be, in their order.
+    pub fn keep_all(&mut self, all: Vec<(String, Change)>) -> Vec<Kept> {
+        all.into_iter().map(|(key, change)| self.keep(key, change)).collect()
     }
 
     /// All files were kept: so are the values as they are published.

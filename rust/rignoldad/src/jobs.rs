@@ -41,6 +41,8 @@ pub struct Mark {
     pub forgets: bool,
     /// Why nothing is to be kept, if the folder itself is no reason.
     pub lacks: Option<Outcome>,
+    /// Whether the files may be kept at once then, since they are few.
+    pub goes_on: bool,
 }
 
 /// What came of a job.
@@ -52,6 +54,8 @@ pub enum Done {
     /// The files are from a later body, of this number.
     Later(u64),
     Kept(Vec<Kept>, Option<Ended>),
+    /// This folder is marked, and all files were kept there at once.
+    KeptAtOnce(Option<Identity>, Vec<Kept>, Ended),
     Rested(Option<Fact>),
     Ran(Result<(), String>),
     /// The hook was not told of this change: the files are from a body of this number.

@@ -94,10 +94,17 @@ impl Workers {
 fn work(files: &mut Files, Job { what, config, taken }: Job) -> Done {
     let house = || House::new(&config.folder, taken);
     match what {
-        What::Mark(mark) => files.begins(mark, config, taken),
+        What::Mark(mark) => {
+            let goes_on = mark.goes_on;
+            match files.begins(mark, config, taken) {
+                Done::Marked(all, is) if goes_on => {
+                    Done::KeptAtOnce(is, files.keep_all(all.in_order()), files.ends())
+                }
+                done => done,
+            }
+        }
         What::Keep(part, is_last) => {
-            let kept = part.into_iter().map(|(key, change)| files.keep(key, change)).collect();
-            Done::Kept(kept, is_last.then(|| files.ends()))
+            Done::Kept(files.keep_all(part), is_last.then(|| files.ends()))
         }
         What::Rest => Done::Rested(files.rest()),
         What::One(key, change, floor) => {
