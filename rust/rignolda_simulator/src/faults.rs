@@ -3,9 +3,10 @@ use crate::disks::{set, Disk};
 use crate::drawn;
 use crate::random::Random;
 use crate::world::World;
-use rignolda::net::{Body, Way};
+use rignolda::net::wire::{self, Hello};
+use rignolda::net::{Body, Children, Way};
 use rignolda::settings::Meaning;
-use rignoldactl::Seen;
+use rignoldactl::{Request, Seen};
 use std::collections::BTreeMap;
 use std::sync::Arc;
 
@@ -49,6 +50,26 @@ impl Faults {
         self.random.below(most.max(1))
     }
 
+    /// Operators ask for something, and mostly for what changes settings.
+    pub fn ask(&mut self, world: &mut World) {
+        let it = self.random.at(world.agents.len());
+        let key = format!("k{}{}", self.random.below(12), self.random.of(&["", "", "@canary"]));
+        self.values += 1;
+        let value = format!("{} asked for", self.values).into_bytes();
+        let (it, request) = match self.random.below(12) {
+            0..=3 => (0, Request::Publish { key, value }),
+            4 | 5 => (0, Request::Unset { key }),
+            6 => (0, Request::PromoteValue { key }),
+            7 => (0, Request::Round),
+            8 => (0, Request::Look),
+            9 if self.random.once_in(2) => (0, Request::Drain),
+            9 => (0, Request::Resume),
+            10 => (it, Request::Status),
+            _ => (it, Request::Tree),
+        };
+        world.ask(it, request);
+    }
+
     /// The root's folder changes.
     pub fn change(&mut self, world: &mut World) {
         for _ in 0..1 + self.random.below(3) {
@@ -71,9 +92,9 @@ impl Faults {
     pub fn strike(&mut self, world: &mut World) {
         let it = self.random.at(world.agents.len());
         let kinds = match self.class {
-            Class::World => 19,
-            Class::Memory => 27,
-            Class::Markers => 29,
+            Class::World => 21,
+            Class::Memory => 29,
+            Class::Markers => 31,
         };
         let kind = self.random.below(kinds);
         let what = match kind {
@@ -113,7 +134,8 @@ impl Faults {
                 world.agents[it].disk.hooks_fail = world.clock.now() + self.time(5_000);
                 Some("hooks fail")
             }
-            19..=26 => self.of_memory(world, it, kind),
+            19 | 20 => self.stranger(world, it),
+            21..=28 => self.of_memory(world, it, kind),
             _ => {
                 world.judge.is_spoilt = true;
                 let number = self.number(world);
@@ -123,7 +145,7 @@ impl Faults {
                 Some("marker is spoilt")
             }
         };
-        if let Some(machine) = world.agents[it].machine.as_mut().filter(|_| kind >= 19) {
+        if let Some(machine) = world.agents[it].machine.as_mut().filter(|_| kind >= 21) {
             // (what it knows of its own deadline is of before)
             machine.peers.tick(machine.came.now, &mut machine.came);
         }
@@ -194,6 +216,40 @@ impl Faults {
         Some("root's clock is set back")
     }
 
+    /// Somebody connects under the name of a child, or under none, and says anything.
+    fn stranger(&mut self, world: &mut World, it: usize) -> Option<&'static str> {
+        let peers = &world.drawn.configs[it].peers;
+        let Children::Named(children) = &peers.children else { return None };
+        // (who could be a parent, too, could publish what it likes)
+        let may_be =
+            |name: &&String| !peers.parents.iter().any(|parent| parent.name.as_ref() == Some(name));
+        let names: Vec<&String> = children.keys().filter(may_be).collect();
+        let from = match names.len() {
+            0 => "nobody".into(),
+            count => names[self.random.at(count)].clone(),
+        };
+        let (life, label) = (self.random.number(), self.random.below(255) as u16);
+        let version = self.random.of(&[wire::OLD, wire::FIRST, wire::VERSION]);
+        let hello = Hello { version, life, label, from, to: drawn::name(it) };
+        let mut says = if self.random.once_in(3) { hello.look() } else { hello.bytes() };
+        for _ in 0..self.random.below(20) {
+            match self.random.below(5) {
+                0 => says.extend((0..self.random.below(200)).map(|_| self.random.number() as u8)),
+                1 => says.extend(wire::report(b"{\"name\":")),
+                2 => says.extend(wire::REPORT_REQUEST),
+                3 => says.extend(wire::way(&Way { cost: label, names: Vec::new() })),
+                _ => says.extend(wire::ack(self.random.below(255) as u16)),
+            }
+        }
+        if self.random.once_in(2) {
+            let at = self.random.at(says.len());
+            says[at] = self.random.number() as u8;
+        }
+        let stays = self.time(20_000);
+        world.stranger(it, &says, stays);
+        Some("a stranger says anything")
+    }
+
     // ---- Memory
 
     /// A number, near those that there are or not.
@@ -241,7 +297,7 @@ impl Faults {
         let names = (0..self.random.below(6)).map(|_| drawn::name(self.random.at(count))).collect();
         let machine = world.agents[it].machine.as_mut()?;
         Some(match kind {
-            19 | 20 => {
+            21 | 22 => {
                 let taker = &mut machine.came.table.taker;
                 taker.number = number;
                 taker.floor = if drawn[0] % 3 == 0 { other } else { taker.floor };
@@ -249,7 +305,7 @@ impl Faults {
                 machine.came.ahead = if drawn[2] % 3 == 0 { other } else { machine.came.ahead };
                 "numbers are spoilt"
             }
-            21 | 22 => {
+            23 | 24 => {
                 let relay = machine.peers.relay_mut();
                 for (body, label) in bodies {
                     match it {
@@ -262,12 +318,12 @@ impl Faults {
                 }
                 "list is spoilt"
             }
-            23 => {
+            25 => {
                 let way = Way { cost: (drawn[0] % 256) as u16, names };
                 let _ = machine.peers.parents_mut().hears(way);
                 "way is spoilt"
             }
-            24 => {
+            26 => {
                 let child = machine.peers.relay().children().next()?.0.clone();
                 let seen = Seen {
                     name: child.clone(),
@@ -280,8 +336,8 @@ impl Faults {
                 machine.came.below.heard(&child, &rignoldactl::report(&[seen]), now);
                 "what is known of below is spoilt"
             }
-            25 => {
-                machine.came.published = Default::default();
+            27 => {
+                *machine.came.published.as_mut()? = Default::default();
                 "digests are forgotten"
             }
             _ => {

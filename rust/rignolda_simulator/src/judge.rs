@@ -4,7 +4,7 @@ use crate::disks::{counting, Disk, Put, Settings};
 use crate::drawn::{self, Drawn, ROOM};
 use crate::lines::End;
 use rignolda::net::BODY_BYTES;
-use rignolda::settings::{is_newer, SETTINGS};
+use rignolda::settings::{is_newer, of_group, SETTINGS};
 use rignoldactl::{Compared, Seen};
 use rignoldad::machine::Machine;
 use std::collections::{BTreeMap, BTreeSet};
@@ -15,15 +15,17 @@ const RING: u64 = 60_000;
 /// How a promise is broken: which one, and by whom.
 pub type Broken = String;
 
-/// The values that a file of agents of some groups had, in the order in which the root's folder had
-/// them. The first one is none.
-type History = BTreeMap<String, Vec<Option<Vec<u8>>>>;
+/// The values that a key of the root's folder had, in their order. The first one is none.
+type History = Vec<Option<Vec<u8>>>;
 
 /// What is known of the run.
 pub struct Judge {
     groups: Vec<Vec<String>>,
-    /// By groups, what files had to be after each change of the folder.
-    histories: BTreeMap<Vec<String>, History>,
+    /// What each key had. A file has the value of its key or of one for a group, as far as the root
+    /// knew them: so each is in an order of its own.
+    histories: BTreeMap<String, History>,
+    /// What the folder is, and by groups what files are to be.
+    folder: Settings,
     folders: BTreeMap<Vec<String>, Settings>,
     /// The place in its history of what each agent put last, by key.
     places: Vec<BTreeMap<String, usize>>,
@@ -40,6 +42,8 @@ pub struct Judge {
     rings: BTreeMap<usize, u64>,
     /// How often `wait` would have ended, and how often each line was written.
     pub waits: u64,
+    /// Whether somebody was answered who had not asked, or had an answer.
+    pub answers_twice: bool,
     /// How many tables of rounds the root has published, and the number of the last one.
     pub rounds: u64,
     round: u64,
@@ -55,7 +59,8 @@ impl Judge {
         let groups: Vec<_> = groups.collect();
         Judge {
             places: vec![BTreeMap::new(); groups.len()],
-            histories: groups.iter().map(|it| (it.clone(), History::new())).collect(),
+            histories: BTreeMap::new(),
+            folder: Settings::new(),
             folders: groups.iter().map(|it| (it.clone(), Settings::new())).collect(),
             version: 0,
             right: vec![0; groups.len()],
@@ -65,6 +70,7 @@ impl Judge {
             is_set_back: false,
             rings: BTreeMap::new(),
             waits: 0,
+            answers_twice: false,
             rounds: 0,
             round: 0,
             facts: BTreeMap::new(),
@@ -73,20 +79,24 @@ impl Judge {
 
     /// The root's folder is this from now on.
     pub fn changed(&mut self, folder: &Settings) {
+        if self.folder == *folder {
+            return;
+        }
+        for key in self.folder.keys().chain(folder.keys()).collect::<BTreeSet<_>>() {
+            let value = folder.get(key);
+            if value != self.folder.get(key) {
+                let values = self.histories.entry(key.clone()).or_insert_with(|| vec![None]);
+                values.push(value.cloned());
+            }
+        }
+        self.folder.clone_from(folder);
         let before = self.version;
         self.version += 1;
-        for (groups, history) in &mut self.histories {
-            let (new, old) = (counting(folder, groups), self.folders.get_mut(groups));
-            let Some(old) = old else { continue };
+        for (groups, old) in &mut self.folders {
+            let new = counting(folder, groups);
             if *old == new {
                 let same = self.right.iter_mut().zip(&self.groups).filter(|(_, it)| *it == groups);
                 same.filter(|it| *it.0 == before).for_each(|it| *it.0 = self.version);
-            }
-            for key in old.keys().chain(new.keys()).collect::<BTreeSet<_>>() {
-                if old.get(key) != new.get(key) {
-                    let values = history.entry(key.clone()).or_insert_with(|| vec![None]);
-                    values.push(new.get(key).cloned());
-                }
             }
             *old = new;
         }
@@ -136,6 +146,9 @@ impl Judge {
         if it == 0 && round != self.round {
             (self.round, self.rounds) = (round, self.rounds + 1);
         }
+        if self.answers_twice {
+            return Err(format!("ANSWER: n{it} answers who has not asked"));
+        }
         let relay = machine.peers.relay();
         let (kept, bytes) = relay.kept();
         if kept > ROOM || bytes > 5 * BODY_BYTES {
@@ -158,24 +171,35 @@ impl Judge {
     }
 
     /// A file was put: its value is one that was published, and no older one than before.
-    fn put(&mut self, it: usize, (key, value): Put) -> Result<(), Broken> {
-        let none = vec![None];
-        let history = self.histories.get(&self.groups[it]).and_then(|it| it.get(&key));
-        let values = history.unwrap_or(&none);
+    fn put(&mut self, it: usize, (file, value): Put) -> Result<(), Broken> {
         if value.as_ref().is_some_and(|it| self.forged.contains(it)) {
             return Ok(());
         }
-        let last = self.places[it].get(&key).copied().unwrap_or(0);
-        let later = (last..values.len()).find(|at| values[*at] == value);
-        match later.or_else(|| values.iter().rposition(|it| *it == value)) {
-            None => {
-                let text = value.as_deref().map(String::from_utf8_lossy);
-                return Err(format!("UNKNOWN: n{it} puts {key} {text:?}, which nobody published"));
-            }
-            Some(at) if at < last && !self.is_spoilt && !self.is_set_back => {
-                return Err(format!("OLDER: n{it} puts {key} {at} after {last}"));
-            }
-            Some(at) => drop(self.places[it].insert(key, at)),
+        let (none, places) = (vec![None], &mut self.places[it]);
+        let groups = self.groups[it].iter().map(|group| of_group(&file, group));
+        let keys: Vec<String> = groups.chain([file.clone()]).collect();
+        let history = |key: &str| self.histories.get(key).unwrap_or(&none);
+        let later = |key: &String, last: usize| {
+            let all = history(key);
+            (last..all.len()).find(|at| all[*at] == value)
+        };
+        let last = |key: &String| places.get(key).copied().unwrap_or(0);
+        let found: Vec<_> =
+            keys.iter().map(|key| Some((key.clone(), later(key, last(key))?))).collect();
+        // (a file goes if no key has a value)
+        let is_newer = match value {
+            Some(_) => found.iter().any(Option::is_some),
+            None => found.iter().all(Option::is_some),
+        };
+        let is_known = || keys.iter().any(|key| later(key, 0).is_some());
+        if is_newer {
+            places.extend(found.into_iter().flatten());
+        } else if !is_known() {
+            let text = value.as_deref().map(String::from_utf8_lossy);
+            return Err(format!("UNKNOWN: n{it} puts {file} {text:?}, which nobody published"));
+        } else if !self.is_spoilt && !self.is_set_back {
+            let text = value.as_deref().map(String::from_utf8_lossy);
+            return Err(format!("OLDER: n{it} puts {file} {text:?} after something newer"));
         }
         Ok(())
     }

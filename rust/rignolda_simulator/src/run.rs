@@ -2,6 +2,7 @@
 use crate::faults::{Class, Faults};
 use crate::judge::Broken;
 use crate::world::World;
+use rignoldactl::Request;
 use std::collections::BTreeMap;
 
 /// How often `wait` and rings are looked at, in milliseconds.
@@ -12,6 +13,9 @@ const TREE: u64 = 240_000;
 /// know how deep its tree is. A table that is on its way down counts as the next one.
 const ROUNDS: u64 = 3;
 
+/// Within which time an agent answers that is up. (It may be stopped for a while, and its disk be
+/// slow; what is published waits for the quickest child.)
+const ANSWERS: u64 = 120_000;
 /// How many changes have to come to all agents by themselves at the end: a round would hide that
 /// one is lost.
 const CHANGES: u64 = 3;
@@ -89,6 +93,7 @@ impl Run {
         let (mut fault, mut change, mut look) = (3_000, 0, 0);
         while self.now() < span {
             self.world.start_some();
+            self.world.strangers_leave(false);
             if self.now() >= fault {
                 if self.struck < self.plan.faults {
                     self.struck += 1;
@@ -97,7 +102,10 @@ impl Run {
                 fault = self.now() + self.faults.time(2 * pause);
             }
             if self.now() >= change {
-                self.faults.change(&mut self.world);
+                match self.faults.time(4) {
+                    0 => self.faults.ask(&mut self.world),
+                    _ => self.faults.change(&mut self.world),
+                }
                 change = self.now() + self.faults.time(2 * changes);
             }
             if self.now() >= look {
@@ -119,6 +127,9 @@ impl Run {
     /// What is judged all the time.
     fn looks(&mut self) -> Result<(), Broken> {
         let now = self.now();
+        if let Some(it) = self.world.waits(ANSWERS) {
+            return Err(format!("SILENT: n{it} does not answer"));
+        }
         let rings = self.world.tree().1;
         self.world.judge.rings(&rings, now)?;
         self.world.wait()
@@ -128,6 +139,7 @@ impl Run {
     fn calms(&mut self) {
         let now = self.now();
         let world = &mut self.world;
+        world.strangers_leave(true);
         world.apart.clear();
         for (it, agent) in world.agents.iter_mut().enumerate() {
             (agent.refuses, agent.stopped) = (0, 0);
@@ -138,6 +150,8 @@ impl Run {
             world.clock.wake(now, it);
         }
         world.start_some();
+        // (else nothing is published any more)
+        world.ask(0, Request::Resume);
         self.faults.change(world);
     }
 

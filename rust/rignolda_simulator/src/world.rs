@@ -6,10 +6,12 @@ use crate::judge::{Broken, Judge};
 use crate::lines::{line, Clock, End};
 use crate::random::Random;
 use rignolda::net::{Address, Call};
+use rignoldactl::Request;
 use rignoldad::machine::{Act, Host, Input, Machine, Now};
+use rignoldad::serve::Ticket;
 use std::cmp::Reverse;
 use std::collections::{BTreeMap, BTreeSet, BinaryHeap};
-use std::io;
+use std::io::{self, Write};
 use std::rc::Rc;
 use std::time::{Duration, Instant};
 
@@ -26,6 +28,7 @@ enum Comes {
     Called(Box<Call<Address>>, io::Result<End>),
     /// A worker has done this.
     Works(Box<Act>),
+    Asked(Ticket, Request),
     Changed,
 }
 
@@ -60,6 +63,10 @@ pub struct World {
     pub folder: Settings,
     pub judge: Judge,
     pub turns: u64,
+    /// Who asked an agent for something and was not answered yet, and when.
+    asked: Vec<(usize, Ticket, u64)>,
+    /// The ends of lines that nobody of the tree has, and until when each is there.
+    strangers: Vec<(End, u64)>,
     seed: u64,
     began: Instant,
     heap: BinaryHeap<Reverse<(u64, u64, usize)>>,
@@ -95,6 +102,8 @@ impl World {
             apart: BTreeSet::new(),
             folder: Settings::new(),
             turns: 0,
+            asked: Vec::new(),
+            strangers: Vec::new(),
             seed,
             began: Instant::now(),
             heap: BinaryHeap::new(),
@@ -152,6 +161,7 @@ impl World {
             machine.peers.lines().for_each(|(_, line, _)| line.is_cut_off());
         }
         agent.machine = None;
+        self.asked.retain(|(to, ..)| *to != it);
         let mut begun = 0;
         for what in std::mem::take(&mut agent.comes).into_values() {
             if let Comes::Works(act) = what {
@@ -163,6 +173,7 @@ impl World {
             }
         }
         agent.starts = Some(now + starts);
+        self.judge.changed(&self.folder);
     }
 
     /// The root's folder has changed.
@@ -248,11 +259,15 @@ impl World {
                 Comes::Line(line) => self.step(it, Input::Accepted(line)),
                 Comes::Called(call, line) => self.step(it, Input::Called(*call, line)),
                 Comes::Changed => self.step(it, Input::Changed),
+                Comes::Asked(ticket, request) => self.step(it, Input::Asked(ticket, request)),
                 Comes::Works(act) => {
+                    let is_root = matches!(*act, Act::Disk(_));
                     let disk = &mut self.agents[it].disk;
-                    if let Some(input) = disk.works(*act, &mut self.folder, clock) {
-                        self.step(it, input);
+                    let done = disk.works(*act, &mut self.folder, clock);
+                    if is_root {
+                        self.judge.changed(&self.folder);
                     }
+                    done.into_iter().for_each(|input| self.step(it, input));
                 }
             }
         }
@@ -309,7 +324,14 @@ impl World {
             }
             Act::Fail(why) => self.agents[it].failed = Some(why.into()),
             Act::Restart => self.agents[it].failed = Some(String::new()),
-            Act::Anew | Act::Begins | Act::Check | Act::Answer(..) | Act::Turn(..) => (),
+            Act::Answer(ticket, _) => {
+                let at = self.asked.iter().position(|(to, own, _)| (*to, *own) == (it, ticket));
+                match at {
+                    Some(at) => drop(self.asked.remove(at)),
+                    None => self.judge.answers_twice = true,
+                }
+            }
+            Act::Anew | Act::Begins | Act::Check | Act::Turn(..) => (),
             act => {
                 let clock = self.clock.now();
                 let at = self.agents[it].disk.takes(&act, self.drawn.files[it], clock);
@@ -337,6 +359,42 @@ impl World {
         let [here, there] = line(&self.clock, [it, to], self.drawn.slow, random);
         self.comes(it, after, Comes::Called(Box::new(call), Ok(here)));
         self.comes(to, after, Comes::Line(there));
+    }
+
+    /// An operator asks an agent for something.
+    pub fn ask(&mut self, it: usize, request: Request) {
+        if self.agents[it].machine.is_some() {
+            self.lines += 1;
+            let ticket = Ticket::of_number(self.lines);
+            self.asked.push((it, ticket, self.clock.now()));
+            self.comes(it, 0, Comes::Asked(ticket, request));
+        }
+    }
+
+    /// Who asked longer ago than this and was not answered.
+    pub fn waits(&self, most: u64) -> Option<usize> {
+        let since = self.clock.now().saturating_sub(most);
+        self.asked.iter().find(|(.., at)| *at < since).map(|it| it.0)
+    }
+
+    /// A stranger connects to an agent, says this, and is there for so long.
+    pub fn stranger(&mut self, it: usize, says: &[u8], stays: u64) {
+        if self.agents[it].machine.is_none() {
+            return;
+        }
+        self.lines += 1;
+        let random = Random::new(self.seed, "stranger", self.lines);
+        let [mut here, there] = line(&self.clock, [it, it], self.drawn.slow, random);
+        // (of what does not fit at once the rest is never said)
+        let _ = here.write(says);
+        self.strangers.push((here, self.clock.now() + stays));
+        self.comes(it, 0, Comes::Line(there));
+    }
+
+    /// Strangers whose time is over leave; or all of them.
+    pub fn strangers_leave(&mut self, all: bool) {
+        let now = self.clock.now();
+        self.strangers.retain(|(_, until)| !all && now < *until);
     }
 
     /// Which agent is the parent of this one, where both say so.

@@ -20,9 +20,8 @@ pub type Trace = fn(&'static str, &str);
 pub struct Came {
     /// When it is.
     pub now: Instant,
-    pub is_root: bool,
-    /// At the root: the digests of what it published.
-    pub published: Published,
+    /// The digests of what it published, if it is the root.
+    pub published: Option<Published>,
     pub table: Table,
     pub applier: Option<Applier>,
     /// Where it may be promoted.
@@ -66,8 +65,7 @@ impl Came {
         table.taker = Taker::new(floor);
         Came {
             now,
-            is_root: false,
-            published: Published::default(),
+            published: None,
             table,
             applier,
             standby,
@@ -92,8 +90,7 @@ impl Came {
     /// Begins as an agent below a root, of which nothing has come yet.
     pub fn begins(&mut self, now: Instant) {
         self.restarts(self.table.taker.floor);
-        self.is_root = false;
-        self.published = Published::default();
+        self.published = None;
         (self.below, self.ahead, self.seen) = (Below::default(), 0, 0);
         self.round_at = Some(now);
     }
@@ -125,10 +122,10 @@ impl Came {
 
     /// At the root: what agents of the groups that there are ought to have is known from now on.
     pub fn knows_groups(&mut self) {
-        if self.is_root {
+        if let Some(published) = &mut self.published {
             let own = self.applier.as_ref().map_or(Vec::new(), Applier::groups);
             let groups = self.below.groups();
-            self.published.knows(&own, groups.iter().map(|all| all.iter().map(|it| &**it)));
+            published.knows(&own, groups.iter().map(|all| all.iter().map(|it| &**it)));
         }
     }
 
@@ -213,11 +210,11 @@ impl Handler for Came {
         let is_table = matches!(meaning, Meaning::Table(_));
         // (of the items of a round that nothing follows from, the table that ends it tells)
         self.changed |= !takes || meaning != Meaning::Harmless;
-        if self.is_root {
+        if let Some(published) = &mut self.published {
             let is_end = is_table && self.table.heard.looks;
             let ends = if is_end { Ends::ARound } else { Ends::Nothing };
-            self.published.take(sequence, &meaning, ends);
-            if self.published.has_other_groups() || is_end {
+            published.take(sequence, &meaning, ends);
+            if published.has_other_groups() || is_end {
                 self.knows_groups();
             }
         }
@@ -234,7 +231,8 @@ impl Handler for Came {
         }
         if let Some(writes) = self.traces {
             // (what a trial judges is written before anything follows from it)
-            writes(if self.is_root { "published" } else { "received" }, &sequence.to_string());
+            let fact = self.published.as_ref().map_or("received", |_| "published");
+            writes(fact, &sequence.to_string());
         }
         if self.table.strays > strays && self.says(now) {
             self.tell("stray", format!("{sequence} ({} in all)", self.table.strays));

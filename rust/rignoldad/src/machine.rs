@@ -11,6 +11,7 @@
 use crate::apply::{self, Applier};
 use crate::came::Came;
 use crate::config::{Address, Config};
+use crate::digest::Published;
 use crate::disk;
 use crate::jobs;
 use crate::refused::Refused;
@@ -370,7 +371,7 @@ impl<L: Line> Machine<L> {
     ) {
         let root = self.config.root.as_ref().map(|it| Root::new(it, applied, above, now));
         acts.extend(root.as_ref().map(|_| Act::Begins));
-        (self.came.is_root, self.root) = (root.is_some(), root);
+        (self.came.published, self.root) = (root.as_ref().map(|_| Published::default()), root);
     }
 
     /// Leaves all connections and is there anew, as after a restart, at another place of the tree.
@@ -394,7 +395,7 @@ impl<L: Line> Machine<L> {
             None => standby.is_some(),
         };
         let is_there = (standby == Some(true)) == self.came.standby.is_some();
-        is_there && [self.root.is_some(), self.came.is_root] == [is_root; 2]
+        is_there && [self.root.is_some(), self.came.published.is_some()] == [is_root; 2]
     }
 
     /// Takes what may change of the configuration while it runs: the names of what does not.

@@ -76,7 +76,8 @@ impl<L: Line> Machine<L> {
             }
             (_, None) => return Err(Refused::NotRoot),
             (Request::Key { key }, _) => {
-                return Ok(Some(Response::Key(self.came.published.key(&key))));
+                let published = self.came.published.as_ref().ok_or(Refused::NotRoot)?;
+                return Ok(Some(Response::Key(published.key(&key))));
             }
             // (who asked for a change is answered when it is published)
             (Request::Publish { key, value }, Some(root)) => {

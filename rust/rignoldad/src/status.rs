@@ -102,7 +102,7 @@ impl<L: Line> Machine<L> {
     pub fn tree(&self, status: &Status, now: Instant) -> Vec<Seen> {
         let mut list = self.came.below.tree(status, now);
         for seen in &mut list {
-            let compared = status.is_root.then(|| self.came.published.compared(seen));
+            let compared = self.came.published.as_ref().map(|it| it.compared(seen));
             seen.compared = compared.unwrap_or_default();
         }
         list

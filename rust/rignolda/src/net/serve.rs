@@ -72,6 +72,13 @@ static MADE: AtomicU64 = AtomicU64::new(1);
 #[derive(Clone, Copy, Debug, PartialEq, Eq)]
 pub struct Ticket(u64);
 
+impl Ticket {
+    /// One that no server gives, where there is none: in a trial.
+    pub fn of_number(number: u64) -> Ticket {
+        Ticket(number)
+    }
+}
+
 /// Reads the first request of some bytes, and how many it took; nothing where more has to come. Of
 /// the first ones, as many as it is told, it has said before that more has to come: so it need not
 /// look at these again.
