@@ -173,7 +173,9 @@ impl Run {
                 continue;
             }
             let rounds = self.world.rounds();
-            let rounds = rounds - *begun.get_or_insert(rounds);
+            // (operators may have asked for several at once, which began before the last change)
+            let most = (now - since) / round + 1;
+            let rounds = most.min(rounds - *begun.get_or_insert(rounds));
             let wrong = self.world.wrong();
             if !wrong.is_empty() {
                 self.rounds = rounds + 1;
