@@ -19,7 +19,7 @@ PROCESSOR := $(firstword $(subst -, ,$(shell $(CC) -dumpmachine 2>/dev/null)))
 RELEASE := release/$(if $(filter aarch64 arm64,$(PROCESSOR)),arm64/)
 LIBRARY ?= $(firstword $(wildcard $(RELEASE)librignolda.a lib/librignolda.a))
 SETTINGS ?= $(firstword $(wildcard $(RELEASE)librignolda_settings.a lib/librignolda_settings.a \
-                                   rust/rignolda/lib/$(PROCESSOR)-linux-settings.a))
+                                   rust/rignolda_machine/lib/$(PROCESSOR)-linux-settings.a))
 VERSION := $(shell sed -nE '/^\#\# /{s/^\#\# ([0-9]+(\.[0-9]+){2}), .*$$/\1/p;q}' CHANGELOG.md)
 # What a program that is linked asks for. The layout of the structs is part of it: while the first
 # number is 0, it is the second one.

@@ -184,3 +184,10 @@ extern "C" {
     pub(crate) fn rignolda_word_of_label(label: u16) -> u64;
     pub(crate) fn rignolda_word_label(word: u64, label: &mut u16) -> bool;
 }
+
+crate::spoils! { Params { capacity, labels } }
+crate::spoils! { Sender { item, label, holding, closed } }
+crate::spoils! { Receiver { label, closed } }
+crate::spoils! { Node { above, length, forgotten, old_frames } }
+crate::spoils! { Child { sender, offered, acknowledged, ignored } }
+crate::spoils! { Session { number, there, turn } }

@@ -93,22 +93,23 @@
 //!
 //! # Agents over a network
 //!
-//! With the feature `net`, which is on unless it is turned off, there is what an agent needs beside
-//! these calls: `net` are its connections, byte for byte and without sockets, and `settings` are
-//! keys and values that travel so. These two need the standard library. What bodies say, which are
-//! published, taken and applied is asked of calls that are proved; what is around these is tested.
-#![cfg_attr(not(feature = "net"), no_std)]
+//! What an agent needs beside these calls, its connections, links with bodies and settings, is the
+//! crate `rignolda_machine`, without sockets, files and clocks as well.
+#![no_std]
 #![warn(missing_debug_implementations, missing_docs)]
 
 extern crate alloc;
+#[cfg(feature = "trial")]
+extern crate std;
 
 mod calls;
-#[cfg(feature = "net")]
-pub mod net;
+#[cfg(not(feature = "trial"))]
+mod no_trial;
 mod node;
 mod session;
-#[cfg(feature = "net")]
-pub mod settings;
+#[cfg(feature = "trial")]
+#[doc(hidden)]
+pub mod trial;
 pub mod word;
 
 pub use node::{Child, Node};
@@ -182,8 +183,7 @@ impl fmt::Display for ParamsError {
     }
 }
 
-#[cfg(feature = "net")]
-impl std::error::Error for ParamsError {}
+impl core::error::Error for ParamsError {}
 
 /// A message of a sender: its item under its label.
 #[derive(Clone, Copy, Debug, PartialEq, Eq)]
@@ -338,3 +338,5 @@ impl Receiver {
         self.raw.label
     }
 }
+
+crate::spoils! { Params { 0 } }

@@ -97,6 +97,11 @@ impl Node {
         }
     }
 
+    /// For how many items that a child still needs it has room.
+    pub fn room(&self) -> usize {
+        self.list.len()
+    }
+
     /// At the root: puts an item at the back of the list. Whether there was room. No law speaks of
     /// an item that another node puts into its list.
     #[must_use = "an item for which there is no room is not in the list"]
@@ -318,3 +323,6 @@ impl Child {
         self.raw.sender.label
     }
 }
+
+crate::spoils! { Node { raw, list, id } }
+crate::spoils! { Child { raw, params, node } }

@@ -111,9 +111,9 @@ impl<End> Session<End> {
         &self.end
     }
 
-    /// Whether no number is left for a next connection.
-    #[cfg(feature = "net")]
-    pub(crate) fn is_spent(&self) -> bool {
+    /// Whether no number is left for a next connection: then neither [`Session::made`] nor
+    /// [`Session::accepted`] gives one, and session and end are to be made anew.
+    pub fn is_spent(&self) -> bool {
         self.raw.number == u64::MAX
     }
 
@@ -354,4 +354,17 @@ fn ack(receiver: &calls::Receiver, session: &mut calls::Session) -> Option<u16> 
     let mut label = 0;
     // SAFETY: the call has the session and the label for itself, and only reads the receiver.
     unsafe { calls::rignolda_session_ack(receiver, session, &mut label) }.then_some(label)
+}
+
+crate::spoils! { Session<End> { end, raw } }
+
+#[cfg(feature = "trial")]
+impl crate::trial::Spoil for Connection {
+    fn spoil(&mut self, by: &mut crate::trial::Spoils<'_>) {
+        self.0.spoil(by);
+    }
+
+    fn any(by: &mut crate::trial::Spoils<'_>) -> Option<Connection> {
+        NonZeroU64::any(by).map(Connection)
+    }
 }

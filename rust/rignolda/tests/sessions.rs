@@ -95,18 +95,14 @@ impl Link {
             self.offered += 1;
         }
         for wire in &mut self.wires {
-            if wire.sender.number.map_or(false, |it| self.sender.has(it)) {
+            if wire.sender.number.is_some_and(|it| self.sender.has(it)) {
                 if let Some(frame) = self.sender.send() {
                     if !wire.is_broken {
                         wire.receiver.to_it.push_back(frame);
                     }
                 }
             }
-            if wire
-                .receiver
-                .number
-                .map_or(false, |it| self.receiver.has(it))
-            {
+            if wire.receiver.number.is_some_and(|it| self.receiver.has(it)) {
                 if let Some(label) = self.receiver.ack() {
                     if !wire.is_broken {
                         wire.sender.to_it.push_back(label);

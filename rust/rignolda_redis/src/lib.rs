@@ -1,4 +1,4 @@
-//! A store of Redis for the links of an agent that lie there (`rignolda::net::Store`).
+//! A store of Redis for the links of an agent that lie there ([`Turn`]).
 //!
 //! A turn is a transaction (MULTI, EXEC) and then GETRANGE of each key. So that no transaction that
 //! was given up is done later, each connection first sets `PREFIX:AGENT`, a key of the agent's own,
@@ -9,13 +9,16 @@
 #![forbid(unsafe_code)]
 #![warn(missing_debug_implementations)]
 mod connection;
+mod worker;
 
 use connection::{Connection, Due, Reply};
-use rignolda::net::{Address, Store, Turn, Worker};
+use rignolda_machine::net::{Address, Turn};
 use std::path::PathBuf;
 use std::sync::Arc;
 use std::time::Duration;
 use std::{fmt, io};
+
+pub use worker::{Worker, LOST};
 
 /// How an agent logs in to a store.
 #[derive(Clone, Debug, Default, PartialEq, Eq)]
@@ -28,7 +31,7 @@ pub struct Login {
     pub database: u32,
 }
 
-type StoreWorker = Worker<Turn, io::Result<Vec<Vec<u8>>>>;
+type StoreWorker = Worker<Turn, Result<Vec<Vec<u8>>, String>>;
 
 /// The stores of an agent, each with a thread that waits for it.
 pub struct Stores {
@@ -52,7 +55,7 @@ impl Stores {
     }
 
     /// What came of the turns that are over.
-    pub fn done(&self) -> impl Iterator<Item = (&Address, io::Result<Vec<Vec<u8>>>)> {
+    pub fn done(&self) -> impl Iterator<Item = (&Address, Result<Vec<Vec<u8>>, String>)> {
         self.workers.iter().filter_map(|(address, worker)| Some((address, worker.done()?)))
     }
 
@@ -174,15 +177,14 @@ impl Redis {
     }
 }
 
-impl Store for Redis {
-    fn turn(&mut self, turn: &Turn) -> io::Result<Vec<Vec<u8>>> {
-        self.got(turn).map_err(io::Error::other)
-    }
-}
-
 impl Redis {
-    /// What a turn got, on the connection that there is or on a new one.
-    fn got(&mut self, turn: &Turn) -> Result<Vec<Vec<u8>>, String> {
+    /// Sets and gets, on the connection that there is or on a new one: what each key shows, or
+    /// nothing if there is none.
+    ///
+    /// # Errors
+    ///
+    /// Why it is not known to be done.
+    pub fn turn(&mut self, turn: &Turn) -> Result<Vec<Vec<u8>>, String> {
         let mut connection = match self.connection.take() {
             Some(connection) => connection,
             None => self.connect()?,

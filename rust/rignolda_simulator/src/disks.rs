@@ -1,18 +1,15 @@
 //! The disk of an agent, in memory: what its workers do with it, and what is left of it by a crash,
 //! a loss of power or a copy that comes back.
-use crate::lines::End;
 use crate::random::Random;
-use rignolda::settings::{is_newer, parts, Change, Waiting};
-use rignoldactl::source::{self, Faults};
-use rignoldad::apply::{self, Applied, Outcome};
+use rignolda_machine::apply::{self, Applied, Outcome};
+use rignolda_machine::apply::{Done, Ended, Identity, Job, Kept, Mark, What};
+use rignolda_machine::machine::{Act, Found, Input};
+use rignolda_machine::settings::{is_key, is_newer, of_group, parts, Change, Waiting};
 use rignoldad::digest::Digest;
-use rignoldad::disk;
 use rignoldad::files;
-use rignoldad::jobs::{Done, Ended, Job, Kept, Mark, What};
-use rignoldad::kept::Record;
-use rignoldad::machine::{Act, Found, Input};
-use rignoldad::place::Identity;
 use std::collections::{BTreeMap, BTreeSet};
+
+mod root;
 
 /// Settings by their keys.
 pub type Settings = BTreeMap<String, Vec<u8>>;
@@ -92,10 +89,13 @@ impl Disk {
         Found { applied: Some(applied), standby: None }
     }
 
-    /// The disk of another time comes in the place of this one.
-    pub fn goes_back(&mut self, to: Disk) {
+    /// The disk of another time comes in the place of this one. (A root that holds changes back
+    /// knows by its record alone what it has published: where that is older, so is what it goes on
+    /// with.)
+    pub fn goes_back(&mut self, to: Disk, holds: bool) {
         let random = self.random.clone();
-        *self = Disk { random, life: self.life + 1, puts: Vec::new(), ..to };
+        let record = if holds { self.record.take() } else { to.record.clone() };
+        *self = Disk { random, record, life: self.life + 1, puts: Vec::new(), ..to };
     }
 
     /// When a job that is begun now is done, which takes up to so long: one of a worker comes after
@@ -119,12 +119,7 @@ impl Disk {
     }
 
     /// A worker does a job: what came of it. The root's folder is lent.
-    pub fn works(
-        &mut self,
-        act: Act,
-        folder: &mut Settings,
-        now: u64,
-    ) -> Option<Input<'static, End>> {
+    pub fn works(&mut self, act: Act, folder: &mut Settings, now: u64) -> Option<Input<'static>> {
         Some(match act {
             Act::Disk(job) => Input::Disk(self.root_works(job, folder, now)),
             Act::Apply(at, job) => Input::Applied(at, self.applies(job, now)),
@@ -175,7 +170,7 @@ impl Disk {
     }
 
     fn mark(&mut self, mark: Mark, groups: &[String], taken: Option<Identity>, now: u64) -> Done {
-        let is = Some(Identity::of_number(self.life));
+        let is = Some(Identity([self.life; 4]));
         let forgets = mark.forgets || taken != is;
         if forgets {
             self.known.clear();
@@ -205,7 +200,10 @@ impl Disk {
         let put = self.known.get(&key) == value.as_ref();
         let had = !self.looks && value.is_some() && put;
         let differs = !had && self.files.get(&key) != value.as_ref();
-        let done = if differs { self.refuses(self.fails, now) } else { Ok(()) };
+        let mut done = if differs { self.refuses(self.fails, now) } else { Ok(()) };
+        if differs && !is_key(&key) {
+            done = Err("it is no key".into());
+        }
         if done.is_ok() {
             if differs {
                 self.pending.insert(key.clone());
@@ -237,57 +235,8 @@ impl Disk {
             let status = done.map_or_else(Outcome::File, |()| Outcome::Done);
             grouped.push(Applied { key: files::beside(&key), sequence: change.last, status });
         }
-        let is = Some(Identity::of_number(self.life));
+        let is = Some(Identity([self.life; 4]));
         Ended { is, sum: self.digest.sum, whole: None, grouped, facts: Vec::new() }
-    }
-
-    // ---- The root's folder
-
-    fn root_works(&mut self, job: disk::Job, folder: &mut Settings, now: u64) -> disk::Done {
-        match job {
-            disk::Job::Recall => {
-                disk::Done::Recalled(self.record.as_deref().and_then(Record::parse))
-            }
-            disk::Job::Keep(text) => {
-                let done = self.refuses(self.fails, now);
-                if done.is_ok() {
-                    self.record = Some(text);
-                }
-                disk::Done::Kept(done)
-            }
-            disk::Job::Read => self.reads(folder),
-            disk::Job::Changed => match self.changed.replace(BTreeSet::new()) {
-                Some(keys) if self.was_read && !keys.is_empty() => {
-                    let value = |key: String| (key.clone(), folder.get(&key).cloned());
-                    disk::Done::Keys(keys.into_iter().map(value).collect())
-                }
-                _ => self.reads(folder),
-            },
-            disk::Job::Write(changes) => self.writes(changes, folder, now),
-            disk::Job::Promote(key) => {
-                let value = folder.get(&key).cloned();
-                self.writes(vec![(parts(&key).0.into(), value), (key, None)], folder, now)
-            }
-        }
-    }
-
-    fn reads(&mut self, folder: &Settings) -> disk::Done {
-        (self.was_read, self.changed) = (true, Some(BTreeSet::new()));
-        let settings = folder.clone();
-        let (unread, faults) = (BTreeMap::new(), Faults::default());
-        disk::Done::Read(Ok(source::Found { settings, unread, faults }))
-    }
-
-    fn writes(&mut self, changes: Vec<Put>, folder: &mut Settings, now: u64) -> disk::Done {
-        let refused = self.refuses(self.fails, now);
-        let write = |(key, value): Put| {
-            let done = refused.clone().map_err(rignoldad::refused::Refused::from);
-            if done.is_ok() {
-                set(folder, &key, value.clone());
-            }
-            ((key, value), done)
-        };
-        disk::Done::Written { all: changes.into_iter().map(write).collect(), others: false }
     }
 }
 
@@ -301,15 +250,10 @@ pub fn set(settings: &mut Settings, key: &str, value: Option<Vec<u8>>) {
 
 /// What agents of these groups ought to have, if this was published.
 pub fn counting(settings: &Settings, groups: &[String]) -> Settings {
-    let mut all = Settings::new();
-    for (key, value) in settings {
-        match parts(key) {
-            (_, None) => drop(all.entry(key.clone()).or_insert_with(|| value.clone())),
-            (file, Some(group)) if groups.iter().any(|it| it == group) => {
-                all.insert(file.into(), value.clone());
-            }
-            _ => (),
-        }
-    }
-    all
+    let files = settings.keys().map(|key| parts(key).0).collect::<BTreeSet<_>>();
+    let value = |file: &str| {
+        let of_groups = groups.iter().find_map(|it| settings.get(&of_group(file, it)));
+        Some((file.to_owned(), of_groups.or_else(|| settings.get(file))?.clone()))
+    };
+    files.into_iter().filter_map(value).collect()
 }

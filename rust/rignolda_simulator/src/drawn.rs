@@ -1,9 +1,8 @@
 //! What a run is of, as its seed draws it: the shape of a tree, its links, groups and times.
 use crate::random::Random;
-use rignolda::net::{Address, Children, Parent, Setup};
-use rignoldad::config::{Apply, Config, Root};
+use rignolda_machine::config::{Apply, Config, Root};
+use rignolda_machine::net::{wire, Address, Children, Parent, Setup};
 use std::collections::BTreeMap;
-use std::path::PathBuf;
 use std::time::Duration;
 
 /// The room of an agent's list.
@@ -18,6 +17,12 @@ pub struct Drawn {
     pub slow: u64,
     pub files: Vec<u64>,
     pub round: u64,
+    /// Which version of the protocol each agent speaks at most, as one of an older release does;
+    /// and after how long its first life restarts itself, if it does.
+    pub speaks: Vec<u8>,
+    pub restarts: Vec<Option<u64>>,
+    /// Whether changes of the root's folder may be held until somebody confirms them.
+    pub holds: bool,
     /// For how long there are faults, in milliseconds; and how often one comes, and a change.
     pub span: u64,
     pub pause: u64,
@@ -35,13 +40,13 @@ pub fn agent(name: &str) -> Option<usize> {
 }
 
 fn address(agent: usize) -> Address {
-    Address::Unix(PathBuf::from(format!("/{}", name(agent))))
+    Address::Unix(format!("/{}", name(agent)))
 }
 
 /// Which agent listens at this address, if one does.
 pub fn listens(address: &Address) -> Option<usize> {
     match address {
-        Address::Unix(path) => agent(path.file_name()?.to_str()?),
+        Address::Unix(path) => agent(path.strip_prefix('/')?),
         _ => None,
     }
 }
@@ -74,7 +79,32 @@ impl Drawn {
                 }
             }
         }
+        // (each has a stream of its own, so that the rest is as it was)
+        let mut more = Random::new(seed, "more", 0);
+        let holds = more.once_in(5);
+        if let Some(root) = configs[0].root.as_mut().filter(|_| holds) {
+            root.hold = more.once_in(2);
+            root.unsets = more.of(&[None, Some(2)]);
+        }
+        if more.once_in(2) {
+            configs.iter_mut().filter_map(|it| it.apply.as_mut()).for_each(|apply| {
+                let groups: &[&str] =
+                    more.of(&[&[], &["canary"], &["eu"], &["canary", "eu"], &["eu", "canary"]]);
+                apply.groups = groups.iter().map(|it| (*it).to_owned()).collect();
+            });
+        }
+        let (are_old, do_restart) = (more.once_in(3), more.once_in(4));
+        let speaks =
+            (0..count)
+                .map(|_| if are_old { more.of(&[2, 3, wire::VERSION]) } else { wire::VERSION });
+        let speaks = speaks.collect();
+        let restarts = (0..count)
+            .map(|_| Some(10_000 + more.below(100_000)).filter(|_| do_restart && more.once_in(2)));
+        let restarts = restarts.collect();
         Drawn {
+            speaks,
+            restarts,
+            holds,
             configs,
             slow,
             files: (0..count).map(|_| random.of(&[0, 3, 50, 400])).collect(),
@@ -127,26 +157,21 @@ fn config(it: usize, times: (u64, u64), round: u64, random: &mut Random) -> Conf
             evict: Duration::from_millis(times.1),
             poll: Duration::from_millis(100),
         },
-        listen: vec![address(it)],
+        listens: true,
         backlog: ROOM,
         root: (it == 0).then(|| Root {
-            settings: PathBuf::from("/root"),
+            settings: "/root".into(),
             standby: false,
             round: Duration::from_millis(round),
             harmless: None,
             hold: false,
             unsets: Some(usize::MAX),
         }),
-        tls: None,
-        store: Default::default(),
-        insecure: false,
         apply: Some(Apply {
-            folder: PathBuf::from(format!("/{}/applied", name(it))),
+            folder: format!("/{}/applied", name(it)),
             mode: 0o640,
             groups,
             ..Apply::default()
         }),
-        control: None,
-        metrics: None,
     }
 }

@@ -3,12 +3,13 @@ use crate::disks::{set, Disk};
 use crate::drawn;
 use crate::random::Random;
 use crate::world::World;
-use rignolda::net::wire::{self, Hello};
-use rignolda::net::{Body, Children, Way};
-use rignolda::settings::Meaning;
-use rignoldactl::{Request, Seen};
+use rignolda_machine::net::wire::{self, Hello};
+use rignolda_machine::net::{Children, Way};
+use rignoldactl::Request;
 use std::collections::BTreeMap;
-use std::sync::Arc;
+
+mod fields;
+mod memory;
 
 /// Of which kinds faults are.
 #[derive(Clone, Copy, Debug, PartialEq, Eq, PartialOrd, Ord)]
@@ -19,7 +20,12 @@ pub enum Class {
     Memory,
     /// These, and the markers of their folders.
     Markers,
+    /// Any field of what agents remember, and now and then those of lines, processes and disks.
+    Fields,
 }
+
+/// How many faults of other kinds there are among those of fields: one in so many.
+const OTHERS: u64 = 16;
 
 /// A disk of another time, and what its agent had put by then.
 pub type Copy = (Disk, BTreeMap<String, usize>);
@@ -28,18 +34,29 @@ pub type Copy = (Disk, BTreeMap<String, usize>);
 pub struct Faults {
     pub class: Class,
     random: Random,
-    /// How many of each kind there were.
+    /// The same for fields; and whether a run is one in which texts are struck too.
+    fields: Random,
+    forges: bool,
+    /// The same for groups.
+    more: Random,
+    /// How many of each kind there were, and of each field.
     pub counts: BTreeMap<&'static str, u64>,
+    pub struck: BTreeMap<String, u64>,
     older: Vec<Vec<Copy>>,
     values: u64,
 }
 
 impl Faults {
     pub fn new(seed: u64, class: Class, agents: usize) -> Faults {
+        let mut fields = Random::new(seed, "fields", 0);
         Faults {
             class,
             random: Random::new(seed, "faults", 0),
+            forges: fields.once_in(2),
+            fields,
+            more: Random::new(seed, "groups", 0),
             counts: BTreeMap::new(),
+            struck: BTreeMap::new(),
             older: (0..agents).map(|_| Vec::new()).collect(),
             values: 0,
         }
@@ -50,16 +67,29 @@ impl Faults {
         self.random.below(most.max(1))
     }
 
+    /// How often a fault comes, if one of the other kinds came so often.
+    pub fn pause(&mut self, pause: u64) -> u64 {
+        match self.class {
+            Class::Fields => self.fields.of(&[10, 50, 200]),
+            _ => pause,
+        }
+    }
+
     /// Operators ask for something, and mostly for what changes settings.
     pub fn ask(&mut self, world: &mut World) {
         let it = self.random.at(world.agents.len());
-        let key = format!("k{}{}", self.random.below(12), self.random.of(&["", "", "@canary"]));
+        let (key, group) = (self.random.below(12), self.random.of(&["", "", "@canary"]));
+        let of_other = !group.is_empty() && self.more.once_in(2);
+        let key = format!("k{key}{}", if of_other { "@eu" } else { group });
         self.values += 1;
         let value = format!("{} asked for", self.values).into_bytes();
         let (it, request) = match self.random.below(12) {
             0..=3 => (0, Request::Publish { key, value }),
             4 | 5 => (0, Request::Unset { key }),
-            6 => (0, Request::PromoteValue { key }),
+            6 => {
+                world.judge.names(&key);
+                (0, Request::PromoteValue { key })
+            }
             7 => (0, Request::Round),
             8 => (0, Request::Look),
             9 if self.random.once_in(2) => (0, Request::Drain),
@@ -73,7 +103,10 @@ impl Faults {
     /// The root's folder changes.
     pub fn change(&mut self, world: &mut World) {
         for _ in 0..1 + self.random.below(3) {
-            let group = self.random.of(&["", "", "", "..canary"]);
+            let mut group = self.random.of(&["", "", "", "..canary"]);
+            if !group.is_empty() && self.more.once_in(2) {
+                group = "..eu";
+            }
             let key = format!("k{}{group}", self.random.below(12));
             let long = if world.drawn.slow >= 40 { 600 } else { 40_000 };
             let length = self.random.of(&[3, 3, 30, 30, 300, long]);
@@ -81,6 +114,9 @@ impl Faults {
             let filler = vec![b'a' + self.random.below(26) as u8; self.random.at(length)];
             let value = [format!("{} ", self.values).as_bytes(), &filler].concat();
             let value = (!self.random.once_in(4)).then_some(value);
+            if world.drawn.holds {
+                world.judge.waits_for(value.as_deref());
+            }
             set(&mut world.folder, &key, value);
             world.agents[0].disk.changed.iter_mut().for_each(|it| it.extend([key.clone()]));
             world.judge.changed(&world.folder);
@@ -90,9 +126,12 @@ impl Faults {
 
     /// Something goes wrong.
     pub fn strike(&mut self, world: &mut World) {
+        if self.class == Class::Fields && !self.fields.once_in(OTHERS) {
+            return self.strike_a_field(world);
+        }
         let it = self.random.at(world.agents.len());
         let kinds = match self.class {
-            Class::World => 21,
+            Class::World | Class::Fields => 21,
             Class::Memory => 29,
             Class::Markers => 31,
         };
@@ -137,7 +176,7 @@ impl Faults {
             19 | 20 => self.stranger(world, it),
             21..=28 => self.of_memory(world, it, kind),
             _ => {
-                world.judge.is_spoilt = true;
+                world.judge.spoils(it, false);
                 let number = self.number(world);
                 world.agents[it].disk.marker = self.random.of(&[number, number, 0]);
                 let starts = self.time(2_000);
@@ -147,7 +186,7 @@ impl Faults {
         };
         if let Some(machine) = world.agents[it].machine.as_mut().filter(|_| kind >= 21) {
             // (what it knows of its own deadline is of before)
-            machine.peers.tick(machine.came.now, &mut machine.came);
+            machine.peers.tick(machine.came.now);
         }
         what.into_iter().for_each(|it| *self.counts.entry(it).or_default() += 1);
         if let (true, Some(what)) = (world.talks, what) {
@@ -164,8 +203,7 @@ impl Faults {
     }
 
     fn of_line(&mut self, world: &mut World, it: usize, kind: u64) -> Option<&'static str> {
-        let lines = world.agents[it].machine.as_ref()?.peers.lines();
-        let lines: Vec<_> = lines.map(|(_, line, _)| line).collect();
+        let lines: Vec<_> = world.agents[it].lines.values().map(|it| &it.end).collect();
         if lines.is_empty() {
             return None;
         }
@@ -200,7 +238,7 @@ impl Faults {
         let (disk, places) = self.older[it].get(self.random.at(copies.max(1)))?.clone();
         let starts = self.random.below(3_000);
         world.end(it, false, starts);
-        world.agents[it].disk.goes_back(disk);
+        world.agents[it].disk.goes_back(disk, world.drawn.holds);
         world.judge.goes_back(it, places);
         Some("older disk comes back")
     }
@@ -248,102 +286,5 @@ impl Faults {
         let stays = self.time(20_000);
         world.stranger(it, &says, stays);
         Some("a stranger says anything")
-    }
-
-    // ---- Memory
-
-    /// A number, near those that there are or not.
-    fn number(&mut self, world: &World) -> u64 {
-        let root = world.agents[0].machine.as_ref();
-        let near = root.map_or(7, |it| it.came.table.taker.number);
-        match self.random.below(5) {
-            0 => self.random.number(),
-            1 => near.wrapping_add(self.random.below(300)),
-            2 => near.wrapping_sub(self.random.below(300)),
-            3 => near.wrapping_add(self.random.below(1 << 40)),
-            _ => self.random.below(9),
-        }
-    }
-
-    /// A body that nobody published.
-    fn body(&mut self, world: &mut World) -> Arc<Body> {
-        let values: Vec<String> =
-            (0..3).map(|_| format!("forged {}", self.random.below(99))).collect();
-        values.iter().for_each(|it| world.judge.forges(it.as_bytes()));
-        let all = ["k1", "k2", "k77"].into_iter().zip(&values);
-        let all: Vec<_> = all.map(|(key, value)| (key, Some(value.as_bytes()))).collect();
-        if self.random.once_in(8) {
-            let item = self.random.number() as u32;
-            return Arc::new(Body { item, bytes: b"no body".to_vec() });
-        }
-        let meaning = match self.random.below(3) {
-            0 => Meaning::Changes(all),
-            1 => Meaning::Table(all),
-            _ => Meaning::Harmless,
-        };
-        Body::new(self.number(world), &meaning)
-    }
-
-    /// Some of what an agent remembers is anything.
-    fn of_memory(&mut self, world: &mut World, it: usize, kind: u64) -> Option<&'static str> {
-        world.agents[it].machine.as_ref()?;
-        world.judge.is_spoilt = true;
-        let bodies: Vec<_> = (0..1 + self.random.below(20))
-            .map(|_| (self.body(world), self.random.below(255) as u16))
-            .collect();
-        let (number, other) = (self.number(world), self.number(world));
-        let drawn: Vec<u64> = (0..4).map(|_| self.random.number()).collect();
-        let count = world.agents.len();
-        let names = (0..self.random.below(6)).map(|_| drawn::name(self.random.at(count))).collect();
-        let machine = world.agents[it].machine.as_mut()?;
-        Some(match kind {
-            21 | 22 => {
-                let taker = &mut machine.came.table.taker;
-                taker.number = number;
-                taker.floor = if drawn[0] % 3 == 0 { other } else { taker.floor };
-                machine.came.table.changed = drawn[1];
-                machine.came.ahead = if drawn[2] % 3 == 0 { other } else { machine.came.ahead };
-                "numbers are spoilt"
-            }
-            23 | 24 => {
-                let relay = machine.peers.relay_mut();
-                for (body, label) in bodies {
-                    match it {
-                        0 => drop(relay.publish(&body)),
-                        _ => drop(relay.on_frame(None, label, &body)),
-                    }
-                    if drawn[0] % 3 == 0 {
-                        relay.last_is_a_table();
-                    }
-                }
-                "list is spoilt"
-            }
-            25 => {
-                let way = Way { cost: (drawn[0] % 256) as u16, names };
-                let _ = machine.peers.parents_mut().hears(way);
-                "way is spoilt"
-            }
-            26 => {
-                let child = machine.peers.relay().children().next()?.0.clone();
-                let seen = Seen {
-                    name: child.clone(),
-                    sequence: number,
-                    ahead: other,
-                    connected: true,
-                    ..Seen::default()
-                };
-                let now = machine.came.now;
-                machine.came.below.heard(&child, &rignoldactl::report(&[seen]), now);
-                "what is known of below is spoilt"
-            }
-            27 => {
-                *machine.came.published.as_mut()? = Default::default();
-                "digests are forgotten"
-            }
-            _ => {
-                machine.root.as_mut()?.hears([number]);
-                "the root's numbers are spoilt"
-            }
-        })
     }
 }

@@ -2,15 +2,17 @@
 //! after the last fault.
 use crate::disks::{counting, Disk, Put, Settings};
 use crate::drawn::{self, Drawn, ROOM};
-use crate::lines::End;
-use rignolda::net::BODY_BYTES;
-use rignolda::settings::{is_newer, of_group, SETTINGS};
+use rignolda_machine::machine::Machine;
+use rignolda_machine::net::BODY_BYTES;
+use rignolda_machine::settings::{is_newer, of_group, SETTINGS};
 use rignoldactl::{Compared, Seen};
-use rignoldad::machine::Machine;
 use std::collections::{BTreeMap, BTreeSet};
 
 /// For how long agents may be on a ring of parents, in milliseconds.
 const RING: u64 = 60_000;
+
+/// For how long an agent with spoilt memory may have more than it may, in milliseconds.
+const MENDS: u64 = 5_000;
 
 /// How a promise is broken: which one, and by whom.
 pub type Broken = String;
@@ -33,20 +35,33 @@ pub struct Judge {
     /// said. (Somebody may change a file after that, and nobody knows it before the next look.)
     version: u64,
     right: Vec<u64>,
+    /// Values of the root's folder that nobody has confirmed, if each is held until then.
+    unconfirmed: BTreeSet<Vec<u8>>,
+    holds: bool,
     /// Values that a fault put somewhere.
     forged: BTreeSet<Vec<u8>>,
     /// Whether memory was spoilt, or the root's clock set back: then numbers say nothing about what
-    /// is older, until all is right once.
-    pub is_spoilt: bool,
+    /// is older, until [all is right once](Judge::is_right). And whether by that anything may have
+    /// been published.
+    is_spoilt: bool,
+    is_forged: bool,
+    /// Whether that of each agent was spoilt since its process began.
+    are_spoilt: Vec<bool>,
     pub is_set_back: bool,
+    /// Since when an agent has more than it may.
+    above: Vec<Option<u64>>,
     rings: BTreeMap<usize, u64>,
-    /// How often `wait` would have ended, and how often each line was written.
+    /// How often `wait` would have ended.
     pub waits: u64,
     /// Whether somebody was answered who had not asked, or had an answer.
     pub answers_twice: bool,
     /// How many tables of rounds the root has published, and the number of the last one.
     pub rounds: u64,
     round: u64,
+    /// Where agents panicked whose memory was spoilt, and how they ended by themselves.
+    pub panics: BTreeMap<String, u64>,
+    pub ends: BTreeMap<String, u64>,
+    /// How often each line was written.
     pub facts: BTreeMap<&'static str, u64>,
 }
 
@@ -65,14 +80,21 @@ impl Judge {
             version: 0,
             right: vec![0; groups.len()],
             groups,
+            unconfirmed: BTreeSet::new(),
+            holds: drawn.configs[0].root.as_ref().is_some_and(|it| it.hold),
             forged: BTreeSet::new(),
             is_spoilt: false,
+            are_spoilt: vec![false; drawn.configs.len()],
+            is_forged: false,
             is_set_back: false,
+            above: vec![None; drawn.configs.len()],
             rings: BTreeMap::new(),
             waits: 0,
             answers_twice: false,
             rounds: 0,
             round: 0,
+            panics: BTreeMap::new(),
+            ends: BTreeMap::new(),
             facts: BTreeMap::new(),
         }
     }
@@ -107,6 +129,46 @@ impl Judge {
         self.forged.insert(value.into());
     }
 
+    /// This value lies in the root's folder now, and waits to be confirmed.
+    pub fn waits_for(&mut self, value: Option<&[u8]>) {
+        self.unconfirmed.extend(value.filter(|_| self.holds).map(<[u8]>::to_vec));
+    }
+
+    /// What lies in the root's folder is confirmed.
+    pub fn confirms(&mut self) {
+        self.unconfirmed.clear();
+    }
+
+    /// Somebody named this key: so its value need not be confirmed.
+    pub fn names(&mut self, key: &str) {
+        let value = self.folder.get(&key.replace('@', ".."));
+        if let Some(value) = value {
+            self.unconfirmed.remove(value);
+        }
+    }
+
+    /// The memory of this agent is spoilt: what it says may be anything from now on, and by what
+    /// `forges` so may be what it publishes or applies.
+    pub fn spoils(&mut self, it: usize, forges: bool) {
+        (self.is_spoilt, self.are_spoilt[it]) = (true, true);
+        self.is_forged |= forges;
+        self.above[it] = None;
+        self.rings.clear();
+    }
+
+    pub fn is_spoilt(&self) -> bool {
+        self.is_spoilt
+    }
+
+    /// All is right: what was spoilt is so no more, and each file has the last value that there is.
+    pub fn is_right(&mut self) {
+        (self.is_spoilt, self.is_forged, self.is_set_back) = (false, false, false);
+        self.forged.clear();
+        let last = self.histories.iter().map(|(key, all)| (key.clone(), all.len() - 1));
+        let last: BTreeMap<_, _> = last.collect();
+        self.places.iter_mut().for_each(|it| it.clone_from(&last));
+    }
+
     /// The disk of this agent is one of another time.
     pub fn goes_back(&mut self, it: usize, places: BTreeMap<String, usize>) {
         self.places[it] = places;
@@ -122,9 +184,25 @@ impl Judge {
         *self.facts.entry(fact).or_default() += 1;
     }
 
+    /// An agent panicked whose memory was spoilt.
+    pub fn panics(&mut self) {
+        *self.panics.entry(crate::panicked()).or_default() += 1;
+    }
+
+    /// A process begins, with memory of its own.
+    pub fn begins(&mut self, it: usize) {
+        self.are_spoilt[it] = false;
+    }
+
+    /// Whether an agent's memory was spoilt: that of others is no reason to end.
+    pub fn may_end(&self, it: usize) -> bool {
+        self.are_spoilt[it]
+    }
+
     /// An agent ended by itself. It may, if its memory was spoilt.
-    pub fn ends(&self, it: usize, why: &str) -> Result<(), Broken> {
-        match self.is_spoilt || why.is_empty() {
+    pub fn ends(&mut self, it: usize, why: &str) -> Result<(), Broken> {
+        *self.ends.entry(why.into()).or_default() += 1;
+        match self.may_end(it) || why.is_empty() {
             true => Ok(()),
             false => Err(format!("ENDS: n{it}: {why}")),
         }
@@ -134,8 +212,9 @@ impl Judge {
     pub fn turn(
         &mut self,
         it: usize,
-        machine: &Machine<End>,
+        machine: &Machine,
         disk: &mut Disk,
+        now: u64,
     ) -> Result<(), Broken> {
         let puts = std::mem::take(&mut disk.puts);
         if self.right[it] < self.version && disk.own == self.folders[&self.groups[it]] {
@@ -146,34 +225,53 @@ impl Judge {
         if it == 0 && round != self.round {
             (self.round, self.rounds) = (round, self.rounds + 1);
         }
-        if self.answers_twice {
+        if std::mem::take(&mut self.answers_twice) && !self.is_spoilt {
             return Err(format!("ANSWER: n{it} answers who has not asked"));
         }
+        let Some(much) = self.has_too_much(machine) else {
+            self.above[it] = None;
+            return Ok(());
+        };
+        // (spoilt memory is looked at each second or two)
+        let since = *self.above[it].get_or_insert(now);
+        match self.is_spoilt && now <= since + MENDS {
+            true => Ok(()),
+            false => Err(format!("MEMORY: n{it} {much}")),
+        }
+    }
+
+    /// What an agent has more of than it may.
+    fn has_too_much(&self, machine: &Machine) -> Option<String> {
         let relay = machine.peers.relay();
         let (kept, bytes) = relay.kept();
-        if kept > ROOM || bytes > 5 * BODY_BYTES {
-            return Err(format!("MEMORY: n{it} keeps {kept} items, {bytes} bytes"));
-        }
         let ends = machine.config.peers.parents.len() + relay.children().count();
         let lines = machine.peers.lines().count();
-        if lines > 64 + 4 * ends + 4 {
-            return Err(format!("MEMORY: n{it} has {lines} lines"));
-        }
         let below = machine.came.below.agents() as usize;
-        if !self.is_spoilt && below > 8 * self.groups.len() {
-            return Err(format!("MEMORY: n{it} knows {below} below it"));
-        }
         let settings = machine.came.table.keys.len();
-        if settings > SETTINGS {
-            return Err(format!("MEMORY: n{it} has {settings} settings"));
+        match () {
+            () if kept > ROOM || bytes > 5 * BODY_BYTES => {
+                Some(format!("keeps {kept} items, {bytes} bytes"))
+            }
+            () if lines > 64 + 4 * ends + 4 => Some(format!("has {lines} lines")),
+            // (how many a child had that is away is what it said last, which may be spoilt)
+            () if !self.are_spoilt.contains(&true)
+                && !self.is_spoilt
+                && below > 8 * self.groups.len() =>
+            {
+                Some(format!("knows {below} below it"))
+            }
+            () if settings > SETTINGS => Some(format!("has {settings} settings")),
+            () => None,
         }
-        Ok(())
     }
 
     /// A file was put: its value is one that was published, and no older one than before.
     fn put(&mut self, it: usize, (file, value): Put) -> Result<(), Broken> {
         if value.as_ref().is_some_and(|it| self.forged.contains(it)) {
             return Ok(());
+        }
+        if value.as_ref().is_some_and(|it| self.unconfirmed.contains(it)) && !self.is_spoilt {
+            return Err(format!("HELD: n{it} puts {file}, which nobody confirmed"));
         }
         let (none, places) = (vec![None], &mut self.places[it]);
         let groups = self.groups[it].iter().map(|group| of_group(&file, group));
@@ -193,8 +291,15 @@ impl Judge {
         };
         let is_known = || keys.iter().any(|key| later(key, 0).is_some());
         if is_newer {
-            places.extend(found.into_iter().flatten());
+            let found: Vec<_> = found.into_iter().flatten().collect();
+            // (a value that was promoted is one of two keys, and nobody knows which one it was of)
+            if value.is_none() || found.len() == 1 {
+                places.extend(found);
+            }
         } else if !is_known() {
+            if self.is_forged {
+                return Ok(());
+            }
             let text = value.as_deref().map(String::from_utf8_lossy);
             return Err(format!("UNKNOWN: n{it} puts {file} {text:?}, which nobody published"));
         } else if !self.is_spoilt && !self.is_set_back {
@@ -235,6 +340,20 @@ impl Judge {
         Ok(())
     }
 
+    /// The first file of an agent that is not what the folder says: its name, what it is, and what
+    /// it is to be.
+    pub fn first_wrong(&self, it: usize, files: &Settings) -> String {
+        let right = &self.folders[&self.groups[it]];
+        let mut keys = right.keys().chain(files.keys()).collect::<BTreeSet<_>>().into_iter();
+        let text = |it: Option<&Vec<u8>>| {
+            it.map(|it| String::from_utf8_lossy(&it[..it.len().min(20)]).into_owned())
+        };
+        let wrong = keys.find(|key| right.get(*key) != files.get(*key));
+        wrong.map_or_else(String::new, |key| {
+            format!("{key:?} is {:?}, not {:?}", text(files.get(key)), text(right.get(key)))
+        })
+    }
+
     /// Whose files are not what the folder says.
     pub fn wrong(&self, files: &dyn Fn(usize) -> Settings) -> Vec<usize> {
         let is_wrong = |it: &usize| files(*it) != self.folders[&self.groups[*it]];
@@ -243,7 +362,7 @@ impl Judge {
 }
 
 /// Whether an agent has not all up to a sequence number, as `wait` says.
-fn lacks(seen: &Seen, sequence: u64) -> bool {
+pub fn lacks(seen: &Seen, sequence: u64) -> bool {
     !seen.connected
         || seen.failing > 0
         || !seen.whole

@@ -1,7 +1,7 @@
 //! Lines in memory. What is written comes in drawn pieces after drawn times; a line fills up, falls
 //! silent, or breaks and loses what is under way.
 use crate::random::Random;
-use rignolda::net::Line;
+use rignolda_machine::net::Chunk;
 use std::cell::{Cell, RefCell};
 use std::collections::VecDeque;
 use std::io::{self, ErrorKind, Read, Write};
@@ -131,6 +131,11 @@ pub fn line(clock: &Rc<Clock>, ends: [usize; 2], slow: u64, mut random: Random) 
 }
 
 impl End {
+    /// Which agent is at the other end.
+    pub fn from(&self) -> usize {
+        self.from.borrow().writer
+    }
+
     /// Whether it can be read, or there is room again to write to it.
     pub fn is_ready(&self) -> bool {
         let (now, mut to) = (self.clock.now(), self.to.borrow_mut());
@@ -199,7 +204,7 @@ impl Read for End {
             from.has_room = true;
             self.clock.wake(now + from.delay.max(1), from.writer);
         }
-        if from.has_come(now) {
+        if count > 0 && from.has_come(now) {
             self.clock.wake(now, from.reader);
         }
         Ok(count)
@@ -250,12 +255,63 @@ impl Drop for End {
     }
 }
 
-impl Line for End {
-    fn may_be(&self, _: &str) -> bool {
-        true
+/// A line of an agent, and what is to be written on it.
+pub struct Held {
+    pub end: End,
+    /// Whether its agent was told that the other end has closed it.
+    pub is_told: bool,
+    /// Which version of the protocol an end speaks at most, until it has said its hello.
+    speaks: Option<u8>,
+    chunks: VecDeque<Chunk>,
+    done: usize,
+}
+
+impl Held {
+    pub fn new(end: End, speaks: u8) -> Held {
+        let chunks = VecDeque::new();
+        Held { end, is_told: false, speaks: Some(speaks), chunks, done: 0 }
     }
 
-    fn is_socket(&self) -> bool {
-        self.is_socket
+    /// This is to be written behind what is to be written already.
+    pub fn says(&mut self, mut chunk: Chunk) {
+        if let (Some(version), Chunk::Bytes(bytes)) = (self.speaks.take(), &mut chunk) {
+            says_at_most(version, bytes);
+        }
+        self.chunks.push_back(chunk);
+    }
+
+    /// Whether something is to be written.
+    pub fn has_output(&self) -> bool {
+        !self.chunks.is_empty()
+    }
+
+    /// Writes what it can: nothing if more is to be written later, and an error if it is over.
+    pub fn write(&mut self) -> Option<io::Result<()>> {
+        while let Some(chunk) = self.chunks.front() {
+            let [first, second] = chunk.from(self.done);
+            let left = if first.is_empty() { second } else { first };
+            match if left.is_empty() { Ok(0) } else { self.end.write(left) } {
+                Ok(0) => {
+                    self.chunks.pop_front();
+                    self.done = 0;
+                }
+                Ok(count) => self.done += count,
+                Err(why) if why.kind() == ErrorKind::WouldBlock => return None,
+                Err(why) => return Some(Err(why)),
+            }
+        }
+        Some(Ok(()))
+    }
+}
+
+/// A hello or a look as an end says it that speaks this version of the protocol at most: it names
+/// it, and no newer one in its range. (Of version 2, none has a range.)
+fn says_at_most(version: u8, hello: &mut [u8]) {
+    if let [_, _, _, _, own, _, _, _, _, _, _, _, _, oldest, newest, ..] = hello {
+        *own = version.min(*own);
+        if *oldest > 0 {
+            *newest = version.min(*newest);
+            (*oldest, *newest) = if version > 2 { (*oldest, *newest) } else { (0, 0) };
+        }
     }
 }

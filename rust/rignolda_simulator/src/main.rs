@@ -2,8 +2,8 @@
 //! it has; and a promise that is broken is printed with the seed that shows it.
 //!
 //! ```text
-//! simulate [seed=1] [runs=100] [class=world|memory|markers|all] [agents=40] [faults=N]
-//!          [seconds=N] [talks=1]
+//! simulate [seed=1] [runs=100] [class=world|memory|markers|fields|all] [agents=40] [faults=N]
+//!          [seconds=N] [talks=1] [paths=1]
 //! ```
 #![forbid(unsafe_code)]
 mod disks;
@@ -17,6 +17,7 @@ mod world;
 
 use faults::Class;
 use run::{run, Counts, Plan};
+use std::cell::RefCell;
 use std::collections::BTreeMap;
 use std::panic::{catch_unwind, AssertUnwindSafe};
 use std::process::ExitCode;
@@ -24,6 +25,32 @@ use std::time::{Duration, Instant};
 
 /// After how long a line says how far it is.
 const SAYS: Duration = Duration::from_secs(30);
+
+thread_local! {
+    /// Where this thread panicked last.
+    static PANICKED: RefCell<String> = const { RefCell::new(String::new()) };
+}
+
+/// Where it panicked last.
+fn panicked() -> String {
+    PANICKED.with(RefCell::take)
+}
+
+/// Where a panic was, and what it says, without its numbers. (What a library says is followed by
+/// who called it.)
+fn told(why: &str) -> String {
+    let (place, text) = why.split_once('\n').unwrap_or((why, ""));
+    let text = text.replace(|it: char| it.is_ascii_digit(), "").replace('\n', " ");
+    let called = || {
+        let trace = std::backtrace::Backtrace::force_capture().to_string();
+        let is_own = |it: &&str| it.contains("rignolda") && !it.contains("simulate");
+        trace.lines().filter(is_own).take(2).map(str::trim).collect::<Vec<_>>().join(" in ")
+    };
+    match place.contains("/rustc/") {
+        true => format!("{text}, {}", called()),
+        false => format!("{place} {text}"),
+    }
+}
 
 /// What was asked for.
 struct Options(BTreeMap<String, String>);
@@ -39,6 +66,7 @@ impl Options {
             "world" => Class::World,
             "memory" => Class::Memory,
             "markers" => Class::Markers,
+            "fields" => Class::Fields,
             "all" if seed % 6 < 5 => all[seed as usize % 6],
             "all" => Class::Markers,
             _ => usage("class"),
@@ -84,9 +112,13 @@ fn main() -> ExitCode {
     let (first, runs) = (options.number("seed", 1), options.number("runs", 100));
     let seconds = Duration::from_secs(options.number("seconds", u64::MAX >> 32));
     let talks = options.number("talks", 0) == 1;
-    if !talks {
-        std::panic::set_hook(Box::new(|_| ()));
-    }
+    std::panic::set_hook(Box::new(move |why| {
+        let text = told(&why.to_string());
+        if talks {
+            eprintln!("{text}");
+        }
+        PANICKED.with(|it| it.replace(text));
+    }));
     let (begun, mut said) = (Instant::now(), Instant::now());
     let (mut all, mut done, mut broken) = (Counts::default(), 0, 0);
     let mut rounds = BTreeMap::<u64, u64>::new();
@@ -107,6 +139,14 @@ fn main() -> ExitCode {
             .faults
             .iter()
             .for_each(|(what, count)| *all.faults.entry(what).or_default() += count);
+        let sums = [
+            (&mut all.fields, counts.fields),
+            (&mut all.panics, counts.panics),
+            (&mut all.ends, counts.ends),
+        ];
+        for (sum, counts) in sums {
+            counts.into_iter().for_each(|(what, count)| *sum.entry(what).or_default() += count);
+        }
         all.turns += counts.turns;
         all.millis += counts.millis;
         all.agents += counts.agents;
@@ -127,6 +167,11 @@ fn main() -> ExitCode {
     let faults: u64 = all.faults.values().sum();
     for (what, count) in &all.faults {
         println!("{count:>9} {what}");
+    }
+    let of_fields = if options.number("paths", 0) == 1 { &all.fields } else { &BTreeMap::new() };
+    let more = [(of_fields, "struck"), (&all.panics, "panicked:"), (&all.ends, "ended:")];
+    for (counts, word) in more {
+        counts.iter().for_each(|(what, count)| println!("{count:>9} {word} {what}"));
     }
     println!(
         "{faults} faults of {} agents in {:.1} virtual hours; {} turns; wait ended {} times; \

@@ -1,6 +1,7 @@
 //! One run: faults and changes for a while, and then what the pages promise after the last fault.
 use crate::faults::{Class, Faults};
 use crate::judge::Broken;
+use crate::random::Random;
 use crate::world::World;
 use rignoldactl::Request;
 use std::collections::BTreeMap;
@@ -9,6 +10,9 @@ use std::collections::BTreeMap;
 const LOOKS: u64 = 250;
 /// Within which time after the last fault all agents have a way to the root, in milliseconds.
 const TREE: u64 = 240_000;
+/// The same after faults of any field: an agent that has no parent, and could have one, ends after
+/// some minutes.
+const TREE_OF_FIELDS: u64 = 480_000;
 /// How many rounds are enough then: the rest of one, a whole one, and one more if the root did not
 /// know how deep its tree is. A table that is on its way down counts as the next one.
 const ROUNDS: u64 = 3;
@@ -16,6 +20,8 @@ const ROUNDS: u64 = 3;
 /// Within which time an agent answers that is up. (It may be stopped for a while, and its disk be
 /// slow; what is published waits for the quickest child.)
 const ANSWERS: u64 = 120_000;
+/// For how many rounds somebody waits at most who waits for all.
+const WAITS: u64 = 8;
 /// How many changes have to come to all agents by themselves at the end: a round would hide that
 /// one is lost.
 const CHANGES: u64 = 3;
@@ -35,6 +41,10 @@ pub struct Plan {
 #[derive(Debug, Default)]
 pub struct Counts {
     pub faults: BTreeMap<&'static str, u64>,
+    /// The fields that were struck, where agents panicked, and why they ended.
+    pub fields: BTreeMap<String, u64>,
+    pub panics: BTreeMap<String, u64>,
+    pub ends: BTreeMap<String, u64>,
     pub struck: u64,
     pub turns: u64,
     pub millis: u64,
@@ -52,6 +62,9 @@ pub fn run(plan: Plan) -> (Counts, Result<(), Broken>) {
     }
     let counts = Counts {
         faults: run.faults.counts,
+        fields: run.faults.struck,
+        panics: run.world.judge.panics,
+        ends: run.world.judge.ends,
         struck: run.struck,
         turns: run.world.turns,
         millis: run.world.clock.now(),
@@ -68,13 +81,17 @@ struct Run {
     faults: Faults,
     struck: u64,
     rounds: u64,
+    /// Whether nothing is in the way any more; and what operators do is drawn from.
+    is_calm: bool,
+    plans: Random,
 }
 
 impl Run {
     fn new(plan: Plan) -> Run {
         let world = World::new(plan.seed, plan.agents, plan.talks);
         let faults = Faults::new(plan.seed, plan.class, world.agents.len());
-        Run { plan, world, faults, struck: 0, rounds: 0 }
+        let plans = Random::new(plan.seed, "operators", 0);
+        Run { plan, world, faults, struck: 0, rounds: 0, is_calm: false, plans }
     }
 
     fn goes(&mut self) -> Result<(), Broken> {
@@ -83,6 +100,8 @@ impl Run {
         self.is_disturbed()?;
         self.calms();
         self.becomes_right()?;
+        self.world.judge.is_right();
+        self.is_waited_for()?;
         (0..CHANGES).try_for_each(|_| self.brings_a_change())
     }
 
@@ -90,6 +109,7 @@ impl Run {
     fn is_disturbed(&mut self) -> Result<(), Broken> {
         let (span, pause, changes) =
             (self.world.drawn.span, self.world.drawn.pause, self.world.drawn.changes);
+        let pause = self.faults.pause(pause);
         let (mut fault, mut change, mut look) = (3_000, 0, 0);
         while self.now() < span {
             self.world.start_some();
@@ -130,6 +150,9 @@ impl Run {
         if let Some(it) = self.world.waits(ANSWERS) {
             return Err(format!("SILENT: n{it} does not answer"));
         }
+        if self.plans.once_in(if self.is_calm { 1 } else { 8 }) {
+            self.world.confirms();
+        }
         let rings = self.world.tree().1;
         self.world.judge.rings(&rings, now)?;
         self.world.wait()
@@ -138,6 +161,7 @@ impl Run {
     /// Nothing is in the way any more, and one more change is made.
     fn calms(&mut self) {
         let now = self.now();
+        self.is_calm = true;
         let world = &mut self.world;
         world.strangers_leave(true);
         world.apart.clear();
@@ -145,8 +169,8 @@ impl Run {
             (agent.refuses, agent.stopped) = (0, 0);
             (agent.disk.fails, agent.disk.hooks_fail) = (0, 0);
             agent.starts = agent.starts.map(|_| now);
-            let lines = agent.machine.iter().flat_map(|it| it.peers.lines());
-            lines.for_each(|(_, line, _)| line.recovers(world.drawn.slow));
+            let lines = agent.lines.values();
+            lines.for_each(|it| it.end.recovers(world.drawn.slow));
             world.clock.wake(now, it);
         }
         world.start_some();
@@ -166,7 +190,8 @@ impl Run {
             self.looks()?;
             let (is_whole, moved) = (self.world.tree().0, self.world.moves());
             if !is_whole || moved != moves {
-                if now > calm + TREE {
+                let most = if self.plan.class == Class::Fields { TREE_OF_FIELDS } else { TREE };
+                if now > calm + most {
                     return Err("TREE: agents have no way to the root, or move".into());
                 }
                 (moves, since, begun) = (moved, now, None);
@@ -183,7 +208,8 @@ impl Run {
             match wrong.is_empty() {
                 true if rounds > ROUNDS + 1 => break,
                 false if rounds > ROUNDS + 2 || now > since + 8 * round => {
-                    return Err(format!("WRONG: {wrong:?} after {rounds} rounds"));
+                    let first = self.world.first_wrong(&wrong);
+                    return Err(format!("WRONG: {wrong:?} after {rounds} rounds: {first}"));
                 }
                 _ => (),
             }
@@ -194,6 +220,22 @@ impl Run {
         }
     }
 
+    /// Somebody who waits until all is everywhere is answered. (What fails is done again by a
+    /// round, and a restart takes its time.)
+    fn is_waited_for(&mut self) -> Result<(), Broken> {
+        let until = self.now() + WAITS * self.world.drawn.round;
+        let sequence = self.world.sequence();
+        while let Some(lacks) = self.world.lacking(sequence) {
+            if self.now() > until {
+                return Err(format!("WAITS: wait never ends: {lacks}"));
+            }
+            self.world.run(self.now() + LOOKS)?;
+            self.world.start_some();
+            self.looks()?;
+        }
+        Ok(())
+    }
+
     /// Where nothing goes wrong, a change is everywhere before the next round begins.
     fn brings_a_change(&mut self) -> Result<(), Broken> {
         let rounds = self.world.rounds();
@@ -201,13 +243,20 @@ impl Run {
             self.world.run(self.now() + LOOKS)?;
         }
         self.faults.change(&mut self.world);
-        let until = self.now() + self.world.drawn.round / 5 * 4;
+        // (what is held waits for an operator, too)
+        let round = self.world.drawn.round;
+        let time = if self.world.drawn.holds { 2 * round } else { round / 5 * 4 };
+        let (until, moves) = (self.now() + time, self.world.moves());
         while self.now() < until {
             self.world.run(self.now() + LOOKS)?;
             self.looks()?;
             if self.world.wrong().is_empty() {
                 return Ok(());
             }
+        }
+        if self.world.moves() != moves {
+            // (who restarts itself, as spoilt memory may have it, needs the next round)
+            return Ok(());
         }
         Err(format!("LOST: a change is not at {:?} before the next round", self.world.wrong()))
     }

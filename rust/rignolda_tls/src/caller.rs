@@ -1,6 +1,6 @@
 //! Connections to an address, which may have the name of a host.
 use crate::{Line, Maker};
-use rignolda::net::{Address, Call};
+use rignolda_machine::net::{Address, Call};
 use socket2::SockAddr;
 use std::fmt;
 use std::io::{self, ErrorKind};
@@ -13,8 +13,8 @@ type Found = (Call<Address>, io::Result<Vec<SocketAddr>>, Arc<()>);
 /// A call, and the line that it led to, or why it led to none.
 pub type Called = (Call<Address>, io::Result<Line>);
 
-/// Makes the connections that [`rignolda::net::Peers`] asks for. A look-up waits, so another thread
-/// does it.
+/// Makes the connections that [`rignolda_machine::net::Peers`] asks for. A look-up waits, so
+/// another thread does it.
 pub struct Caller {
     to: mpsc::Sender<Found>,
     found: mpsc::Receiver<Found>,

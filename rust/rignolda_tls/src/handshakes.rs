@@ -1,7 +1,8 @@
 //! Handshakes of TLS, which other threads do: whoever connects can make one cost much, before
 //! anybody knows who it is.
 use crate::secure::{outcome, Outcome, Stream};
-use rignolda::net::{Origin, Turns};
+use rignolda_machine::net::{Origin, Turns};
+use rignolda_machine::Time;
 use std::sync::{mpsc, Arc};
 use std::time::{Duration, Instant};
 use std::{fmt, fs, thread};
@@ -63,7 +64,7 @@ pub struct Handshakes {
     /// Of those who connected, and of those who were called.
     turns: [Turns<Job>; 2],
     /// The threads that have nothing to do, and since when.
-    free: Vec<(ToThread, Instant)>,
+    free: Vec<(ToThread, Time)>,
     wake: Arc<dyn Fn() + Send + Sync>,
 }
 
@@ -89,7 +90,7 @@ impl Handshakes {
 
     /// Begins the steps whose turn it is, and ends the threads that had nothing to do for long. Of
     /// those who connected, some are known.
-    pub fn go_on(&mut self, now: Instant, is_known: impl Fn(&Origin) -> bool) {
+    pub fn go_on(&mut self, now: Time, is_known: impl Fn(&Origin) -> bool) {
         while let Ok(job) = self.asked.try_recv() {
             self.turns[usize::from(job.is_called)].add(job.origin, job, is_wanted);
         }
@@ -119,7 +120,7 @@ impl Handshakes {
     }
 
     /// The numbers of the lines of which a step has ended: these are to be read.
-    pub fn ended(&mut self, now: Instant) -> Vec<u64> {
+    pub fn ended(&mut self, now: Time) -> Vec<u64> {
         let mut numbers = Vec::new();
         while let Ok(it) = self.ended.try_recv() {
             self.turns[usize::from(it.is_called)].ended(it.origin, it.took, now);

@@ -1,9 +1,10 @@
-//! Lines of an agent, over sockets that never make it wait, and its certificates.
+//! Lines of an agent, over sockets that never make it wait, its certificates, and a small
+//! [server](serve) for those who watch it.
 //!
 //! A [`Maker`] makes lines by the files of a [`Tls`], a [`Caller`] connects by it to others, and a
 //! [`Listener`] is where they connect to. A [`Line`] is read and written as
-//! [`rignolda::net::Peers`] asks for it. Before it has verified the other end's certificate, that
-//! is the work of the threads of [`Handshakes`].
+//! [`rignolda_machine::net::Peers`] asks for it. Before it has verified the other end's
+//! certificate, that is the work of the threads of [`Handshakes`].
 #![forbid(unsafe_code)]
 #![warn(missing_debug_implementations)]
 use std::fs::OpenOptions;
@@ -19,6 +20,7 @@ mod line;
 mod listener;
 mod reach;
 mod secure;
+pub mod serve;
 
 pub use aside::moved_aside;
 pub use caller::{Called, Caller};

@@ -5,6 +5,7 @@ use crate::certificate::{
 use crate::handshakes::Job;
 use crate::reach::Own;
 use crate::secure::{Bounded, READ, WRITE};
+use crate::serve;
 use crate::{Handshakes, Listener, Secure, Tls};
 use openssl::error::ErrorStack;
 use openssl::sha::Sha256;
@@ -13,7 +14,7 @@ use openssl::ssl::{
     SslVersion,
 };
 use openssl::x509::X509Ref;
-use rignolda::net::{is_name, serve, Origin, Shown};
+use rignolda_machine::net::{is_name, End, Origin, Shown};
 use socket2::{Domain, SockAddr, Socket, TcpKeepalive, Type};
 use std::fmt;
 use std::io::{self, IoSlice, Read, Write};
@@ -265,47 +266,46 @@ impl AsRawFd for Line {
     }
 }
 
-impl rignolda::net::Line for Line {
-    /// By TLS, a record comes in parts, and what is left of one is not the socket's any more.
-    fn is_socket(&self) -> bool {
-        matches!(self, Line::Plain(..))
+impl Line {
+    /// What is known of the other end.
+    pub fn end(&self) -> End {
+        let (origin, names) = match self {
+            Line::Plain(_, origin) => (*origin, None),
+            Line::Tls(secure) => (secure.origin(), Some(secure.names().unwrap_or_default())),
+        };
+        End { place: self.place(origin), origin, shown: self.shown(), names }
     }
 
-    /// By TLS, whether its certificate has this name.
-    fn may_be(&self, name: &str) -> bool {
-        match self {
-            Line::Tls(secure) => secure.names().is_some_and(|all| all.iter().any(|it| it == name)),
-            _ => true,
-        }
-    }
-
-    fn origin(&self) -> Origin {
-        match self {
-            Line::Plain(_, origin) => *origin,
-            Line::Tls(secure) => secure.origin(),
-        }
-    }
-
-    /// By TLS, its certificate, once it was verified.
-    fn shown(&self) -> Shown {
+    /// How much the other end has shown: by TLS its certificate, once it was verified.
+    pub fn shown(&self) -> Shown {
         match self {
             Line::Plain(..) => Shown::Nothing,
             Line::Tls(secure) => secure.shown(),
         }
     }
 
-    fn is_numbered(&mut self, number: u64) {
+    /// Whether a read that does not fill its room has taken all that there was, and what is written
+    /// by one call goes together. (By TLS, a record comes in parts, and what is left of one is not
+    /// the socket's any more.)
+    pub fn is_socket(&self) -> bool {
+        matches!(self, Line::Plain(..))
+    }
+
+    /// It has this number from now on, by which it is known once a step of its handshake ended.
+    pub fn is_numbered(&mut self, number: u64) {
         if let Line::Tls(secure) = self {
             secure.is_numbered(number);
         }
     }
 
-    fn place(&self) -> String {
-        let address = match self.socket().peer_addr().map(|it| it.as_socket()) {
-            Ok(Some(address)) => address.to_string(),
-            Ok(None) => "a local socket".into(),
+    /// Where the other end is, and who, as far as that is known.
+    fn place(&self, origin: Origin) -> String {
+        let address = match (origin, self.socket().peer_addr().map(|it| it.as_socket())) {
+            // (it may not be connected yet)
+            (Origin::Called(address), _) | (_, Ok(Some(address))) => address.to_string(),
+            (_, Ok(None)) => "a local socket".into(),
             // (the other end has gone already)
-            Err(_) => "an address that is not known any more".into(),
+            (_, Err(_)) => "an address that is not known any more".into(),
         };
         let Line::Tls(secure) = self else { return address };
         let Some(mut all) = secure.names() else { return address };
@@ -317,9 +317,7 @@ impl rignolda::net::Line for Line {
             false => format!("{address}, by its certificate {}", all.join(" or ")),
         }
     }
-}
 
-impl Line {
     fn socket(&self) -> &Socket {
         match self {
             Line::Plain(socket, _) => socket,

@@ -1,6 +1,7 @@
 //! Where lines are accepted.
 use crate::aside::moved_aside;
-use rignolda::net::{serve, Address};
+use crate::serve;
+use rignolda_machine::net::Address;
 use socket2::{Domain, SockAddr, Socket, Type};
 use std::fs::{self, Permissions};
 use std::io::{self, ErrorKind};
@@ -93,7 +94,7 @@ impl Listener {
                 (listener.into(), None)
             }
             Address::Unix(path) => {
-                let (socket, place) = Place::listen(path, mode)?;
+                let (socket, place) = Place::listen(path.as_ref(), mode)?;
                 (socket, Some(place))
             }
             _ => return Err(ErrorKind::Unsupported.into()),
@@ -143,7 +144,7 @@ impl Listener {
                 };
                 is().is_some_and(|is| text.parse().map_or(true, |it| is_one(it, is)))
             }
-            Address::Unix(path) => at().is_some_and(|is| is.as_pathname() == Some(path)),
+            Address::Unix(path) => at().is_some_and(|is| is.as_pathname() == Some(path.as_ref())),
             _ => false,
         };
         is_there && self.socket.is_listener().unwrap_or(false)

@@ -8,8 +8,8 @@ use openssl::pkey::{PKey, Public};
 use openssl::ssl::{
     Error, Ssl, SslContext, SslMethod, SslRef, SslStream, SslVerifyMode, SslVersion,
 };
-use rignolda::net::wire::{self, Expect, Hello, Message, FIRST, OLD, VERSION};
-use rignolda::net::{Address, Way};
+use rignolda_machine::net::wire::{self, Expect, Hello, Message, FIRST, OLD, VERSION};
+use rignolda_machine::net::{Address, Way};
 use socket2::{Domain, SockAddr, Socket, Type};
 use std::collections::BTreeSet;
 use std::io::{self, ErrorKind, Read, Write};

@@ -3,7 +3,7 @@
 use crate::certificate::{names, reason, unix_time, unverified};
 use crate::handshakes::{Job, Step};
 use openssl::ssl::{Error, ErrorCode, SslRef, SslStream};
-use rignolda::net::{Origin, Shown};
+use rignolda_machine::net::{Origin, Shown};
 use socket2::Socket;
 use std::io::{self, ErrorKind, Read, Write};
 use std::net::Shutdown;

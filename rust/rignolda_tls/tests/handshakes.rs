@@ -1,7 +1,7 @@
 //! Handshakes in threads of their own: what somebody sends whom nobody knows costs the thread that
 //! reads and writes lines next to nothing, and holds nobody else up.
 use openssl::bn::BigNum;
-use rignolda::net::{Line as _, Origin, Shown};
+use rignolda_machine::net::{Origin, Shown};
 use rignolda_tls::{Handshakes, Line, Maker};
 use std::fs;
 use std::io::{ErrorKind, Read, Write};
@@ -11,7 +11,7 @@ use std::thread::{self, JoinHandle};
 use std::time::{Duration, Instant};
 
 mod common;
-use common::{accept, certificate, listen, maker, Folder, TIMEOUT};
+use common::{accept, certificate, listen, maker, time, Folder, TIMEOUT};
 
 /// A value of DER: its tag, and what it is made of.
 fn der(tag: u8, parts: &[&[u8]]) -> Vec<u8> {
@@ -126,8 +126,8 @@ fn dearest_turn(line: &mut Line, handshakes: &mut Handshakes) -> Duration {
     let mut dearest = Duration::ZERO;
     loop {
         let begun = used();
-        handshakes.go_on(Instant::now(), |_| false);
-        handshakes.ended(Instant::now());
+        handshakes.go_on(time(), |_| false);
+        handshakes.ended(time());
         let what = line.read(&mut [0; 9]);
         dearest = dearest.max(used() - begun);
         match what {
@@ -189,7 +189,7 @@ fn who_can_show_its_name_gets_in_while_others_cost_much() {
     let attacks: Vec<JoinHandle<_>> =
         (0..3).map(|_| thread::spawn(move || attack(address, 2))).collect();
     let mut lines: Vec<Line> = attacks.iter().map(|_| accept(&maker, &listener)).collect();
-    assert_eq!(lines[0].origin(), Origin::V4([127, 0, 0, 1]));
+    assert_eq!(lines[0].end().origin, Origin::V4([127, 0, 0, 1]));
     let end = Instant::now() + TIMEOUT;
     let mut honest: Option<[Line; 2]> = None;
     let is_over = |line: &mut Line| match line.read(&mut [0; 9]) {
@@ -198,8 +198,8 @@ fn who_can_show_its_name_gets_in_while_others_cost_much() {
     };
     loop {
         assert!(Instant::now() < end, "the honest one does not get in");
-        handshakes.go_on(Instant::now(), |_| false);
-        handshakes.ended(Instant::now());
+        handshakes.go_on(time(), |_| false);
+        handshakes.ended(time());
         lines.retain_mut(|line| !is_over(line));
         // (the attacks have begun where one of them is over)
         if lines.len() < 3 && honest.is_none() {
@@ -233,7 +233,7 @@ fn a_line_that_is_left_is_closed_though_a_thread_has_it() {
     }
     // (whether its step waits, is under way or is done)
     drop(line);
-    handshakes.go_on(Instant::now(), |_| false);
+    handshakes.go_on(time(), |_| false);
     let mut other = match attack.join() {
         Ok(other) => other,
         // (it was closed before the attack could be sent)

@@ -1,7 +1,7 @@
 //! Lines over loopback: what is written arrives, and by TLS the other end's name is in its
 //! certificate.
 use openssl::ssl::{SslConnector, SslConnectorBuilder, SslMethod, SslVerifyMode, SslVersion};
-use rignolda::net::{Address, Call, Line as _, Whom};
+use rignolda_machine::net::{Address, Call, Whom};
 use rignolda_tls::{unix_time, Caller, Listener, Maker, Tls};
 use socket2::SockAddr;
 use std::fs;
@@ -19,7 +19,7 @@ fn plain_lines_carry_bytes() {
     let plain = Maker::new(None, TIMEOUT).unwrap();
     let [mut up, mut down] = connected(&plain, &plain).unwrap();
     exchange([&mut up, &mut down], 3_000_000).unwrap();
-    assert!(up.may_be("whoever"));
+    assert!(up.end().may_be("whoever"));
     drop(down);
     let end = Instant::now() + TIMEOUT;
     while !matches!(up.read(&mut [0; 9]), Ok(0)) {
@@ -32,9 +32,9 @@ fn a_socket_of_a_path_is_a_line_too() {
     let folder = Folder::new("unix");
     let path = folder.0.join("socket");
     // (the file that a dead process left is replaced, and one that is in use is not)
-    drop(Listener::new(&Address::Unix(path.clone()), None).unwrap());
-    let listener = Listener::new(&Address::Unix(path.clone()), None).unwrap();
-    assert!(Listener::new(&Address::Unix(path.clone()), None).is_err());
+    drop(Listener::new(&Address::Unix(path.display().to_string()), None).unwrap());
+    let listener = Listener::new(&Address::Unix(path.display().to_string()), None).unwrap();
+    assert!(Listener::new(&Address::Unix(path.display().to_string()), None).is_err());
     let maker = Maker::new(None, TIMEOUT).unwrap();
     drop(accept(&maker, &listener)); // of the one that asked whether it is in use
     let mut down = maker.connect(&SockAddr::unix(path).unwrap()).unwrap();
@@ -43,7 +43,9 @@ fn a_socket_of_a_path_is_a_line_too() {
     drop(listener);
     // (its mode is what is asked for, whatever the mask of the process)
     for mode in [0o660, 0o600, 0o666] {
-        let listener = Listener::new(&Address::Unix(folder.0.join("moded")), Some(mode)).unwrap();
+        let listener =
+            Listener::new(&Address::Unix(folder.0.join("moded").display().to_string()), Some(mode))
+                .unwrap();
         let file = fs::metadata(folder.0.join("moded")).unwrap();
         assert_eq!(file.permissions().mode() & 0o777, mode);
         drop(listener);
@@ -73,15 +75,28 @@ fn by_tls_each_end_is_who_its_certificate_names() {
     let leaf = maker(&folder.0, "leaf", &sign("other", &["leaf"], 9), &authority.0);
     let [mut up, mut down] = connected(&root, &leaf).unwrap();
     exchange([&mut up, &mut down], 3_000_000).unwrap();
-    assert!(down.may_be("root") && down.may_be("root2"));
-    assert!(!down.may_be("other"), "the common name does not count");
-    assert!(up.may_be("leaf") && !up.may_be("root") && !up.may_be("lea") && !up.may_be(""));
-    assert!(up.place().ends_with(", by its certificate leaf"), "{}", up.place());
-    assert!(down.place().ends_with(", by its certificate root or root2"), "{}", down.place());
+    assert!(down.end().may_be("root") && down.end().may_be("root2"));
+    assert!(!down.end().may_be("other"), "the common name does not count");
+    assert!(
+        up.end().may_be("leaf")
+            && !up.end().may_be("root")
+            && !up.end().may_be("lea")
+            && !up.end().may_be("")
+    );
+    assert!(up.end().place.ends_with(", by its certificate leaf"), "{}", up.end().place);
+    assert!(
+        down.end().place.ends_with(", by its certificate root or root2"),
+        "{}",
+        down.end().place
+    );
     let nameless = maker(&folder.0, "nameless", &sign("leaf", &[], 9), &authority.0);
     let [up, _down] = connected(&root, &nameless).unwrap();
-    assert!(!up.may_be("leaf"), "{}", up.place());
-    assert!(up.place().ends_with(", whose certificate has no name of an agent"), "{}", up.place());
+    assert!(!up.end().may_be("leaf"), "{}", up.end().place);
+    assert!(
+        up.end().place.ends_with(", whose certificate has no name of an agent"),
+        "{}",
+        up.end().place
+    );
 }
 
 /// What the two ends of a connection say that cannot be made: whoever accepted it first.

@@ -1,7 +1,7 @@
 //! How an agent looks at itself from outside: what counts as reached, and what a fault of the
 //! memory must not turn into a line without TLS.
-use rignolda::net::wire::{self, Expect, Hello, Message};
-use rignolda::net::{Address, Line as _, Origin, Way};
+use rignolda_machine::net::wire::{self, Expect, Hello, Message};
+use rignolda_machine::net::{Address, Origin, Way};
 use rignolda_tls::{ask, By, Line, Listener, Looked, Looker, Maker, Own, Tls};
 use std::fs;
 use std::io::{ErrorKind, Read, Write};
@@ -32,7 +32,7 @@ fn answer(maker: &Maker, listener: &Listener, name: &str, ends: &AtomicBool) -> 
     let (mut lines, mut origins) = (Vec::<(Line, Vec<u8>)>::new(), Vec::new());
     while !ends.load(Ordering::Relaxed) {
         while let Ok(line) = maker.accept(listener) {
-            origins.push(line.origin());
+            origins.push(line.end().origin);
             lines.push((line, Vec::new()));
         }
         lines.retain_mut(|(line, input)| {
@@ -151,7 +151,7 @@ fn who_listens_and_accepts_nobody_or_is_not_there_is_not_reached() {
     let folder = Folder::new("asked");
     let path = folder.0.join("socket");
     assert!(is_nothing(&ask(&path, b"?\n", SOON).unwrap_err()));
-    let listener = Listener::new(&Address::Unix(path.clone()), None).unwrap();
+    let listener = Listener::new(&Address::Unix(path.display().to_string()), None).unwrap();
     assert!(is_nothing(&ask(&path, b"?\n", SOON).unwrap_err()), "nobody answers");
     std::thread::scope(|scope| {
         scope.spawn(|| {
@@ -216,7 +216,7 @@ fn lines_are_made_anew_by_the_files_of_before_alone() {
 #[test]
 fn a_listener_is_known_by_what_the_system_says_and_has_other_descriptors_now_and_then() {
     let folder = Folder::new("listener");
-    let unix = |name: &str| Address::Unix(folder.0.join(name));
+    let unix = |name: &str| Address::Unix(folder.0.join(name).display().to_string());
     let mut one = Listener::new(&unix("one"), None).unwrap();
     let other = Listener::new(&unix("other"), None).unwrap();
     let ((mut tcp, at), (tcp_2, at_2)) = (listen(), listen());

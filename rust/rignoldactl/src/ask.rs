@@ -4,7 +4,7 @@ use crate::{
     dotted, harmless_for, unix_now, ChildStatus, Compared, Diff, Difference, Request, Response,
     Seen, Standby, Status,
 };
-use rignolda::settings::is_newer;
+use rignolda_machine::settings::is_newer;
 use serde::Serialize;
 use std::collections::BTreeMap;
 use std::fmt::{Display, Write as _};

@@ -1,4 +1,5 @@
 //! Errors that say where they were.
+use rignolda_machine::Refused;
 use std::error::Error;
 use std::fmt;
 
@@ -30,5 +31,11 @@ impl fmt::Display for ErrorAt {
 impl Error for ErrorAt {
     fn source(&self) -> Option<&(dyn Error + 'static)> {
         Some(&*self.error)
+    }
+}
+
+impl From<ErrorAt> for Refused {
+    fn from(error: ErrorAt) -> Refused {
+        Refused::Because(error.to_string())
     }
 }

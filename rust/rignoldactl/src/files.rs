@@ -4,7 +4,7 @@
 //! and nobody sees more than the rights of the folder let him.
 use crate::source::{no_key, read_folder, read_plain};
 use crate::{digest, Compared, Key, Keys, Seen};
-use rignolda::settings::{is_key, is_newer, that_counts, VALUE_BYTES};
+use rignolda_machine::settings::{is_key, is_newer, that_counts, VALUE_BYTES};
 use serde::Serialize;
 use std::collections::BTreeSet;
 use std::io::{self, ErrorKind};

@@ -1,7 +1,7 @@
 //! Asks a running agent, over its control socket.
 #![forbid(unsafe_code)]
 use clap::{Parser, Subcommand};
-use rignolda::settings::{is_newer, VALUE_BYTES};
+use rignolda_machine::settings::{is_newer, VALUE_BYTES};
 use rignoldactl::ask::{self, Agent};
 use rignoldactl::files::{self, File};
 use rignoldactl::probe::Probe;

@@ -1,7 +1,7 @@
 //! Settings that are read out of a folder which others may write to.
-use rignolda::net::BODY_BYTES;
-use rignolda::settings::{entry_bytes, is_key, KEY_BYTES, SETTINGS, VALUE_BYTES};
-use std::collections::{BTreeMap, BTreeSet};
+use rignolda_machine::net::BODY_BYTES;
+use rignolda_machine::settings::{entry_bytes, is_key, SETTINGS, VALUE_BYTES};
+pub use rignolda_machine::settings::{no_key, Faults, Found};
 use std::fs::{self, OpenOptions};
 use std::io::{self, ErrorKind, Read};
 use std::os::unix::fs::OpenOptionsExt;
@@ -11,58 +11,7 @@ use std::path::Path;
 /// secret of whoever reads here.
 pub const AS_IT_IS: i32 = 0o4_000
     | if cfg!(any(target_arch = "aarch64", target_arch = "arm")) { 0o100_000 } else { 0o400_000 };
-/// How many faults are named.
-const NAMED: usize = 64;
 const NO_FILE: &str = "it is no plain file, and no link is followed";
-
-/// What of some settings is none, or cannot be read, and why.
-#[derive(Debug, Default, PartialEq, Eq)]
-pub struct Faults {
-    /// How many there are.
-    pub count: u64,
-    /// The first ones, each with its name.
-    pub texts: BTreeSet<String>,
-}
-
-/// All settings that could be read.
-#[derive(Debug, Default)]
-pub struct Found {
-    /// Their keys and values.
-    pub settings: BTreeMap<String, Vec<u8>>,
-    /// The keys that are there and could not be read, and whether each may be a setting all the
-    /// same.
-    pub unread: BTreeMap<String, bool>,
-    /// What is wrong.
-    pub faults: Faults,
-}
-
-impl Faults {
-    /// One more. It is a line, whatever names are in it.
-    pub fn add(&mut self, text: String) {
-        self.count += 1;
-        if self.texts.len() < NAMED {
-            self.texts.insert(in_a_line(&text));
-        }
-    }
-}
-
-/// A text without a control character, each of which is written as in JSON: so it is in one line.
-fn in_a_line(text: &str) -> String {
-    let code = |c: char| match c.is_control() {
-        true => format!("\\u{:04x}", u32::from(c)),
-        false => c.into(),
-    };
-    text.chars().map(code).collect()
-}
-
-/// What is said of a name that is none of a setting.
-pub fn no_key(name: &str) -> String {
-    let name = in_a_line(name);
-    format!(
-        "`{name}` is no key: that is 1 to {KEY_BYTES} letters, digits, `.`, `_` or `-`, the first \
-         one no dot or hyphen, and for a group `KEY@GROUP`, where no two dots stand together",
-    )
-}
 
 /// What is said where there are more settings than a table may have.
 pub fn too_many() -> io::Error {
@@ -92,7 +41,8 @@ pub fn read_folder(folder: &Path) -> io::Result<Found> {
 }
 
 /// Reads the settings of a folder, where each file has the key that its name stands for, if that
-/// is one; where a key may have values for groups, [that](rignolda::settings::published_by).
+/// is one; where a key may have values for groups,
+/// [that](rignolda_machine::settings::published_by).
 ///
 /// # Errors
 ///

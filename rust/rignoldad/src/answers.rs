@@ -1,7 +1,8 @@
 //! Answers for those who watch, each of which is given again for a while: however many ask, making
 //! them takes a small part of the loop's time.
+use rignolda_machine::Time;
 use std::sync::Arc;
-use std::time::{Duration, Instant};
+use std::time::Duration;
 
 /// An answer is given again for so many times what it took to make it, but not for longer; one that
 /// took next to nothing is made for each who asks.
@@ -28,26 +29,19 @@ struct Made {
     /// The number of the last change: what was before that change is not given after it.
     changed: u64,
     bytes: Arc<[u8]>,
-    until: Instant,
+    until: Time,
 }
 
 impl Answers {
     /// The answer that is given again, if there is one.
-    pub fn again(&mut self, what: What, changed: u64, now: Instant) -> Option<Arc<[u8]>> {
+    pub fn again(&mut self, what: What, changed: u64, now: Time) -> Option<Arc<[u8]>> {
         self.passes(now);
         let is = |it: &&Made| (it.what, it.changed) == (what, changed);
         self.0.iter().find(is).map(|it| it.bytes.clone())
     }
 
     /// An answer was made, which took so long.
-    pub fn keep(
-        &mut self,
-        what: What,
-        changed: u64,
-        bytes: &Arc<[u8]>,
-        took: Duration,
-        now: Instant,
-    ) {
+    pub fn keep(&mut self, what: What, changed: u64, bytes: &Arc<[u8]>, took: Duration, now: Time) {
         self.0.retain(|it| it.what != what);
         if took > FREE {
             let until = now + (took * TIMES).min(LONGEST);
@@ -56,7 +50,7 @@ impl Answers {
     }
 
     /// Those whose time is over are not kept. (One that is further ahead than any is spoiled.)
-    pub fn passes(&mut self, now: Instant) {
+    pub fn passes(&mut self, now: Time) {
         self.0.retain(|it| now < it.until && it.until <= now + LONGEST);
     }
 
@@ -72,7 +66,7 @@ mod tests {
 
     /// How many answers are made for so many who ask in a minute, each of which takes so long.
     fn made(took: Duration, asked: u32) -> u32 {
-        let (mut answers, begun, mut made) = (Answers::default(), Instant::now(), 0);
+        let (mut answers, begun, mut made) = (Answers::default(), crate::system::time(), 0);
         for at in 0..asked {
             let now = begun + Duration::from_secs(60) * at / asked;
             if answers.again(What::Page, 1, now).is_none() {
@@ -95,7 +89,7 @@ mod tests {
 
     #[test]
     fn what_was_before_a_change_or_a_request_is_not_shown_after_it() {
-        let (mut answers, now) = (Answers::default(), Instant::now());
+        let (mut answers, now) = (Answers::default(), crate::system::time());
         let took = Duration::from_secs(1);
         let bytes: Arc<[u8]> = b"it"[..].into();
         answers.keep(What::Tree, 1, &bytes, took, now);

@@ -1,6 +1,6 @@
 //! What operators asked for that changes something, as a fact of the journal.
 use nix::sys::socket::{getsockopt, sockopt::PeerCredentials};
-use rignolda::settings::shown;
+use rignolda_machine::settings::shown;
 use rignoldactl::Request;
 use std::os::unix::io::AsRawFd;
 

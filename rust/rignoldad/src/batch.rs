@@ -1,5 +1,6 @@
 //! Files that are kept on the disk, several at once.
-use rignolda::settings::shown;
+use rignolda_machine::root::Kept;
+use rignolda_machine::settings::shown;
 use std::collections::BTreeSet;
 use std::fs::{self, File, OpenOptions};
 use std::io::{self, ErrorKind, Write};
@@ -16,9 +17,6 @@ const MOST: u32 = 0o640;
 const LEAST: u32 = 0o600;
 /// How many names beside a place are tried for a new file, since a folder may have some of them.
 const NAMES: usize = 100;
-
-/// A key, and its value; without one, it is unset.
-pub type Kept = (String, Option<Vec<u8>>);
 
 /// New files of a folder, which come to their places together.
 ///

@@ -1,9 +1,9 @@
 //! What `--check` finds beyond the text of a configuration: what its user cannot use on this
 //! machine, and, of the files of a whole tree, which agents do not fit.
-use crate::apply::refusal;
 use crate::config::{hook_lines, leads, line_of, read_text};
 use crate::config::{Address, Children, Config, Fault, Tls};
-use rignolda::settings::published_by;
+use crate::files::refusal;
+use rignolda_machine::settings::published_by;
 use rignoldactl::harmless_for;
 use std::collections::BTreeMap;
 use std::fs;
@@ -49,7 +49,7 @@ pub fn check(paths: &[PathBuf], words: &[String]) -> Vec<(usize, Fault)> {
 
 /// Whether it is the root only once it is promoted.
 fn may_be_promoted(config: &Config) -> bool {
-    config.root.as_ref().is_some_and(|root| root.standby)
+    config.agent.root.as_ref().is_some_and(|root| root.standby)
 }
 
 struct Check<'a> {
@@ -76,11 +76,11 @@ impl Check<'_> {
     // ---- One agent, on its machine
 
     fn machine(&mut self, config: &Config) {
-        config.tls.iter().for_each(|tls| self.tls(&config.peers.name, tls));
+        config.tls.iter().for_each(|tls| self.tls(&config.agent.peers.name, tls));
         config.store.password.as_ref().map(|it| self.may("store.password", it, "-r -f"));
-        let hook = config.apply.as_ref().and_then(|it| it.hook.as_ref());
+        let hook = config.agent.apply.as_ref().and_then(|it| it.hook.as_ref());
         hook.map(|it| self.may("apply.hook", it, "-x -f"));
-        let hooks = config.apply.iter().flat_map(|it| &it.hooks);
+        let hooks = config.agent.apply.iter().flat_map(|it| &it.hooks);
         for (at, hook) in hooks.enumerate() {
             let before = self.faults.len();
             self.may("hook.run", &hook.run, "-x -f");
@@ -88,7 +88,7 @@ impl Check<'_> {
             let line = line + line_of(&text, "run").max(1) - 1;
             self.faults[before..].iter_mut().for_each(|it| it.1.line = line);
         }
-        if let Some(path) = config.root.as_ref().map(|it| &it.settings) {
+        if let Some(path) = config.agent.root.as_ref().map(|it| Path::new(&it.settings)) {
             let standby = may_be_promoted(config);
             let tests = if path.is_dir() { "-r -x" } else { "-r -f" };
             let is_well = self.may("root.settings", path, tests) && config.control.is_some();
@@ -101,18 +101,20 @@ impl Check<'_> {
                 self.add(0, !standby, "root.settings", text);
             }
         }
-        if let Some(apply) = &config.apply {
+        if let Some(apply) = &config.agent.apply {
             refusal(apply).iter().for_each(|why| self.say(0, "apply.folder", why));
             // (what is lacking there is made, and what is above it by a unit)
-            let nearest = apply.folder.ancestors().take(2).find(|it| it.is_dir());
+            let nearest = Path::new(&apply.folder).ancestors().take(2).find(|it| it.is_dir());
             nearest.map(|it| self.may("apply.folder", it, "-r -w -x"));
         }
-        let control = config.control.iter().map(|it| ("control", Address::Unix(it.clone())));
+        let control =
+            config.control.iter().map(|it| ("control", Address::Unix(it.display().to_string())));
         for (key, it) in control.chain(config.listen.iter().map(|it| ("listen", it.clone()))) {
-            let Address::Unix(path) = it else { continue };
-            self.may(key, path.parent().unwrap_or(&path), "-w -x");
-            if fs::symlink_metadata(&path).is_ok_and(|it| !it.file_type().is_socket()) {
-                self.say(0, key, format!("`{}` is there, and no socket", path.display()));
+            let Address::Unix(text) = it else { continue };
+            let path = Path::new(&text);
+            self.may(key, path.parent().unwrap_or(path), "-w -x");
+            if fs::symlink_metadata(path).is_ok_and(|it| !it.file_type().is_socket()) {
+                self.say(0, key, format!("`{text}` is there, and no socket"));
             }
         }
     }
@@ -136,7 +138,8 @@ impl Check<'_> {
     }
 
     /// Whether it is there, and all of these hold of it.
-    fn may(&mut self, key: &str, path: &Path, tests: &str) -> bool {
+    fn may(&mut self, key: &str, path: impl AsRef<Path>, tests: &str) -> bool {
+        let path = path.as_ref();
         let is_missing = fs::metadata(path).is_err_and(|e| e.kind() == ErrorKind::NotFound);
         let fails = |(it, _): &&(&str, _)| tests.contains(it) && !self.test(it, path);
         let why = match is_missing {
@@ -162,9 +165,9 @@ impl Check<'_> {
 
     fn tree(&mut self, all: &[Config]) {
         let (paths, mut places) = (self.paths, BTreeMap::new());
-        let roots: Vec<usize> = (0..all.len()).filter(|at| all[*at].root.is_some()).collect();
+        let roots: Vec<usize> = (0..all.len()).filter(|at| all[*at].agent.root.is_some()).collect();
         for (at, it) in all.iter().enumerate() {
-            if let Some(other) = places.insert(&it.peers.name, at) {
+            if let Some(other) = places.insert(&it.agent.peers.name, at) {
                 let text = format!("it is that of {} too", paths[other].display());
                 self.say(at, "name", text);
             }
@@ -178,7 +181,7 @@ impl Check<'_> {
         }
         let mut above = vec![Vec::new(); all.len()];
         for (at, it) in all.iter().enumerate() {
-            for parent in &it.peers.parents {
+            for parent in &it.agent.peers.parents {
                 match parent.name.as_ref().map(|name| places.get(name)) {
                     Some(Some(up)) => {
                         above[at].push(*up);
@@ -193,7 +196,7 @@ impl Check<'_> {
             }
         }
         for (at, it) in all.iter().enumerate() {
-            let Children::Named(names) = &it.peers.children else { continue };
+            let Children::Named(names) = &it.agent.peers.children else { continue };
             for (name, address) in names {
                 let place = places.get(name);
                 if !place.is_some_and(|place| above[*place].contains(&at)) {
@@ -208,7 +211,7 @@ impl Check<'_> {
         for root in &roots {
             for other in roots.iter().filter(|other| *other != root) {
                 if may_be_promoted(&all[*root]) && !above[*root].contains(other) {
-                    let name = &all[*other].peers.name;
+                    let name = &all[*other].agent.peers.name;
                     let text = format!("`{name}` is missing: two roots look at each other");
                     self.say(*root, "parents", text);
                 }
@@ -233,16 +236,17 @@ impl Check<'_> {
                 depths[at] = Some(depth);
             }
         }
-        let name = if is_named { format!(" `{}`", all[root].peers.name) } else { String::new() };
+        let name =
+            if is_named { format!(" `{}`", all[root].agent.peers.name) } else { String::new() };
         for at in (0..all.len()).filter(|at| depths[*at].is_none()) {
             let next = |at: &usize| above[*at].first().copied();
             let way = std::iter::successors(Some(at), next).take(WAY);
-            let way: Vec<_> = way.map(|at| &*all[at].peers.name).collect();
+            let way: Vec<_> = way.map(|at| &*all[at].agent.peers.name).collect();
             let text = format!("no way leads to the root{name}: {}", way.join(", "));
             self.say(at, "parents", text);
         }
         let depth = depths.into_iter().flatten().max().unwrap_or(0);
-        let (least, config) = (harmless_for(depth), all[root].root.as_ref());
+        let (least, config) = (harmless_for(depth), all[root].agent.root.as_ref());
         if config.is_some_and(|it| it.harmless(depth) < least) {
             self.say(root, "root.harmless", format!("in this tree it is at least {least}"));
         }
@@ -251,8 +255,8 @@ impl Check<'_> {
     /// What does not fit between a child and a parent of it, to which it connects at `to`.
     fn link(&mut self, all: &[Config], low: usize, up: usize, to: Option<&Address>) {
         let (lower, upper) = (&all[low], &all[up]);
-        let name = &lower.peers.name;
-        let from = match &upper.peers.children {
+        let name = &lower.agent.peers.name;
+        let from = match &upper.agent.peers.children {
             Children::Any => None,
             Children::Named(names) if names.contains_key(name) => names[name].as_ref(),
             _ => return self.say(up, "children", format!("`{name}` is missing")),
@@ -263,7 +267,7 @@ impl Check<'_> {
         }
         let ends = [(low, "parents", to, upper), (up, "children", from, lower)];
         for (at, key, address, other) in ends {
-            let (Some(address), name) = (address, &other.peers.name) else { continue };
+            let (Some(address), name) = (address, &other.agent.peers.name) else { continue };
             // (of some it is not known)
             let are_there: Vec<_> = match address {
                 Address::Redis { .. } => vec![Some(to == from)],
@@ -277,7 +281,7 @@ impl Check<'_> {
                 self.say(at, key, format!("one of it and `{name}` alone has [tls]"));
             }
         }
-        if upper.peers.evict <= lower.peers.ack_timeout {
+        if upper.agent.peers.evict <= lower.agent.peers.ack_timeout {
             let text = format!("it has to be longer than the `ack_timeout` of `{name}`");
             self.say(up, "link.evict", text);
         }

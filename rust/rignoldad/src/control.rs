@@ -2,7 +2,7 @@
 //! [counts](crate::metrics) and [page](crate::page).
 use crate::config::Address;
 use crate::serve;
-use rignolda::settings::VALUE_BYTES;
+use rignolda_machine::settings::VALUE_BYTES;
 use rignolda_tls::Listener;
 use rignoldactl::{Request, Response};
 use serde_json::Value;
@@ -54,7 +54,7 @@ pub type Server = serve::Server<Asked, Listener>;
 
 /// Listens for an operator at a socket of this path, for whom its file lets in.
 pub fn server(path: &Path) -> io::Result<Server> {
-    let listener = Listener::new(&Address::Unix(path.into()), Some(0o660))?;
+    let listener = Listener::new(&Address::Unix(path.display().to_string()), Some(0o660))?;
     Ok(Server::new(listener, REQUEST_BYTES, IDLE, asked))
 }
 

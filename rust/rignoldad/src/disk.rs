@@ -1,11 +1,13 @@
 //! The disk that has the root's settings. A thread does what may have to wait for it.
-use crate::batch::{write_folder, Kept};
+use crate::batch::write_folder;
 use crate::depth::{too_deep, TOO_DEEP};
-use crate::kept::{Places, Record};
-use crate::refused::Refused;
+use crate::kept::Places;
 use inotify::{Inotify, WatchMask};
-use rignolda::net::{Worker, BODY_BYTES};
-use rignolda::settings::{parts, published_by, shown, SETTINGS, VALUE_BYTES};
+use rignolda_machine::net::BODY_BYTES;
+use rignolda_machine::root::{Done, Empty, Job, Kept};
+use rignolda_machine::settings::{parts, published_by, shown, SETTINGS, VALUE_BYTES};
+use rignolda_machine::Refused;
+use rignolda_redis::Worker;
 use rignoldactl::source::{no_key, read_folder_by, read_plain, too_many, Faults, Found};
 use std::collections::BTreeSet;
 use std::fs;
@@ -25,51 +27,6 @@ const READS: u32 = 3;
 const MEANT: &str = ".empty";
 const EMPTY: &str = "it is empty: is a mount missing, or else `.empty`?";
 const NO_SETTING: &str = "nothing in it can be published";
-
-/// What is to be done. One comes after the other.
-#[derive(Debug, PartialEq, Eq)]
-pub enum Job {
-    /// To read all settings.
-    Read,
-    /// To read what changed.
-    Changed,
-    /// To write these files, or to remove them.
-    Write(Vec<Kept>),
-    /// To give this key's file, which is for a group, the place of the one for all.
-    Promote(String),
-    /// To read what an earlier life published.
-    Recall,
-    /// To keep what is published.
-    Keep(String),
-}
-
-/// What was done.
-pub enum Done {
-    Read(Result<Found, Empty>),
-    /// These alone changed.
-    Keys(Vec<Kept>),
-    /// And whether `others` have changed something meanwhile.
-    Written {
-        all: Vec<Written>,
-        others: bool,
-    },
-    Recalled(Option<Record>),
-    /// And why it cannot be.
-    Kept(Result<(), String>),
-}
-
-/// A change, and why it was not done.
-pub type Written = (Kept, Result<(), Refused>);
-
-/// Why there are no settings.
-pub struct Empty {
-    pub why: String,
-    /// Whether the folder is there, and has none; and whether the first one may be published: it is
-    /// empty and the agent's own.
-    pub has_none: bool,
-    pub is_new: bool,
-    pub faults: Faults,
-}
 
 struct Place {
     settings: Arc<Path>,

@@ -1,14 +1,16 @@
 //! The worker of files: it keeps those of a folder as settings are, one job after the other, and
-//! answers what each came to be. What follows from that, [the applier](crate::apply) decides.
-use crate::apply::{Applied, Fact, Outcome};
-use crate::config::{is_key, Apply};
+//! answers what each came to be. What follows from that, [the applier](rignolda_machine::apply)
+//! decides.
 use crate::digest::Digest;
 use crate::floor::{self, read_floor, Marker};
 use crate::folder::{unlink, Folder};
 use crate::hooks::{self, INPUT, PENDING};
-use crate::jobs::{Done, Ended, Kept, Mark};
-use crate::place::{has_mount, Identity, Place};
-use rignolda::settings::{parts, shown, Change, Waiting, VALUE_BYTES};
+use crate::place::{has_mount, Place};
+use rignolda_machine::apply::{Applied, Done, Ended, Identity, Kept, Mark, Outcome};
+use rignolda_machine::apply::{GROUPS, LISTS, MARKER};
+use rignolda_machine::config::Apply;
+use rignolda_machine::settings::{is_key, parts, shown, Change, Waiting, VALUE_BYTES};
+use rignolda_machine::Fact;
 use rignolda_tls::moved_aside;
 use rignoldactl::source::{read_folder, read_plain};
 use std::collections::BTreeMap;
@@ -17,22 +19,15 @@ use std::io;
 use std::mem::take;
 use std::path::Path;
 use std::sync::Arc;
-use std::time::{Duration, Instant};
+use std::time::Instant;
 
-/// The folder of values as they were published, of keys that have one for some group; and their
-/// mode.
-pub const GROUPS: &str = ".groups";
+/// The mode of values as they were published.
 const GROUPS_MODE: u32 = 0o600;
-/// The file that says that a folder is an agent's, and up to which number its files are.
-pub const MARKER: &str = ".rignolda";
-/// How soon after a look at all that is in the folder the next one is, unless a table looks: where
-/// changes come faster than that, none of them waits for it.
-pub const LISTS: Duration = Duration::from_secs(1);
 
 /// Why this folder is not taken, where it is not: what no setting names is removed there, and it
 /// has what a setting could name, but nothing that says it is an agent's.
 pub fn refusal(config: &Apply) -> Option<String> {
-    let folder = &config.folder;
+    let folder = Path::new(&config.folder);
     let there = fs::read_dir(folder).ok().filter(|_| !has_consent(config, folder))?;
     let mut names = there.flatten().filter_map(|entry| entry.file_name().into_string().ok());
     names.find(|name| is_key(name)).map(|name| has(config, &name))
@@ -45,7 +40,7 @@ fn has_consent(config: &Apply, at: &Path) -> bool {
 
 /// Why a folder that has this name is not taken.
 fn has(config: &Apply, name: &str) -> String {
-    let folder = config.folder.display();
+    let folder = &config.folder;
     format!("{folder} has `{name}`, and no `{MARKER}`: all of it would go; see `take`")
 }
 
@@ -70,7 +65,7 @@ fn refused(config: &Apply, folder: &Folder, files: &Waiting, is_first: bool) -> 
 
 /// The number up to which the files are, as an earlier life left them.
 pub fn floor(config: &Apply) -> u64 {
-    read_floor(&config.folder.join(MARKER))
+    read_floor(&Path::new(&config.folder).join(MARKER))
 }
 
 /// The settings as they were published last, by what an earlier life left there; none where the
@@ -80,7 +75,8 @@ pub fn settings(config: &Apply) -> BTreeMap<String, Vec<u8>> {
     if floor(config) == 0 {
         return BTreeMap::new();
     }
-    let (mut settings, grouped) = (read(&config.folder), read(&config.folder.join(GROUPS)));
+    let folder = Path::new(&config.folder);
+    let (mut settings, grouped) = (read(folder), read(&folder.join(GROUPS)));
     for key in grouped.keys() {
         settings.remove(parts(key).0);
     }
@@ -145,11 +141,12 @@ impl Files {
         let Mark { mut files, floor, looks, forgets, lacks, .. } = mark;
         (self.config, self.looks) = (config, looks);
         let config = self.config.clone();
-        if self.folder.path() != config.folder {
+        let path = Path::new(&config.folder);
+        if self.folder.path() != path {
             // (the memory is spoiled)
-            self.folder = Folder::new(config.folder.clone());
+            self.folder = Folder::new(path.into());
             self.marker.close();
-            self.grouped = Folder::new(config.folder.join(GROUPS));
+            self.grouped = Folder::new(path.join(GROUPS));
         }
         if forgets {
             self.forget();
@@ -170,7 +167,7 @@ impl Files {
         match self.says(floor, files.is_whole()) {
             Ok(None) => (),
             Ok(Some(number)) => return Done::Later(number),
-            Err(error) => return Done::Refused(Outcome::file(&error)),
+            Err(error) => return Done::Refused(failed(&error)),
         }
         if taken != self.folder.is() {
             // (of another folder nothing is known, and a change alone does not make it right)
@@ -302,7 +299,8 @@ impl Files {
                 let why = |e| format!("another folder is in its place, with `{name}`: {e}");
                 let to = moved_aside(&at).map_err(|e| io::Error::other(why(e)))?;
                 let to = to.file_name().unwrap_or_default().to_string_lossy().into_owned();
-                self.facts.push(Fact::Aside(to));
+                let words = format!("what lay at {GROUPS} was another folder: it is {to} now");
+                self.facts.push(("settings", words));
                 folder.leave(None);
                 return self.open_grouped();
             }
@@ -318,7 +316,7 @@ impl Files {
         let (was, sequence) = (self.grouped.is(), self.all.first().unwrap_or(0));
         let opened = self.open_grouped();
         let mut all = take(&mut self.all);
-        let status = opened.as_ref().map_or_else(Outcome::file, |_| Outcome::Done);
+        let status = opened.as_ref().map_or_else(failed, |_| Outcome::Done);
         let mut came = vec![Applied { key: GROUPS.into(), sequence, status }];
         if opened.is_err() {
             self.grouped.leave(was);
@@ -343,7 +341,7 @@ impl Files {
                 _ => (),
             }
             is_kept &= matches!(kept, Ok(true));
-            let status = kept.as_ref().map_or_else(Outcome::file, |_| Outcome::Done);
+            let status = kept.as_ref().map_or_else(failed, |_| Outcome::Done);
             came.push(Applied { key: beside(&shown(&key)), sequence: change.last, status });
         }
         folder.close();
@@ -384,10 +382,18 @@ impl Others {
         });
         all.sort();
         let is_new = all != self.said && !all.is_empty();
-        let fact = is_new.then(|| Fact::Others(all.len(), all[..all.len().min(3)].join(" ")));
+        let fact = is_new.then(|| {
+            let (count, first) = (all.len(), all[..all.len().min(3)].join(" "));
+            ("settings", format!("{count} in the folder are none of settings, as {first}"))
+        });
         *self = Others { said: all, at: Some(Instant::now()), is_due: false };
         fact
     }
+}
+
+/// What became of a file that the system refused.
+fn failed(error: &io::Error) -> Outcome {
+    Outcome::File(error.to_string())
 }
 
 /// Takes up what the file of a key is now that it was written, or could not be.

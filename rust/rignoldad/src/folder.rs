@@ -1,7 +1,8 @@
 //! Files of settings.
 use crate::fact;
-use crate::place::{has_mount, Identity, Place};
-use rignolda::settings::{is_key, VALUE_BYTES};
+use crate::place::{has_mount, Place};
+use rignolda_machine::apply::Identity;
+use rignolda_machine::settings::{is_key, VALUE_BYTES};
 use rignolda_tls::moved_aside;
 use rignoldactl::source::read_plain;
 use std::collections::hash_map::RandomState;

@@ -1,13 +1,10 @@
-//! Hooks: programs that are told of changes.
-//!
-//! One is run for each change of a key. Others are each for the keys that some patterns name, with
-//! one run for all of these that changed together.
-use crate::config::Apply;
-use crate::files::MARKER;
+//! Runs hooks, and keeps of which keys they are due.
 use crate::floor::read_floor;
 use crate::folder::{remove, unlink, Folder};
-use crate::place::{Identity, Place};
-use rignolda::settings::{is_key, older, Change, Waiting};
+use crate::place::Place;
+use rignolda_machine::apply::{Hook, Identity, MARKER};
+use rignolda_machine::config::Apply;
+use rignolda_machine::settings::{is_key, Change};
 use std::collections::BTreeSet;
 use std::fs::{self, File, OpenOptions};
 use std::io::{self, Seek, Write};
@@ -21,34 +18,6 @@ use std::time::Duration;
 pub const PENDING: &str = ".pending";
 /// How the name of a hook's input begins, while it has one.
 pub const INPUT: &str = ".input";
-
-/// A hook that has one run for all of its keys that changed together.
-#[derive(Clone, Debug, Default, Eq, Ord, PartialEq, PartialOrd)]
-pub struct Hook {
-    /// Patterns of which a key fits one.
-    pub keys: Vec<String>,
-    pub run: PathBuf,
-    pub timeout: Duration,
-}
-
-impl Hook {
-    /// Whether it is told of this key.
-    pub fn is_for(&self, key: &str) -> bool {
-        self.keys.iter().any(|pattern| fits(pattern, key))
-    }
-
-    /// What is said of it.
-    pub fn name(&self) -> String {
-        format!("{} of {}", self.run.display(), self.keys.join(" "))
-    }
-
-    /// Runs it to its end for these keys, of which the last change has this number.
-    pub fn run(&self, at: &House, keys: &BTreeSet<String>, number: u64) -> Result<(), String> {
-        let names: String = keys.iter().flat_map(|key| [key, "\n"]).collect();
-        let mut command = command(&self.run, self.timeout, at.folder, number);
-        finished(command.current_dir(at.folder).stdin(at.given(names.as_bytes())?))
-    }
-}
 
 /// Where a hook runs: the folder, as it is named, and itself while it is the agent's own.
 #[derive(Debug)]
@@ -79,65 +48,16 @@ impl<'a> House<'a> {
     }
 }
 
-/// Whether a key fits a pattern, in which each `*` stands for any letters, or none, and everything
-/// else for itself.
-pub fn fits(pattern: &str, key: &str) -> bool {
-    let mut parts = pattern.split('*');
-    let front = parts.next().unwrap_or_default();
-    let Some(mut rest) = key.strip_prefix(front) else { return false };
-    let Some(back) = parts.next_back() else { return rest.is_empty() };
-    // (of each part in between the first place will do)
-    for part in parts {
-        match rest.split_once(part) {
-            Some((_, behind)) => rest = behind,
-            None => return false,
-        }
-    }
-    rest.ends_with(back)
-}
-
-/// What a hook is still to be told.
-#[derive(Debug, Default)]
-pub struct Runs {
-    /// The keys that change now, together; and those that changed since the last run began.
-    pub changing: Waiting,
-    pub waiting: Waiting,
-    /// The keys of runs that failed.
-    pub due: BTreeSet<String>,
-}
-
-impl Runs {
-    /// The oldest number that is not told yet.
-    pub fn first(&self) -> Option<u64> {
-        self.waiting.first().into_iter().chain(self.changing.first()).reduce(older)
-    }
-
-    /// Whether a run is to come for this key.
-    pub fn lacks(&self, key: &str) -> bool {
-        self.waiting.has(key) || self.changing.has(key) || self.due.contains(key)
-    }
-
-    /// A key changes: the hook is told of it together with others.
-    pub fn change(&mut self, key: &str, change: &Change) {
-        self.due.remove(key);
-        self.changing.put(key, Change { value: None, ..change.clone() });
-    }
-
-    /// Those that changed together are known.
-    pub fn changed(&mut self) {
-        for (key, change) in std::mem::take(&mut self.changing).in_order() {
-            self.waiting.put(&key, change);
-        }
-    }
-
-    /// Begins a run where something waits: of these keys, and the first and the last number.
-    pub fn begin(&mut self) -> Option<(BTreeSet<String>, u64, u64)> {
-        let first = self.waiting.first()?;
-        let changes = std::mem::take(&mut self.waiting).in_order();
-        let last = changes.last().map_or(first, |(_, change)| change.last);
-        let keys: BTreeSet<String> = changes.into_iter().map(|(key, _)| key).collect();
-        Some((keys, first, last))
-    }
+/// Runs a hook for these keys to its end, of which the last change has this number.
+pub fn run_for(
+    hook: &Hook,
+    at: &House,
+    keys: &BTreeSet<String>,
+    number: u64,
+) -> Result<(), String> {
+    let names: String = keys.iter().flat_map(|key| [key, "\n"]).collect();
+    let mut command = command(&hook.run, hook.timeout, at.folder, number);
+    finished(command.current_dir(at.folder).stdin(at.given(names.as_bytes())?))
 }
 
 /// Runs the hook of a change to its end, or until its time is up.
@@ -152,7 +72,7 @@ pub fn run(at: &House, config: &Apply, key: &str, change: &Change) -> Result<(),
     finished(command.stdin(input))
 }
 
-fn command(program: &Path, timeout: Duration, folder: &Path, number: u64) -> Command {
+fn command(program: &str, timeout: Duration, folder: &Path, number: u64) -> Command {
     let mut command = Command::new("timeout");
     command.arg("--kill-after=5").arg(format!("{:.3}", timeout.as_secs_f64())).arg(program);
     command.env("RIGNOLDA_SEQUENCE", number.to_string()).env("RIGNOLDA_FOLDER", folder);
@@ -230,41 +150,4 @@ pub fn settle(at: &House, keys: &[String]) {
 /// Whether something is there, and this of it; of a link it is said of itself.
 fn is(path: &Path, what: impl Fn(&fs::Metadata) -> bool) -> bool {
     fs::symlink_metadata(path).is_ok_and(|it| what(&it))
-}
-
-#[cfg(test)]
-mod tests {
-    use super::*;
-
-    #[test]
-    fn a_star_stands_for_any_letters() {
-        for (pattern, key) in [
-            ("*", "a"),
-            ("app.*", "app."),
-            ("app.*", "app.a.b"),
-            ("*.conf", "app.conf"),
-            ("a*b*c", "abc"),
-            ("a*b*c", "aXbYbZc"),
-            ("a**c", "ac"),
-            ("*b*b", "abb"),
-            ("ab*ab", "abab"),
-            ("colour", "colour"),
-        ] {
-            assert!(fits(pattern, key), "{pattern} {key}");
-        }
-        for (pattern, key) in [
-            ("", "a"),
-            ("app.*", "app"),
-            ("app.*", "Xapp.a"),
-            ("*.conf", "app.conf2"),
-            ("a*b*c", "acb"),
-            ("ab*ab", "ab"),
-            ("ab*b", "ab"),
-            ("colour", "colours"),
-            ("a?", "ab"),
-            ("[a]", "a"),
-        ] {
-            assert!(!fits(pattern, key), "{pattern} {key}");
-        }
-    }
 }

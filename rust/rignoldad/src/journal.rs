@@ -2,7 +2,6 @@
 //!
 //! Nobody waits for whoever reads them: a thread writes what waits here, and what does not fit is
 //! counted.
-use crate::facts::Fact;
 use std::collections::VecDeque;
 use std::io::Write;
 use std::os::unix::fs::MetadataExt;
@@ -47,11 +46,6 @@ pub fn lines(fact: &str, all: impl IntoIterator<Item = String>) {
     }
     // (mostly there is no line)
     (!queue.lines.is_empty()).then(|| CHANGED.notify_all());
-}
-
-/// Writes what a root or a standby has to say.
-pub fn facts(all: impl IntoIterator<Item = Fact>) {
-    all.into_iter().for_each(|it| lines(it.name(), [it.to_string()]));
 }
 
 fn line(fact: &str, words: &str) -> String {

@@ -1,26 +1,41 @@
-//! The connections of an agent, as the system has them: which of them can be read or written, and
-//! which are left since their certificates do not hold any more.
+//! The connections of an agent, as the system has them: which of them can be read or written, what
+//! is to be written on each, and which are left since their certificates do not hold any more.
 use crate::config::{Address, Config};
-use crate::machine::{Input, Machine};
-use crate::system::unix_now;
+use crate::system::{time, unix_now};
 use crate::workers::Wake;
 use mio::unix::SourceFd;
 use mio::{Events, Interest, Poll, Registry, Token, Waker};
-use rignolda::net::{Call, Origin};
+use rignolda_machine::machine::{Input, Machine};
+use rignolda_machine::net::{Call, Chunk, End, Origin};
+use rignolda_machine::Time;
 use rignolda_tls::{Caller, Handshakes, Line, Maker, Own};
 use rignoldactl::{at, ErrorAt};
 use std::collections::{BTreeMap, HashSet};
-use std::io::{self, ErrorKind};
-use std::os::unix::io::{AsRawFd, RawFd};
+use std::io;
+use std::os::unix::io::RawFd;
 use std::sync::Arc;
-use std::time::{Duration, Instant};
+use std::time::Duration;
+
+mod held;
+
+use held::{Held, Piece};
 
 /// How many events are taken in one turn, and how many certificates are looked at.
 const EVENTS: usize = 256;
 const LOOKS: usize = 64;
+/// How much is read at once: some records of TLS.
+const READ_BYTES: usize = 64 << 10;
+/// How much is read from one line before the others have their turn.
+const TURN_BYTES: usize = 1 << 20;
+/// The same in reads, each of which may bring little and take long.
+const TURN_READS: usize = 128;
+/// How many lines are read in one turn of which nobody knows whose they are: others come first.
+const TURN_GREETINGS: usize = 8;
 /// An event of a line has its number; that of another descriptor has this bit and the descriptor.
 const OTHER: usize = 1 << (usize::BITS - 1);
 const WAKE: Token = Token(usize::MAX);
+/// The numbers of lines stay below this, of which no process has so many.
+const NUMBERS: u64 = 1 << 48;
 /// After how long the clock is looked at again at the latest, since it may be set.
 const CLOCK: Duration = Duration::from_secs(10);
 
@@ -31,9 +46,8 @@ pub type Other = (RawFd, u64, bool);
 /// What can be done now.
 #[derive(Default)]
 pub struct Fired {
-    /// The lines that can be read or written, and those that the other end has closed.
+    /// The lines that can be read or written.
     pub ready: Vec<u64>,
-    pub ended: Vec<u64>,
     pub others: HashSet<RawFd>,
     /// Whether there is anything else to do.
     pub is_due: bool,
@@ -42,9 +56,15 @@ pub struct Fired {
 pub struct Lines {
     poll: Poll,
     events: Events,
-    /// The lines that are waited for, each with its descriptor, and whether until they can be
-    /// written too.
-    lines: BTreeMap<u64, (RawFd, bool)>,
+    held: BTreeMap<u64, Held>,
+    /// The number of the last line, and those of which more may be read at once.
+    made: u64,
+    again: Vec<u64>,
+    /// What came of writing: lines on which all is written, and why others are over.
+    written: Vec<(u64, io::Result<()>)>,
+    /// Where what is read comes first; and the address of that, with each bit turned.
+    space: Box<[u8]>,
+    not_at: usize,
     others: Vec<Other>,
     /// When the first certificate of a line expires, in seconds since 1970.
     expires: i64,
@@ -52,7 +72,7 @@ pub struct Lines {
     unsure: Vec<u64>,
     handshakes: Handshakes,
     pub maker: Maker,
-    pub caller: Caller,
+    caller: Caller,
     wake: Wake,
 }
 
@@ -63,18 +83,31 @@ impl Lines {
         let waker = Waker::new(poll.registry(), WAKE).map_err(at("poll"))?;
         let wake: Wake = Arc::new(move || drop(waker.wake()));
         let handshakes = Handshakes::new(wake.clone());
-        Ok(Lines {
+        let mut lines = Lines {
             maker: maker(config)?.with_handshakes(&handshakes).with_own(own),
             handshakes,
             poll,
             events: Events::with_capacity(EVENTS),
-            lines: BTreeMap::new(),
+            held: BTreeMap::new(),
+            made: 0,
+            again: Vec::new(),
+            written: Vec::new(),
+            space: Box::default(),
+            not_at: 0,
             others: Vec::new(),
             expires: i64::MAX,
             unsure: Vec::new(),
             caller: Caller::new(wake.clone()),
             wake,
-        })
+        };
+        lines.make_space();
+        Ok(lines)
+    }
+
+    /// Makes new space for what is read.
+    fn make_space(&mut self) {
+        self.space = vec![0; READ_BYTES].into_boxed_slice();
+        self.not_at = !(self.space.as_ptr() as usize);
     }
 
     /// Wakes the loop.
@@ -82,53 +115,50 @@ impl Lines {
         self.wake.clone()
     }
 
-    /// Waits until something can be done, by that time at the latest.
+    /// Waits until something can be done, by that time at the latest. Of those who connected, some
+    /// are known, and waited for first.
     pub fn wait(
         &mut self,
-        machine: &mut Machine<Line>,
+        knows: impl Fn(&Origin) -> bool,
         others: Vec<Other>,
-        until: Instant,
+        until: Time,
         most: Duration,
     ) -> io::Result<Fired> {
-        let now = Instant::now();
-        let peers = &mut machine.peers;
-        self.handshakes.go_on(now, |it| *it == Origin::Own || peers.knows(it));
+        let now = time();
+        self.handshakes.go_on(now, |it| *it == Origin::Own || knows(it));
         let registry = self.poll.registry();
         for (fd, ..) in self.others.iter().filter(|(fd, ..)| others.iter().all(|it| it.0 != *fd)) {
             // (where it was closed, the system has forgotten it already)
             let _ = registry.deregister(&mut SourceFd(fd));
         }
-        let written = |is| if is { Interest::WRITABLE } else { Interest::READABLE };
-        for (id, line, has_output) in peers.touched() {
-            self.expires = self.expires.min(line.expires());
-            let it = (line.as_raw_fd(), line.wants_write(has_output));
-            if self.lines.insert(id, it) != Some(it) {
-                watch(registry, it.0, Token(id as usize), Interest::READABLE | written(it.1))?;
-            }
-        }
         for it in others.iter().filter(|it| !self.others.contains(it)) {
             watch(registry, it.0, Token(OTHER | it.0 as usize), written(it.2))?;
         }
         self.others = others;
-        let until = until.min(self.deadline(now));
-        let pause = until.saturating_duration_since(Instant::now()).min(most).as_micros();
+        let until = if self.again.is_empty() { until.min(self.deadline(now)) } else { now };
+        // (who is woken since that is long ago has a turn, whatever the machine says)
+        let until = until.min(now + most);
+        let pause = (until - time()).as_micros();
         // (rounded up, since the system counts in milliseconds)
         let pause = Duration::from_millis(pause.div_ceil(1_000) as u64);
         match self.poll.poll(&mut self.events, Some(pause)) {
-            Err(e) if e.kind() != ErrorKind::Interrupted => return Err(e),
+            Err(e) if e.kind() != io::ErrorKind::Interrupted => return Err(e),
             _ => (),
         }
-        let mut fired = Fired { is_due: Instant::now() >= until, ..Fired::default() };
-        let ended = self.events.iter().filter(|it| it.is_read_closed() || it.is_error());
-        fired.ended.extend(ended.map(|it| it.token().0 as u64));
-        for token in self.events.iter().map(|event| event.token()) {
-            match token {
-                Token(line) if line & OTHER == 0 => fired.ready.push(line as u64),
+        let mut fired = Fired { is_due: time() >= until, ..Fired::default() };
+        for event in &self.events {
+            match event.token() {
+                Token(line) if line & OTHER == 0 => {
+                    let held = self.held.get_mut(&(line as u64));
+                    let is_closed = event.is_read_closed() || event.is_error();
+                    held.into_iter().for_each(|it| it.ends |= is_closed);
+                    fired.ready.push(line as u64);
+                }
                 WAKE => fired.is_due = true,
                 Token(other) => drop(fired.others.insert((other & !OTHER) as RawFd)),
             }
         }
-        fired.ready.extend(self.handshakes.ended(Instant::now()));
+        fired.ready.extend(self.handshakes.ended(time()));
         fired.is_due |= !fired.others.is_empty();
         // (of these, all need not be read at once: so the system is asked again)
         for it in self.others.iter_mut().filter(|it| fired.others.contains(&it.0)) {
@@ -138,7 +168,7 @@ impl Lines {
     }
 
     /// When certificates are to be looked at.
-    fn deadline(&self, now: Instant) -> Instant {
+    fn deadline(&self, now: Time) -> Time {
         let expires = u64::try_from(self.expires.saturating_sub(unix_now())).unwrap_or(0);
         // (the clock may be set meanwhile)
         let expires = Duration::from_secs(expires).min(CLOCK);
@@ -149,43 +179,175 @@ impl Lines {
         }
     }
 
+    // ---- What comes, and what is written
+
+    /// Gives a line its number: that, and what is known of the other end.
+    pub fn add(&mut self, mut line: Line) -> (u64, End) {
+        // (no number is given twice, whatever is remembered of them)
+        let last = self.held.keys().next_back().copied();
+        self.made = self.made.max(last.unwrap_or(0)) + 1;
+        line.is_numbered(self.made);
+        let end = line.end();
+        let mut held = Held::new(line, end.shown);
+        self.watch(self.made, &mut held);
+        self.held.insert(self.made, held);
+        (self.made, end)
+    }
+
+    /// Has the system tell of this line, if that is to be so in another way than before.
+    fn watch(&mut self, id: u64, held: &mut Held) {
+        let (fd, writes) = held.waits_for();
+        if held.watched != Some((fd, writes)) {
+            let interest = Interest::READABLE | written(writes);
+            let watched = watch(self.poll.registry(), fd, Token(id as usize), interest);
+            held.watched = watched.ok().map(|()| (fd, writes));
+        }
+        self.expires = self.expires.min(held.line.expires());
+    }
+
+    /// Does this with a line, and waits for what that needs then.
+    fn with<T>(&mut self, id: u64, does: impl FnOnce(&mut Lines, &mut Held) -> T) -> Option<T> {
+        let mut held = self.held.remove(&id)?;
+        let done = does(self, &mut held);
+        self.watch(id, &mut held);
+        self.held.insert(id, held);
+        Some(done)
+    }
+
+    /// The lines that are read in this turn: those that were put off come first, since else a few
+    /// that are always ready would come alone.
+    pub fn in_turn(&mut self, ready: &[u64], is_greeting: impl Fn(u64) -> bool) -> Vec<u64> {
+        let again = std::mem::take(&mut self.again);
+        let first: HashSet<u64> = again.iter().copied().collect();
+        let others = ready.iter().copied().filter(|id| !first.contains(id));
+        let all = again.iter().copied().chain(others);
+        let (waiting, mut turn): (Vec<u64>, Vec<u64>) = all.partition(|id| is_greeting(*id));
+        let (now, later) = waiting.split_at(waiting.len().min(TURN_GREETINGS));
+        turn.extend_from_slice(now);
+        self.again.extend_from_slice(later);
+        turn
+    }
+
+    /// Reads what there is of a line, as long as somebody takes it, and says what came.
+    pub fn read(&mut self, id: u64, mut takes: impl FnMut(Input<'_>) -> bool) {
+        self.with(id, |lines, held| {
+            let (mut total, mut reads) = (0, 0);
+            loop {
+                let piece = held.read(&mut lines.space);
+                if let Some(end) = held.shows() {
+                    takes(Input::Shown(id, end));
+                }
+                let (count, is_all) = match piece {
+                    Piece::Nothing => break,
+                    Piece::Over(why) => {
+                        takes(Input::Over(id, &why));
+                        break;
+                    }
+                    Piece::Bytes(count, is_all) => (count, is_all),
+                };
+                if !takes(Input::Bytes(id, &lines.space[..count])) || is_all {
+                    break;
+                }
+                (total, reads) = (total + count, reads + 1);
+                if total >= TURN_BYTES || reads >= TURN_READS {
+                    // (by TLS, there may be more of which the system knows nothing)
+                    lines.again.push(id);
+                    break;
+                }
+            }
+        });
+    }
+
+    /// Sends this on a line, behind what is to be written already.
+    pub fn send(&mut self, id: u64, chunk: Chunk) {
+        self.with(id, |lines, held| {
+            held.says(chunk);
+            lines.written.extend(held.write().map(|done| (id, done)));
+        });
+    }
+
+    /// Writes what can be written now.
+    pub fn write(&mut self, id: u64) {
+        if self.held.get(&id).is_some_and(Held::has_output) {
+            self.with(id, |lines, held| {
+                lines.written.extend(held.write().map(|done| (id, done)));
+            });
+        }
+    }
+
+    /// What came of writing: the lines on which all is written, or why one is over.
+    pub fn written(&mut self) -> Vec<(u64, io::Result<()>)> {
+        std::mem::take(&mut self.written)
+    }
+
+    /// Closes a line.
+    pub fn close(&mut self, id: u64) {
+        self.held.remove(&id);
+    }
+
+    /// All lines are new ones from now on.
+    pub fn begin_anew(&mut self) {
+        (self.held, self.expires) = (BTreeMap::new(), i64::MAX);
+        self.unsure.clear();
+        self.again.clear();
+        self.caller = Caller::new(self.wake.clone());
+    }
+
+    // ---- Certificates, and what a fault of the memory may change
+
     /// The lines that are to be left now, and why: one of whose ends has a certificate that has
     /// expired, or is of no authority any more. Of these some are looked at in a turn.
-    pub fn left(&mut self, machine: &Machine<Line>) -> Vec<(u64, String)> {
-        let (peers, time) = (&machine.peers, unix_now());
-        let mut left = Vec::new();
+    pub fn left(&mut self) -> Vec<(u64, String)> {
+        let (time, mut left) = (unix_now(), Vec::new());
         if self.expires <= time {
-            let over = peers.lines().filter(|(_, line, _)| line.expires() <= time);
+            let over = self.held.iter().filter(|(_, it)| it.line.expires() <= time);
             let why = "a certificate, of it or of this agent, has expired";
-            left.extend(over.map(|(id, ..)| (id, why.into())));
+            left.extend(over.map(|(id, _)| (*id, why.into())));
             // (of the others it is known at the next look)
             self.expires = i64::MAX;
         }
         let later = self.unsure.len().saturating_sub(LOOKS);
         for id in self.unsure.split_off(later) {
-            let holds = peers.line(id).map_or(Ok(()), |(line, _)| line.holds(&self.maker));
+            let holds = self.held.get(&id).map_or(Ok(()), |it| it.line.holds(&self.maker));
             left.extend(holds.err().map(|why| (id, why)));
         }
         left
     }
 
-    /// Has all lines looked at again: those that are gone are forgotten.
-    pub fn look_again(&mut self, machine: &Machine<Line>) {
+    /// Looks at all lines again: those that the machine does not know are closed, and what it has
+    /// to know of the others comes out.
+    pub fn look_again(&mut self, machine: &Machine) -> Vec<Input<'static>> {
+        // (into a spoiled one nothing could be read)
+        if (self.space.len(), self.space.as_ptr() as usize) != (READ_BYTES, !self.not_at) {
+            self.make_space();
+        }
         self.expires = i64::MAX;
-        self.lines.retain(|id, _| machine.peers.line(*id).is_some());
+        self.held.retain(|id, _| machine.peers.has_line(*id));
+        let mut inputs = Vec::new();
+        for id in machine.peers.lines() {
+            match self.held.get(&id) {
+                None => inputs.push(Input::Over(id, "it is not there")),
+                Some(held) if !held.has_output() && machine.peers.sends(id) => {
+                    inputs.push(Input::Sent(id));
+                }
+                Some(_) => (),
+            }
+        }
+        for id in self.held.keys().copied().collect::<Vec<_>>() {
+            self.with(id, |_, _| ());
+        }
+        inputs
     }
 
-    /// All lines are new ones from now on.
-    pub fn begin_anew(&mut self) {
-        (self.lines, self.expires) = (BTreeMap::new(), i64::MAX);
-        self.unsure.clear();
-        self.caller = Caller::new(self.wake.clone());
+    /// What cannot be, if something cannot.
+    pub fn fault(&self) -> Option<&'static str> {
+        (self.made >= NUMBERS).then_some("it had too many connections")
     }
 
     /// Makes lines by another configuration from now on; those that there are may not hold by it.
-    pub fn reload(&mut self, maker: Maker, machine: &Machine<Line>) {
+    pub fn reload(&mut self, maker: Maker) {
         self.maker = maker.with_handshakes(&self.handshakes).with_own(self.maker.own());
-        self.unsure = machine.peers.lines().map(|(id, ..)| id).collect();
+        self.unsure = self.held.keys().copied().collect();
     }
 
     /// These descriptors are made anew: the system tells nothing of the old ones any more.
@@ -196,17 +358,37 @@ impl Lines {
         self.others.retain(|it| !old.contains(&it.0));
     }
 
+    // ---- Calls
+
     /// Makes a connection: what came of it, if that is known already.
-    pub fn call(&self, call: Call<Address>) -> Option<Input<'static, Line>> {
-        let (call, line) = self.caller.call(call, &self.maker)?;
-        Some(Input::Called(call, line))
+    pub fn call(&mut self, call: Call<Address>) -> Option<Input<'static>> {
+        let called = self.caller.call(call, &self.maker)?;
+        Some(self.led_to(called))
     }
 
-    /// What came of connections that were to be made; and whether none is under way besides.
-    pub fn called(&self) -> (Vec<Input<'static, Line>>, bool) {
-        let is_idle = !self.caller.looks_up();
-        let found = std::iter::from_fn(|| self.caller.found(&self.maker));
-        (found.map(|(call, line)| Input::Called(call, line)).collect(), is_idle)
+    /// What came of connections whose names were looked up.
+    pub fn called(&mut self) -> Vec<Input<'static>> {
+        let found: Vec<_> = std::iter::from_fn(|| self.caller.found(&self.maker)).collect();
+        found.into_iter().map(|it| self.led_to(it)).collect()
+    }
+
+    fn led_to(&mut self, (call, line): (Call<Address>, io::Result<Line>)) -> Input<'static> {
+        let made = line.map(|line| self.add(line)).map_err(|why| why.to_string());
+        Input::Called(call, made)
+    }
+
+    /// Whether a name is looked up for a connection, or was, and nobody took up what came of it.
+    pub fn looks_up(&self) -> bool {
+        self.caller.looks_up()
+    }
+}
+
+/// Until when something is waited for: until it can be written, or read.
+fn written(is: bool) -> Interest {
+    if is {
+        Interest::WRITABLE
+    } else {
+        Interest::READABLE
     }
 }
 
@@ -219,15 +401,53 @@ fn watch(registry: &Registry, fd: RawFd, token: Token, interest: Interest) -> io
 
 /// How long another machine may be silent before it counts as gone.
 pub fn silence(config: &Config) -> Duration {
-    (config.peers.ack_timeout * 5).max(Duration::from_secs(5))
+    (config.agent.peers.ack_timeout * 5).max(Duration::from_secs(5))
 }
 
 /// What makes lines by a configuration.
 pub fn maker(config: &Config) -> Result<Maker, ErrorAt> {
-    let (name, tls) = (&config.peers.name, config.tls.as_ref());
+    let (name, tls) = (&config.agent.peers.name, config.tls.as_ref());
     let maker = Maker::new(tls, silence(config)).map_err(at("tls"))?;
     if maker.names().is_some_and(|all| !all.contains(name)) {
         crate::fact!("certificate", "no DNS name of its SAN is `{name}`: others refuse this agent");
     }
     Ok(maker)
+}
+
+#[cfg(test)]
+mod tests {
+    use super::*;
+    use rignolda_machine::net::Whom;
+    use std::os::unix::net::UnixListener;
+
+    /// After a fault of the memory; else they are counted from 1.
+    #[test]
+    fn no_line_has_a_number_that_another_one_has_or_that_is_none() {
+        let config =
+            Config::parse("name = \"a\"\nlisten = [\"127.0.0.1:7464\"]\nparents = [\"b\"]");
+        let config = config.unwrap();
+        let path = std::env::temp_dir().join(format!("rignoldad-numbers-{}", std::process::id()));
+        let _ = std::fs::remove_file(&path);
+        let listener = UnixListener::bind(&path).unwrap();
+        let address = Address::Unix(path.display().to_string());
+        let mut lines = Lines::new(&config, &Own::default()).unwrap();
+        let add = |lines: &mut Lines| {
+            let call = Call { whom: Whom::Parent, address: address.clone(), failed: 0 };
+            assert!(matches!(lines.call(call), Some(Input::Called(_, Ok(_)))));
+        };
+        (0..9).for_each(|_| add(&mut lines));
+        for spoiled in [0, 1, 2, 8] {
+            lines.made = spoiled;
+            let (before, last) = (lines.held.len(), lines.held.keys().last().copied());
+            add(&mut lines);
+            assert_eq!(lines.held.len(), before + 1, "one took the place of another");
+            assert!(lines.held.keys().last().copied() > last && lines.fault().is_none());
+        }
+        for bit in [48, 62, 63] {
+            lines.made |= 1 << bit;
+            assert!(lines.fault().is_some(), "{bit}");
+        }
+        drop(listener);
+        std::fs::remove_file(path).unwrap();
+    }
 }

@@ -3,27 +3,27 @@ use crate::answers::What;
 use crate::asked;
 use crate::control::{self, Asked, Shown};
 use crate::fact;
-use crate::machine::{Act, Input, Now};
 use crate::metrics;
 use crate::page;
-use crate::serve::Ticket;
 use crate::shell::Shell;
+use rignolda_machine::machine::{Act, Input, Now};
+use rignolda_machine::Ticket;
+use rignolda_machine::Time;
 use rignoldactl::{Request, Response, Status};
 use std::collections::HashSet;
 use std::os::unix::io::RawFd;
 use std::sync::Arc;
-use std::time::Instant;
 
 impl Shell {
     /// What is known of it, its process with it; at the root with what is known of the whole tree.
-    fn status(&self, now: Instant) -> Status {
+    fn status(&self, now: Time) -> Status {
         let reload_failed = self.reload_failed.clone();
         Status { reload_failed, ..self.machine.full_status(now) }
     }
 
     /// What whoever watches is shown: what took long is shown again for a while.
-    fn shown(&mut self, what: What, now: Instant) -> Arc<[u8]> {
-        let (changed, begun) = (self.machine.came.table.changed, Instant::now());
+    fn shown(&mut self, what: What, now: Time) -> Arc<[u8]> {
+        let (changed, begun) = (self.machine.came.table.changed, crate::system::time());
         if let Some(again) = self.answers.again(what, changed, now) {
             return again;
         }
@@ -38,7 +38,7 @@ impl Shell {
             What::Tree => control::answer(&Response::Tree(self.labels.list(tree()))),
         };
         let made = made.into();
-        self.answers.keep(what, changed, &made, begun.elapsed(), now);
+        self.answers.keep(what, changed, &made, crate::system::time() - begun, now);
         made
     }
 
@@ -70,7 +70,7 @@ impl Shell {
     }
 
     /// Answers an operator who watches.
-    fn show(&mut self, what: What, ticket: Ticket, now: Instant) {
+    fn show(&mut self, what: What, ticket: Ticket, now: Time) {
         let shown = self.shown(what, now);
         self.sockets.servers.iter_mut().for_each(|it| it.answer(ticket, &shown));
     }

@@ -1,5 +1,5 @@
 //! The tree below an agent as a page for people. It has no script, and nothing on it is fetched.
-use rignolda::settings::is_newer;
+use rignolda_machine::settings::is_newer;
 use rignoldactl::ask::age;
 use rignoldactl::{dotted, unix_now, Compared, Seen};
 use std::collections::BTreeMap;

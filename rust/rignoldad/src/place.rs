@@ -1,11 +1,12 @@
 //! A folder that is held open: what is done in it is done in one and the same folder, whatever
 //! comes to its place meanwhile.
+use rignolda_machine::apply::Identity;
 use std::fs::{self, File, Metadata, OpenOptions};
 use std::io;
 use std::os::unix::fs::{MetadataExt, OpenOptionsExt};
 use std::os::unix::io::AsRawFd;
 use std::path::{Path, PathBuf};
-use std::time::SystemTime;
+use std::time::UNIX_EPOCH;
 
 /// O_PATH of Linux: it names the folder, and needs no right to read it. With O_NOFOLLOW, no link.
 const NAMES_IT: i32 = 0o10_000_000;
@@ -16,23 +17,10 @@ const MOUNTS: &str = "/proc/self/mountinfo";
 
 /// What tells a folder from another one at its place; also from one that was made after it was
 /// removed, and has its number.
-#[derive(Clone, Copy, Debug, PartialEq, Eq)]
-pub struct Identity {
-    device: u64,
-    number: u64,
-    made: Option<SystemTime>,
-}
-
-impl Identity {
-    /// That of a folder that is nowhere but in a trial.
-    pub fn of_number(number: u64) -> Identity {
-        Identity { device: 0, number, made: None }
-    }
-
-    /// That of what this says.
-    fn of(it: &Metadata) -> Identity {
-        Identity { device: it.dev(), number: it.ino(), made: it.created().ok() }
-    }
+fn identity(it: &Metadata) -> Identity {
+    let made = it.created().ok().and_then(|it| it.duration_since(UNIX_EPOCH).ok());
+    let made = made.map_or(u128::MAX, |it| it.as_nanos());
+    Identity([it.dev(), it.ino(), made as u64, (made >> 64) as u64])
 }
 
 /// A folder that is held open.
@@ -73,7 +61,7 @@ impl Place {
         let at = PathBuf::from(format!("/proc/self/fd/{}", open.as_raw_fd()));
         // (on a system without /proc, what comes to its place is seen at the next body alone)
         let at = if at.is_dir() { at } else { path.into() };
-        Ok(Place { _open: open, at, is: Identity::of(&is) })
+        Ok(Place { _open: open, at, is: identity(&is) })
     }
 
     /// A path that leads to it as long as it is open, whatever is at its place.

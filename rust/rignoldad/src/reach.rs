@@ -7,8 +7,9 @@
 //! not count, nor that it has no room: nobody outside can end an agent by that. But if anybody is
 //! answered without TLS, or without a certificate, the agent ends at once.
 use crate::fact;
-use rignolda::net::parents::NONE;
-use rignolda::net::{Address, Parent, Way};
+use rignolda_machine::net::parents::NONE;
+use rignolda_machine::net::{Address, Parent, Way};
+use rignolda_machine::Time;
 use rignolda_tls::{ask, By, Looked, Looker, Maker, Own, Tls};
 use rignoldactl::{Request, Response};
 use std::io::Write;
@@ -16,7 +17,7 @@ use std::path::PathBuf;
 use std::sync::atomic::{AtomicBool, AtomicU64, Ordering};
 use std::sync::{mpsc, Arc, Mutex, MutexGuard, PoisonError};
 use std::thread;
-use std::time::{Duration, Instant};
+use std::time::Duration;
 
 /// How often it looks; if it listens nowhere, since then less can be wrong, and has a parent; and
 /// how soon again after it failed.
@@ -61,16 +62,16 @@ enum Round {
 struct Judge {
     /// In how many looks in turn nothing was reached, and since when.
     fails: u32,
-    since: Instant,
+    since: Time,
 }
 
 impl Judge {
-    fn new(now: Instant) -> Judge {
+    fn new(now: Time) -> Judge {
         Judge { fails: 0, since: now }
     }
 
     /// Whether it can be reached, as far as is known; or why it is to end.
-    fn hears(&mut self, round: &Round, now: Instant) -> Result<bool, String> {
+    fn hears(&mut self, round: &Round, now: Time) -> Result<bool, String> {
         match round {
             Round::Open(why) => return Err(why.clone()),
             Round::Failed(why) => {
@@ -101,7 +102,7 @@ struct Shared {
     is_sound: AtomicBool,
     /// Whether it has no parent, and needs one.
     is_alone: AtomicBool,
-    begun: Instant,
+    begun: Time,
     looked: AtomicU64,
     is_unwelcome: AtomicBool,
 }
@@ -110,9 +111,9 @@ struct Shared {
 pub struct Reach {
     shared: Arc<Shared>,
     /// Since when it has no parent, and how often parents had answered then.
-    alone: Option<(Instant, u64)>,
+    alone: Option<(Time, u64)>,
     /// When it looked for one last, what that found, and how often in turn.
-    sought: Option<(Instant, mpsc::Receiver<bool>)>,
+    sought: Option<(Time, mpsc::Receiver<bool>)>,
     finds: u32,
 }
 
@@ -134,7 +135,7 @@ impl Reach {
             turned_away: AtomicU64::new(0),
             is_sound: AtomicBool::new(true),
             is_alone: AtomicBool::new(false),
-            begun: Instant::now(),
+            begun: crate::system::time(),
             looked: AtomicU64::new(0),
             is_unwelcome: AtomicBool::new(false),
         });
@@ -166,9 +167,9 @@ impl Reach {
     }
 
     /// Whether it can be reached, as far as is known.
-    pub fn is_sound(&self, now: Instant) -> bool {
+    pub fn is_sound(&self, now: Time) -> bool {
         let looked = Duration::from_millis(self.shared.looked.load(Ordering::Relaxed));
-        let is_lost = now.saturating_duration_since(self.shared.begun) > looked + LOST;
+        let is_lost = now.since(self.shared.begun) > looked + LOST;
         self.shared.is_sound.load(Ordering::Relaxed) && !is_lost
     }
 
@@ -185,7 +186,7 @@ impl Reach {
         (has_parent, answers): (bool, u64),
         tls: Option<&Tls>,
         parents: &[Parent<Address>],
-        now: Instant,
+        now: Time,
     ) -> bool {
         self.shared.is_alone.store(!has_parent, Ordering::Relaxed);
         if has_parent || self.alone.is_none_or(|(since, before)| before != answers || since > now) {
@@ -205,7 +206,7 @@ impl Reach {
     }
 
     /// Looks at the parents, in a thread that nobody waits for.
-    fn seek(&mut self, tls: Option<&Tls>, parents: &[Parent<Address>], now: Instant) {
+    fn seek(&mut self, tls: Option<&Tls>, parents: &[Parent<Address>], now: Time) {
         let (to, found) = mpsc::channel();
         let (name, tls, parents) = (self.shared.name.clone(), tls.cloned(), parents.to_vec());
         let seek = move || {
@@ -242,12 +243,12 @@ impl Shared {
 
     /// The thread that looks. It goes on as long as the process does.
     fn work(&self) {
-        let (mut judge, mut count) = (Judge::new(Instant::now()), 0);
+        let (mut judge, mut count) = (Judge::new(crate::system::time()), 0);
         loop {
             let was_sound = self.is_sound.load(Ordering::Relaxed);
             let round = self.round(if was_sound { count } else { 0 });
             count += 1;
-            let now = Instant::now();
+            let now = crate::system::time();
             let is_sound = judge.hears(&round, now).unwrap_or_else(|why| end(&why));
             self.is_sound.store(is_sound, Ordering::Relaxed);
             match &round {
@@ -255,7 +256,7 @@ impl Shared {
                 Round::Reached(_) if !was_sound => fact!("reach", "it can be reached again"),
                 _ => (),
             }
-            let millis = now.saturating_duration_since(self.begun).as_millis();
+            let millis = now.since(self.begun).as_millis();
             self.looked.store(millis as u64, Ordering::Relaxed);
             if matches!(round, Round::Reached(false) | Round::Failed(_)) {
                 self.is_unwelcome.store(true, Ordering::Relaxed);
@@ -390,7 +391,7 @@ fn end(why: &str) -> ! {
 #[cfg(test)]
 mod tests {
     use super::*;
-    use rignolda::net::wire::{self, Expect, Hello, Message};
+    use rignolda_machine::net::wire::{self, Expect, Hello, Message};
     use std::io::Read;
     use std::net::TcpListener;
     use std::sync::atomic::AtomicU32;
@@ -401,7 +402,7 @@ mod tests {
 
     #[test]
     fn it_ends_after_a_minute_in_which_nothing_was_reached_and_at_once_where_anybody_is_answered() {
-        let begun = Instant::now();
+        let begun = crate::system::time();
         let at = |seconds| begun + Duration::from_secs(seconds);
         // what each look comes to, when, and whether it can be reached then, or ends
         let rows: [&[(Round, u64, Option<bool>)]; 4] = [
@@ -483,7 +484,7 @@ mod tests {
     fn ends(at: &(Address, Arc<AtomicU32>), name: &str, answers: fn(u64) -> u64) -> Option<u64> {
         let maker = Maker::new(None, WITHIN).unwrap();
         let reach = Reach::new("leaf", (None, &maker), None, Vec::new(), Own::default());
-        let (mut reach, begun) = (reach.unwrap(), Instant::now());
+        let (mut reach, begun) = (reach.unwrap(), crate::system::time());
         let parents =
             [Parent { name: Some(name.into()), address: Some(at.0.clone()), price: None }];
         (0..600).step_by(2).find(|seconds| {

@@ -6,17 +6,20 @@
 //! was the root, and has found another one: it is an agent until somebody says more. Else it is an
 //! agent as any other one. `.applied` has the digest of the last whole table that it applied, so
 //! that nothing less is ever promoted. `.published` has the number up to which the root may have
-//! published: what its children have above it at a start, [another root](crate::newer) published.
-use crate::apply::{beside, GROUPS};
-use crate::batch::{write_folder, Batch, Kept};
+//! published: what its children have above it at a start, [another
+//! root](rignolda_machine::standby::says) published.
+use crate::batch::{write_folder, Batch};
 use crate::config::Config;
 use crate::digest::Digest;
-use crate::facts::Fact;
+use crate::files::beside;
 use crate::floor::read_floor;
 use crate::kept::Places;
-use crate::refused::Refused;
-use rignolda::net::Worker;
-use rignolda::settings::{differences, is_newer, parts, published_by};
+use rignolda_machine::apply::GROUPS;
+use rignolda_machine::root::Kept;
+use rignolda_machine::settings::{differences, is_newer, parts, published_by};
+use rignolda_machine::standby::{Begun, Done, Job};
+use rignolda_machine::{Fact, Refused};
+use rignolda_redis::Worker;
 use rignoldactl::source::{read_folder, read_folder_by, read_plain, Found, AS_IT_IS};
 use rignoldactl::{at, is_sha256, ErrorAt, Standby as Role};
 use std::collections::BTreeMap;
@@ -35,51 +38,11 @@ const EMPTY: &str = ".empty";
 /// How many files are written at once.
 const FILES: usize = 64;
 
-/// What is to be done in the folders. One comes after the other.
-#[derive(Debug, PartialEq, Eq)]
-pub enum Job {
-    /// To say that it is the root of this rank, after a copy of what it applied, where one is
-    /// wanted, with this digest, or the one that is noted.
-    Promote { rank: u64, copies: bool, digest: Option<String> },
-    /// To say that it is none, and does not stand by.
-    Demote,
-    /// To say that it stands by.
-    StandBy,
-    /// To note the digest of what it applied.
-    Note(String),
-    /// To note up to which number it may publish.
-    Reserve(u64),
-}
-
-/// What was done.
-pub enum Done {
-    /// And what it has applied.
-    Promoted(u64, Result<BTreeMap<String, Vec<u8>>, Refused>),
-    Demoted(Result<(), ErrorAt>),
-    StandsBy(Result<(), ErrorAt>),
-    Noted,
-    Reserved(u64),
-}
-
 /// The root's folder, and that of what is applied.
 #[derive(Clone, Debug, PartialEq, Eq)]
 pub struct Folders {
     pub root: PathBuf,
     pub applied: PathBuf,
-}
-
-/// What they say at a start.
-#[derive(Debug)]
-pub struct Begun {
-    pub folders: Folders,
-    pub role: Role,
-    pub rank: u64,
-    /// The digest of the last whole table that was applied, if there is one.
-    pub noted: Option<String>,
-    /// Up to which number it may have published in earlier lives, if that is known.
-    pub may: Option<u64>,
-    /// What is wrong with the file that says that it is the root.
-    pub fact: Option<Fact>,
 }
 
 /// Whether a file belongs to the user of the process, or root, and nobody else may write to it.
@@ -95,9 +58,9 @@ fn read(folder: &Path) -> Result<Found, ErrorAt> {
 impl Folders {
     /// Those of an agent that may be promoted.
     pub fn of(config: &Config) -> Option<Folders> {
-        let root = config.root.as_ref().filter(|root| root.standby)?;
-        let apply = config.apply.as_ref()?;
-        Some(Folders { root: root.settings.clone(), applied: apply.folder.clone() })
+        let root = config.agent.root.as_ref().filter(|root| root.standby)?;
+        let apply = config.agent.apply.as_ref()?;
+        Some(Folders { root: PathBuf::from(&root.settings), applied: PathBuf::from(&apply.folder) })
     }
 
     /// A thread that does what is to be done there. It calls `wake` after each job.
@@ -109,7 +72,7 @@ impl Folders {
     pub fn begun(&self) -> Begun {
         let (role, rank, fact) = self.role();
         let (noted, may) = (self.noted(), self.may_have_published(rank));
-        Begun { folders: self.clone(), role, rank, noted, may, fact }
+        Begun { role, rank, noted, may, fact }
     }
 
     /// What it is at a start, and its rank; and what is wrong with that. Whoever writes to the
@@ -118,13 +81,17 @@ impl Folders {
     fn role(&self) -> (Role, u64, Option<Fact>) {
         let is_there = |name: &str| fs::symlink_metadata(self.root.join(name)).ok();
         let (root, path) = (is_there(ROOT), self.root.join(ROOT));
+        let fact = |words: &str| Some(("root", format!("{} {words}", path.display())));
+        let others = "does not belong to the user of the agent alone: left out";
         match root {
             _ if is_there(STANDS_BY).is_some() => (Role::StandsBy, 0, None),
             None => (Role::Below, 0, None),
-            Some(it) if !it.is_file() => (Role::StandsBy, 0, Some(Fact::IsNoFile(path))),
-            Some(it) if !is_own(&it) => (Role::Below, 0, Some(Fact::MayBeOfOthers(path))),
+            Some(it) if !it.is_file() => {
+                (Role::StandsBy, 0, fact("is no plain file: it stands by"))
+            }
+            Some(it) if !is_own(&it) => (Role::Below, 0, fact(others)),
             Some(_) => match read_floor(&path) {
-                0 => (Role::Looks, 0, Some(Fact::HasNoRank(path))),
+                0 => (Role::Looks, 0, fact("has no number: any other root goes on")),
                 rank => (Role::Looks, rank, None),
             },
         }
@@ -148,8 +115,8 @@ impl Folders {
             Job::Promote { rank, copies, digest } => {
                 Done::Promoted(rank, self.promote(rank, copies, digest))
             }
-            Job::Demote => Done::Demoted(self.demote()),
-            Job::StandBy => Done::StandsBy(self.stand_by()),
+            Job::Demote => Done::Demoted(self.demote().map_err(|e| e.to_string())),
+            Job::StandBy => Done::StandsBy(self.stand_by().map_err(|e| e.to_string())),
             Job::Reserve(number) => {
                 // (where that fails, nothing at all is known at the next start)
                 if self.reserve(number).is_err() {

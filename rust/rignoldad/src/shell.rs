@@ -3,24 +3,25 @@
 //! look-up of names and handshakes of TLS, and never waits for anything else than for all of them
 //! at once.
 use crate::answers::Answers;
-use crate::came::Trace;
 use crate::config::{plain, Config, Fault};
 use crate::fact;
 use crate::journal;
 use crate::label::Labels;
 use crate::lines::{self, Fired, Lines};
-use crate::machine::{Act, Input, Machine, Now};
 use crate::reach::Reach;
 use crate::renews::{self, Renews};
 use crate::sockets::Sockets;
 use crate::system::{self, notify, Signals};
 use crate::threads::Threads;
-use rignolda_tls::{Line, Own};
+use rignolda_machine::came::Trace;
+use rignolda_machine::machine::{Act, Input, Machine, Now};
+use rignolda_machine::Time;
+use rignolda_tls::Own;
 use rignoldactl::{at, ErrorAt};
 use std::io::{self, Read};
 use std::os::unix::io::AsRawFd;
 use std::path::{Path, PathBuf};
-use std::time::{Duration, Instant};
+use std::time::Duration;
 
 /// How often systemd hears of an agent at least, where it asked for nothing.
 const MINUTE: Duration = Duration::from_secs(60);
@@ -28,7 +29,8 @@ const MINUTE: Duration = Duration::from_secs(60);
 /// An agent, and what it has of the system.
 pub struct Shell {
     path: PathBuf,
-    pub(crate) machine: Machine<Line>,
+    config: Config,
+    pub(crate) machine: Machine,
     /// What is to be done.
     pub(crate) acts: Vec<Act>,
     pub(crate) lines: Lines,
@@ -52,7 +54,7 @@ pub struct Shell {
 pub fn run(path: &Path, config: Config) -> Result<(), ErrorAt> {
     let signals = Signals::new().map_err(at("signals"))?;
     let mut shell = Shell::new(path, config)?;
-    let (watchdog, mut watched) = (system::watchdog(), Instant::now());
+    let (watchdog, mut watched) = (system::watchdog(), crate::system::time());
     // (OpenSSL reads its configuration when it is first used: better now than in a round)
     openssl::sha::sha256(&[]);
     notify("READY=1");
@@ -101,15 +103,16 @@ impl Shell {
         let (threads, found) = Threads::new(&config, lines.wake())?;
         let sockets = Sockets::new(&config, now.at)?;
         let by = (config.tls.as_ref(), &lines.maker);
-        let (name, control) = (&config.peers.name, config.control.clone());
+        let (name, control) = (&config.agent.peers.name, config.control.clone());
         let reach = Reach::new(name, by, control, sockets.places(&config), own);
         let (mut acts, host) = (Vec::new(), system::host().map_err(at("/dev/urandom"))?);
-        let mut machine = Machine::new(config, found, host, now, &mut acts);
+        let mut machine = Machine::new(config.agent.clone(), found, host, now, &mut acts);
         let traces = std::env::var_os("RIGNOLDA_TRACE").is_some();
         machine.came.traces = traces.then_some(writes as Trace);
         let drawn = machine.peers.life();
         let mut shell = Shell {
             path: path.into(),
+            config,
             machine,
             acts,
             lines,
@@ -133,20 +136,27 @@ impl Shell {
 
     /// Waits until something can be done.
     fn wait(&mut self, signals: &Signals, most: Duration) -> io::Result<Fired> {
-        let now = Instant::now();
+        let now = crate::system::time();
         let reads = [signals.reload.as_raw_fd(), signals.end.as_raw_fd()].into_iter();
         let reads = reads.chain(self.threads.descriptor(&self.machine)).map(|fd| (fd, 0, false));
         let others = reads.chain(self.sockets.descriptors(now)).collect();
         let until = self.sockets.deadline(now).into_iter().chain([self.machine.until()]).min();
-        self.lines.wait(&mut self.machine, others, until.unwrap_or(now), most)
+        let peers = &self.machine.peers;
+        self.lines.wait(|it| peers.knows(it), others, until.unwrap_or(now), most)
     }
 
     /// Does all that can be done now. Mostly there is something to read, and nothing else.
     fn turn(&mut self, fired: &Fired, now: Now) -> Result<(), ErrorAt> {
-        for line in &fired.ended {
-            self.step(now, Input::Ends(*line));
+        let peers = &self.machine.peers;
+        for id in self.lines.in_turn(&fired.ready, |id| peers.is_greeting(id)) {
+            let (machine, acts) = (&mut self.machine, &mut self.acts);
+            self.lines.read(id, |input| {
+                machine.step(now, input, acts);
+                machine.peers.has_line(id)
+            });
+            self.lines.write(id);
+            self.act(now)?;
         }
-        self.step(now, Input::Ready(&fired.ready));
         if fired.is_due {
             for (store, got) in self.threads.stores.done() {
                 self.machine.step(now, Input::Turned(store, got), &mut self.acts);
@@ -155,17 +165,13 @@ impl Shell {
                 self.step(now, done);
             }
             for line in self.sockets.accept(&fired.others, &self.lines.maker, now.at) {
-                self.step(now, Input::Accepted(line));
+                let (id, end) = self.lines.add(line);
+                self.step(now, Input::Accepted(id, end));
             }
-            for (line, why) in self.lines.left(&self.machine) {
+            for (line, why) in self.lines.left() {
                 self.step(now, Input::Leave(line, &why));
             }
-            let (called, is_idle) = self.lines.called();
-            if is_idle {
-                // (what was lost by a fault is under way no more)
-                self.machine.calls = called.len() as u32;
-            }
-            for called in called {
+            for called in self.lines.called() {
                 self.step(now, called);
             }
             let changes = self.threads.descriptor(&self.machine);
@@ -178,15 +184,24 @@ impl Shell {
         self.act(now)
     }
 
-    pub(crate) fn step(&mut self, now: Now, input: Input<'_, Line>) {
+    pub(crate) fn step(&mut self, now: Now, input: Input<'_>) {
         self.machine.step(now, input, &mut self.acts);
     }
 
     /// Does what is to be done, and what follows from that.
     fn act(&mut self, now: Now) -> Result<(), ErrorAt> {
-        while !self.acts.is_empty() {
+        loop {
             for act in std::mem::take(&mut self.acts) {
                 self.does(act, now)?;
+            }
+            for (id, done) in self.lines.written() {
+                match done {
+                    Ok(()) => self.step(now, Input::Sent(id)),
+                    Err(why) => self.step(now, Input::Over(id, &why.to_string())),
+                }
+            }
+            if self.acts.is_empty() {
+                break;
             }
         }
         // (what was asked for until then is under way now)
@@ -198,6 +213,8 @@ impl Shell {
 
     fn does(&mut self, act: Act, now: Now) -> Result<(), ErrorAt> {
         match act {
+            Act::Send(id, chunk) => self.lines.send(id, chunk),
+            Act::Close(id) => self.lines.close(id),
             Act::Fact(fact, words) => journal::lines(fact, [words]),
             Act::Answer(ticket, response) => {
                 let response = self.labels.response(response);
@@ -211,7 +228,7 @@ impl Shell {
             Act::Turn(store, turn) => {
                 let name = self.machine.peers.name();
                 if let Err(why) = self.threads.stores.begin(&store, turn, name) {
-                    self.step(now, Input::Turned(&store, Err(why)));
+                    self.step(now, Input::Turned(&store, Err(why.to_string())));
                 }
             }
             Act::Check => self.checks = true,
@@ -221,7 +238,7 @@ impl Shell {
                 if matches!(act, Act::Anew) {
                     self.lines.begin_anew();
                 }
-                self.threads.begin(act, &self.machine.config)?;
+                self.threads.begin(act, &self.config)?;
             }
         }
         Ok(())
@@ -234,17 +251,26 @@ impl Shell {
         self.sockets.keep(at);
         self.renew(at);
         self.says_when_it_expires();
-        self.lines.look_again(&self.machine);
-        let Machine { config, peers, .. } = &self.machine;
-        let has_parent = config.peers.is_root() || peers.parent().is_some();
-        let (parents, answers) = (&config.peers.parents, peers.looks_answered());
+        if !self.lines.looks_up() {
+            // (what was lost by a fault is under way no more)
+            self.machine.calls = 0;
+        }
+        for input in self.lines.look_again(&self.machine) {
+            self.step(now, input);
+        }
+        let (config, peers) = (&self.config, &self.machine.peers);
+        let has_parent = peers.setup().is_root() || peers.parent().is_some();
+        let (parents, answers) = (&peers.setup().parents, peers.looks_answered());
         let tls = config.tls.as_ref();
         let misses = self.reach.misses((has_parent, answers), tls, parents, at);
-        let is_same = lines::silence(config) == self.lines.maker.timeout();
+        let decides = &self.machine.config;
+        let is_same = lines::silence(config) == self.lines.maker.timeout()
+            && (&config.agent.root, &config.agent.apply) == (&decides.root, &decides.apply);
         let faults = [
             (!is_same).then_some("its configuration is another one"),
             (!self.sockets.listen(config)).then_some("it does not listen where it is to"),
             self.lines.maker.fault(tls.is_some()),
+            self.lines.fault(),
             misses.then_some("it has no parent, and one answers whoever comes anew"),
             self.threads.fault(&self.machine),
         ];
@@ -259,9 +285,8 @@ impl Shell {
 
     /// Makes anew what was made once, and is used only if somebody connects. Links go on, and what
     /// cannot be made now is as before.
-    fn renew(&mut self, now: Instant) {
-        let (fails_since, tls) =
-            (self.machine.peers.fails_since(), self.machine.config.tls.as_ref());
+    fn renew(&mut self, now: Time) {
+        let (fails_since, tls) = (self.machine.peers.fails_since(), self.config.tls.as_ref());
         if !self.renews.are_due(fails_since, self.reach.is_unwelcome(), now) {
             return;
         }
@@ -269,7 +294,7 @@ impl Shell {
             self.lines.maker = maker;
             self.reach.reload(tls, &self.lines.maker);
         }
-        self.sockets.begin_anew(&self.machine.config, &mut self.lines);
+        self.sockets.begin_anew(&self.config, &mut self.lines);
     }
 
     /// Reads the configuration again, and takes what may change while the agent runs. It says what
@@ -277,20 +302,17 @@ impl Shell {
     fn reload(&mut self, now: Now) -> Result<(), String> {
         let nothing = |why: String| format!("nothing changes: {}", plain(&why));
         let whys = |faults: Vec<Fault>| faults.iter().map(Fault::to_string).collect::<Vec<_>>();
-        let mut new =
-            Config::read(&self.path).map_err(|faults| nothing(whys(faults).join("; ")))?;
-        if let Some(why) = self.machine.config.refuses(&new) {
+        let new = Config::read(&self.path).map_err(|faults| nothing(whys(faults).join("; ")))?;
+        if let Some(why) = self.config.refuses(&new) {
             return Err(nothing(why.into()));
         }
-        new.peers.rank = self.machine.config.peers.rank;
         let maker = lines::maker(&new).map_err(|why| nothing(why.to_string()))?;
-        let mut config = self.machine.config.clone();
-        let late = config.take(new).join(", ");
+        let late = self.config.take(new).join(", ");
         // (first it is known what is to be so, and then it is)
-        self.reach.reload(config.tls.as_ref(), &maker);
-        self.lines.reload(maker, &self.machine);
+        self.reach.reload(self.config.tls.as_ref(), &maker);
+        self.lines.reload(maker);
         self.says_when_it_expires();
-        self.step(now, Input::Reload(Box::new(config)));
+        self.step(now, Input::Reload(Box::new(self.config.agent.clone())));
         let late = Some(late).filter(|late| !late.is_empty());
         late.map_or(Ok(()), |late| Err(format!("counts from a start alone: {late}")))
     }

@@ -3,14 +3,15 @@ use crate::config::{Address, Config};
 use crate::control::{self, Server};
 use crate::fact;
 use crate::lines::{Lines, Other};
-use crate::serve::Ticket;
+use rignolda_machine::Ticket;
+use rignolda_machine::Time;
 use rignolda_tls::{Line, Listener, Maker};
 use rignoldactl::{at, ErrorAt, Response};
 use std::collections::HashSet;
 use std::io::ErrorKind;
 use std::os::unix::io::{AsRawFd, RawFd};
 use std::path::Path;
-use std::time::{Duration, Instant};
+use std::time::Duration;
 
 /// How many connections are accepted in one turn.
 const ACCEPTS: usize = 64;
@@ -21,7 +22,7 @@ pub struct Sockets {
     listeners: Vec<Listener>,
     pub servers: Vec<Server>,
     /// Until when nobody is accepted, since no descriptor was left, and how often that was so.
-    full_until: Instant,
+    full_until: Time,
     turned_away: u64,
     /// Which sockets are not at their places and cannot be made anew, and why.
     lost: String,
@@ -29,7 +30,7 @@ pub struct Sockets {
 
 impl Sockets {
     /// Listens where this says.
-    pub fn new(config: &Config, now: Instant) -> Result<Sockets, ErrorAt> {
+    pub fn new(config: &Config, now: Time) -> Result<Sockets, ErrorAt> {
         let listen = |address: &Address| {
             Listener::new(address, Some(0o660)).map_err(at(format!("listen: {address}")))
         };
@@ -63,21 +64,21 @@ impl Sockets {
     }
 
     /// What is waited for.
-    pub fn descriptors(&self, now: Instant) -> impl Iterator<Item = Other> + '_ {
+    pub fn descriptors(&self, now: Time) -> impl Iterator<Item = Other> + '_ {
         let listeners = self.listeners.iter().filter(move |_| now >= self.full_until);
         let listeners = listeners.map(|it| (it.socket.as_raw_fd(), 0, false));
         listeners.chain(self.servers.iter().flat_map(Server::descriptors))
     }
 
     /// When there is something to do although nobody comes.
-    pub fn deadline(&self, now: Instant) -> Option<Instant> {
+    pub fn deadline(&self, now: Time) -> Option<Time> {
         let served = self.servers.iter().filter_map(Server::deadline).min();
         let full = Some(self.full_until).filter(|at| *at > now);
         served.into_iter().chain(full).min()
     }
 
     /// Those who come to it now.
-    pub fn accept(&mut self, fired: &HashSet<RawFd>, maker: &Maker, now: Instant) -> Vec<Line> {
+    pub fn accept(&mut self, fired: &HashSet<RawFd>, maker: &Maker, now: Time) -> Vec<Line> {
         let mut came = Vec::new();
         for listener in self.listeners.iter().filter(|it| fired.contains(&it.socket.as_raw_fd())) {
             for _ in 0..ACCEPTS {
@@ -109,7 +110,7 @@ impl Sockets {
 
     /// Whoever connects to a socket's file comes to this agent, whatever was done to that. To be
     /// told each second or two.
-    pub fn keep(&mut self, now: Instant) {
+    pub fn keep(&mut self, now: Time) {
         self.full_until = self.full_until.min(now + FULL);
         let served = self.servers.iter_mut().map(Server::listener_mut);
         let mut lost = String::new();
@@ -135,7 +136,7 @@ impl Sockets {
     /// Whether each is one that listens where it is configured to.
     pub fn listen(&self, config: &Config) -> bool {
         let Config { listen, control, metrics, .. } = config;
-        let control = control.iter().map(|it| Address::Unix(it.clone()));
+        let control = control.iter().map(|it| Address::Unix(it.display().to_string()));
         let counts = metrics.iter().map(|it| Address::Tcp(it.to_string()));
         let served: Vec<Address> = control.chain(counts).collect();
         let counts = [self.listeners.len(), self.servers.len()];

@@ -1,13 +1,16 @@
 //! What an agent asks of the system that it runs on, besides sockets and files.
 use crate::journal;
-use crate::machine::{Host, Now};
-use rignoldactl::{at, ErrorAt};
+use crate::renews;
+use nix::time::{clock_gettime, ClockId};
+use rignolda_machine::machine::{Host, Now};
+use rignolda_machine::Time;
+use rignoldactl::{at, sha256, ErrorAt};
 use std::io::{self, Read};
 use std::os::unix::net::{UnixDatagram, UnixStream};
 use std::os::unix::process::CommandExt;
 use std::path::{Path, PathBuf};
 use std::process::Command;
-use std::time::{Duration, Instant, SystemTime, UNIX_EPOCH};
+use std::time::{Duration, SystemTime, UNIX_EPOCH};
 
 /// The signals that an agent takes, each as an end that can be read once it came.
 pub struct Signals {
@@ -64,7 +67,13 @@ pub fn restarted() -> ErrorAt {
 /// The time, by the clocks of the machine.
 pub fn now() -> Now {
     let unix = SystemTime::now().duration_since(UNIX_EPOCH).unwrap_or_default();
-    Now { at: Instant::now(), unix }
+    Now { at: time(), unix }
+}
+
+/// The time by the clock that only goes on. (Linux has it at any time, and nothing of the process
+/// has to be right for that.)
+pub fn time() -> Time {
+    Time::after(clock_gettime(ClockId::CLOCK_MONOTONIC).map_or(Duration::ZERO, Duration::from))
 }
 
 /// Seconds since 1970, by the clock of the machine.
@@ -75,7 +84,8 @@ pub fn unix_now() -> i64 {
 /// What a machine gives an agent.
 pub fn host() -> io::Result<Host> {
     // (the others are for children that came, files and control)
-    Ok(Host { drawn: random()?, waiting: descriptors() / 4 })
+    let restarts = renews::seconds("RIGNOLDA_RESTARTS");
+    Ok(Host { drawn: random()?, waiting: descriptors() / 4, restarts, sha256 })
 }
 
 /// How many descriptors the process may have.

@@ -1,17 +1,17 @@
 //! The threads that do for an agent what may have to wait: each job is an [`Act`] of its machine,
 //! and what came of it an [`Input`].
-use crate::apply;
 use crate::config::Config;
 use crate::disk::{Disk, ASKED};
 use crate::files;
 use crate::hooks;
 use crate::lines::silence;
-use crate::machine::{Act, Found, Input, Machine};
-use crate::roles::{self, Folders};
+use crate::roles::Folders;
 use crate::workers::{Wake, Workers};
-use rignolda::net::Worker;
+use rignolda_machine::apply;
+use rignolda_machine::machine::{Act, Found, Input, Machine};
+use rignolda_machine::standby;
 use rignolda_redis::Stores;
-use rignolda_tls::Line;
+use rignolda_redis::Worker;
 use rignoldactl::{at, ErrorAt};
 use std::os::unix::io::RawFd;
 
@@ -20,7 +20,7 @@ pub struct Threads {
     /// That of a root, those of what is applied, and that of an agent that may be promoted.
     disk: Option<Disk>,
     apply: Option<Workers>,
-    roles: Option<Worker<roles::Job, roles::Done>>,
+    roles: Option<Worker<standby::Job, standby::Done>>,
     pub stores: Stores,
     wake: Wake,
 }
@@ -28,11 +28,11 @@ pub struct Threads {
 impl Threads {
     /// Those that an agent has from its start on; and what they find.
     pub fn new(config: &Config, wake: Wake) -> Result<(Threads, Found), ErrorAt> {
-        let apply = config.apply.as_ref();
+        let apply = config.agent.apply.as_ref();
         let applied = apply.map(|it| apply::Found {
             floor: files::floor(it),
             settings: files::settings(it),
-            due: hooks::due(&it.folder),
+            due: hooks::due(it.folder.as_ref()),
         });
         let apply = apply.map(|it| Workers::new(it, wake.clone())).transpose();
         let folders = Folders::of(config);
@@ -49,13 +49,13 @@ impl Threads {
     }
 
     /// What can be read when the root's folder has changed, where that is waited for.
-    pub fn descriptor(&self, machine: &Machine<Line>) -> Option<RawFd> {
-        machine.root.as_ref().filter(|root| root.awaits_changes())?;
+    pub fn descriptor(&self, machine: &Machine) -> Option<RawFd> {
+        machine.came.root.as_ref().filter(|root| root.awaits_changes())?;
         self.disk.as_ref()?.descriptor()
     }
 
     /// What they have done.
-    pub fn done(&self) -> Vec<Input<'static, Line>> {
+    pub fn done(&self) -> Vec<Input<'static>> {
         let mut done = Vec::new();
         let disk = self.disk.iter().flat_map(|it| std::iter::from_fn(|| it.done()));
         done.extend(disk.map(Input::Disk));
@@ -70,8 +70,8 @@ impl Threads {
     pub fn begin(&mut self, act: Act, config: &Config) -> Result<(), ErrorAt> {
         match (act, self) {
             (Act::Begins, threads) => {
-                let disk = config.root.as_ref().map(|it| {
-                    let disk = Disk::start(&it.settings, threads.wake.clone());
+                let disk = config.agent.root.as_ref().map(|it| {
+                    let disk = Disk::start(it.settings.as_ref(), threads.wake.clone());
                     disk.map_err(at("root: its thread cannot be started"))
                 });
                 threads.disk = disk.transpose()?;
@@ -90,10 +90,12 @@ impl Threads {
     }
 
     /// What of them is not as the machine has it, where something is not.
-    pub fn fault(&self, machine: &Machine<Line>) -> Option<&'static str> {
-        let root = machine.root.as_ref();
+    pub fn fault(&self, machine: &Machine) -> Option<&'static str> {
+        let root = machine.came.root.as_ref();
         let disk = match (root.zip(machine.config.root.as_ref()), &self.disk) {
-            (Some((root, config)), Some(disk)) => disk.fault(&config.settings, root.jobs_out()),
+            (Some((root, config)), Some(disk)) => {
+                disk.fault(config.settings.as_ref(), root.jobs_out())
+            }
             (None, None) => None,
             _ => Some(ASKED),
         };

@@ -1,17 +1,15 @@
 //! The threads that keep files and run hooks: each does one job of [the applier](Applier) after the
 //! other, as it is told, and wakes the loop when it has done one.
-use crate::apply::{Applier, HOOKS};
-use crate::config::Apply;
 use crate::files::Files;
 use crate::hooks::{self, House};
-use crate::jobs::{Done, Job, What};
-use rignolda::net::Worker;
-use rignolda::settings::is_newer;
+use rignolda_machine::apply::{Applier, Done, Job, What, HOOKS};
+use rignolda_machine::config::Apply;
+use rignolda_machine::settings::is_newer;
+use rignolda_machine::Time;
+use rignolda_redis::Worker;
 use std::io;
-use std::path::PathBuf;
 use std::sync::Arc;
 use std::thread::Builder;
-use std::time::Instant;
 
 /// A folder that is in the way of a file may be deep. (What is not used takes no memory.)
 const STACK_BYTES: usize = 16 << 20;
@@ -23,7 +21,7 @@ pub type Wake = Arc<dyn Fn() + Send + Sync>;
 /// hooks has none.
 pub struct Workers {
     all: Vec<Worker<Job, Done>>,
-    folder: PathBuf,
+    folder: String,
     wake: Wake,
 }
 
@@ -40,7 +38,7 @@ impl Workers {
         while self.all.len() < count {
             let name = if self.all.is_empty() { "files" } else { "hooks" };
             let thread = Builder::new().name(name.into()).stack_size(STACK_BYTES);
-            let (mut files, wake) = (Files::new(&self.folder), self.wake.clone());
+            let (mut files, wake) = (Files::new(self.folder.as_ref()), self.wake.clone());
             let worker = Worker::start_as(thread, move |job| work(&mut files, job), move || wake());
             self.all.push(worker?);
         }
@@ -68,7 +66,7 @@ impl Workers {
 
     /// Has what came of jobs taken up, and begins those that there are now: where an applier is by
     /// itself.
-    pub fn go_on(&mut self, applier: &mut Applier, now: Instant) {
+    pub fn go_on(&mut self, applier: &mut Applier, now: Time) {
         for (at, done) in self.done() {
             applier.ended(at, done, now);
         }
@@ -92,7 +90,7 @@ impl Workers {
 
 /// Does a job to its end.
 fn work(files: &mut Files, Job { what, config, taken }: Job) -> Done {
-    let house = || House::new(&config.folder, taken);
+    let house = || House::new(config.folder.as_ref(), taken);
     match what {
         What::Mark(mark) => {
             let goes_on = mark.goes_on;
@@ -114,10 +112,43 @@ fn work(files: &mut Files, Job { what, config, taken }: Job) -> Done {
                 _ => Done::Ran(hooks::run(&house, &config, &key, &change)),
             }
         }
-        What::Many(hook, keys, last) => Done::Ran(hook.run(&house(), &keys, last)),
+        What::Many(hook, keys, last) => Done::Ran(hooks::run_for(&hook, &house(), &keys, last)),
         What::Settle(keys) => {
             hooks::settle(&house(), &keys);
             Done::Settled
         }
+    }
+}
+
+#[cfg(test)]
+mod tests {
+    use super::*;
+    use rignolda_machine::apply::{Ended, Kept};
+    use rignolda_machine::net::Body;
+    use rignolda_machine::settings::{Heard, Meaning};
+    use std::collections::BTreeSet;
+
+    /// After a fault of the memory, too.
+    #[test]
+    fn a_job_that_no_worker_has_is_seen() {
+        let config = Apply { hook: Some("/hook".into()), ..Apply::default() };
+        let workers = Workers::new(&config, Arc::new(|| ())).unwrap();
+        let (mut applier, now) = (Applier::new(&config, BTreeSet::new()), crate::system::time());
+        assert_eq!(workers.fault(&applier), None);
+        let heard = Heard { takes: true, applies: true, ..Heard::default() };
+        let change = Meaning::Changes(vec![("a", Some(b"1"))]);
+        assert!(applier.take(&Body::new(1, &change), &change, 1, heard));
+        let Some((0, Job { what: What::Mark(mark), .. })) = applier.jobs(now).pop() else {
+            panic!("files are kept first")
+        };
+        assert_eq!(workers.fault(&applier), Some("nobody applies settings"));
+        let kept = mark.files.in_order().into_iter();
+        let kept =
+            kept.map(|(key, change)| Kept { key, change, put: true, differs: true, done: Ok(()) });
+        let (is, grouped, facts) = (None, Vec::new(), Vec::new());
+        let ended = Ended { is, sum: 7, whole: None, grouped, facts };
+        applier.ended(0, Done::KeptAtOnce(is, kept.collect(), ended), now);
+        assert!(matches!(applier.jobs(now)[..], [(1, _)]));
+        assert_eq!(workers.fault(&applier), Some("a hook runs that no thread runs"));
     }
 }

@@ -1,9 +1,10 @@
 //! The files of settings and their hooks.
-use rignolda::settings::{furthest, Heard, Meaning, Publisher, Table};
-use rignoldad::apply::{refusal, Applied, Applier as Machine, Outcome};
-use rignoldad::config::Apply;
-use rignoldad::files;
-use rignoldad::hooks::{self, Hook};
+use rignolda_machine::apply::{Applied, Applier as Machine, Hook, Outcome};
+use rignolda_machine::config::Apply;
+use rignolda_machine::net::Body;
+use rignolda_machine::settings::{furthest, Heard, Meaning, Publisher, Table};
+use rignoldad::files::{self, refusal};
+use rignoldad::hooks;
 use rignoldad::workers::Workers;
 use std::cell::Cell;
 use std::collections::BTreeMap;
@@ -14,7 +15,7 @@ use std::path::{Path, PathBuf};
 use std::process::{Command, Stdio};
 use std::sync::atomic::{AtomicU64, Ordering};
 use std::sync::{Arc, Mutex};
-use std::time::{Duration, Instant};
+use std::time::Duration;
 
 /// A folder of one test, removed at its end.
 struct Place(PathBuf);
@@ -34,7 +35,7 @@ impl Place {
 
     fn config(&self) -> Apply {
         Apply {
-            folder: self.folder(),
+            folder: self.folder().display().to_string(),
             mode: 0o640,
             hook_timeout: Duration::from_secs(600),
             ..Apply::default()
@@ -46,7 +47,7 @@ impl Place {
         let path = self.0.join("hook");
         fs::write(&path, format!("#!/bin/sh\ncd {}\n{lines}\n", self.0.display())).unwrap();
         fs::set_permissions(&path, Permissions::from_mode(0o755)).unwrap();
-        Apply { hook: Some(path), ..self.config() }
+        Apply { hook: Some(path.display().to_string()), ..self.config() }
     }
 
     fn calls(&self) -> Vec<String> {
@@ -89,7 +90,7 @@ struct Applier {
 
 impl Applier {
     fn new(config: &Apply) -> Applier {
-        let machine = Machine::new(config, hooks::due(&config.folder));
+        let machine = Machine::new(config, hooks::due(config.folder.as_ref()));
         let workers = Workers::new(config, Arc::new(|| ())).unwrap();
         let both = Arc::new(Mutex::new((machine, workers)));
         let goes_on = Arc::downgrade(&both);
@@ -113,7 +114,7 @@ impl Applier {
     }
 
     fn take(&mut self, meaning: &Meaning<'_>, number: u64, heard: Heard) -> bool {
-        self.is(|it| it.take(meaning, number, heard))
+        self.is(|it| it.take(&Body::new(number, meaning), meaning, number, heard))
     }
 
     fn reload(&mut self, config: &Apply) {
@@ -158,7 +159,7 @@ impl Applier {
 }
 
 fn go_on((machine, workers): &mut (Machine, Workers)) {
-    workers.go_on(machine, Instant::now());
+    workers.go_on(machine, rignoldad::system::time());
 }
 
 impl Bodies for Applier {
@@ -186,9 +187,9 @@ fn start(config: &Apply) -> Applier {
 }
 
 fn until(what: impl Fn() -> bool) {
-    let end = Instant::now() + Duration::from_secs(60);
+    let end = rignoldad::system::time() + Duration::from_secs(60);
     while !what() {
-        assert!(Instant::now() < end, "it did not come in a minute");
+        assert!(rignoldad::system::time() < end, "it did not come in a minute");
         std::thread::sleep(Duration::from_millis(2));
     }
 }

@@ -41,18 +41,18 @@ run = "/all"
 #[test]
 fn reads_every_key() {
     let config = Config::parse(WHOLE).unwrap();
-    assert_eq!(config.peers.name, "rack3");
+    assert_eq!(config.agent.peers.name, "rack3");
     assert_eq!(config.listen[1], Address::Tcp("[fd00::3]:7464".into()));
     assert_eq!(config.listen[2], Address::Unix("/run/rignolda/link".into()));
     let children = [("host31".into(), None), ("host32".into(), None)];
-    assert_eq!(config.peers.children, Children::Named(children.into()));
-    assert_eq!(config.peers.parents[1].name.as_deref(), Some("hub2"));
-    assert_eq!(config.peers.parents[1].address, Some(Address::Tcp("10.1.0.2:7464".into())));
-    assert_eq!(config.peers.ack_timeout, Duration::from_millis(500));
-    assert_eq!(config.backlog, 200);
-    assert_eq!(config.peers.evict, Duration::from_secs(600));
+    assert_eq!(config.agent.peers.children, Children::Named(children.into()));
+    assert_eq!(config.agent.peers.parents[1].name.as_deref(), Some("hub2"));
+    assert_eq!(config.agent.peers.parents[1].address, Some(Address::Tcp("10.1.0.2:7464".into())));
+    assert_eq!(config.agent.peers.ack_timeout, Duration::from_millis(500));
+    assert_eq!(config.agent.backlog, 200);
+    assert_eq!(config.agent.peers.evict, Duration::from_secs(600));
     assert_eq!(config.tls.unwrap().authority.to_str(), Some("/etc/rignolda/authority.crt"));
-    let apply = config.apply.unwrap();
+    let apply = config.agent.apply.unwrap();
     assert_eq!((apply.mode, apply.hook_timeout), (0o600, Duration::from_secs(60)));
     assert_eq!(apply.groups, ["canary", "eu"]);
     let [app, all] = &apply.hooks[..] else { panic!("{:?}", apply.hooks) };
@@ -60,19 +60,19 @@ fn reads_every_key() {
         (&app.keys[..], app.timeout),
         (&["app.*".into(), "b".into()][..], Duration::from_secs(60))
     );
-    assert_eq!((all.run.to_str(), all.timeout), (Some("/all"), Duration::from_secs(30)));
-    assert_eq!(config.root, None);
+    assert_eq!((Some(&*all.run), all.timeout), (Some("/all"), Duration::from_secs(30)));
+    assert_eq!(config.agent.root, None);
     assert!(!config.insecure);
     let root = |more: &str| {
         let text = format!("name = \"a\"\n[root]\nsettings = \"/s\"\n{more}");
-        let root = Config::parse(&text).unwrap().root.unwrap();
+        let root = Config::parse(&text).unwrap().agent.root.unwrap();
         (root.hold, root.unsets)
     };
     assert_eq!(root(""), (false, None));
     assert_eq!(root("hold = true\nunsets = 0"), (true, Some(0)));
     let harmless = |more: &str, depth| {
         let text = format!("name = \"a\"\n[root]\nsettings = \"/s\"\n{more}");
-        Config::parse(&text).unwrap().root.unwrap().harmless(depth)
+        Config::parse(&text).unwrap().agent.root.unwrap().harmless(depth)
     };
     assert_eq!(["", "harmless = 7"].map(|it| harmless(it, 10)), [23, 7]);
     // (however deep it is said to be, a round has no more than after a start)
@@ -82,7 +82,7 @@ fn reads_every_key() {
 #[test]
 fn either_end_may_connect() {
     let child = "name = \"c\"\nlisten = \"[::1]:1\"\nparents = [\"hub cost=0\", \"b@[::1]:2\"]";
-    let parents = Config::parse(child).unwrap().peers.parents;
+    let parents = Config::parse(child).unwrap().agent.peers.parents;
     assert_eq!([parents[0].price, parents[1].price], [Some(0), None]);
     let all: Vec<_> = parents.iter().map(|it| (it.to_string(), it.address.is_some())).collect();
     assert_eq!(all, [("hub".into(), false), ("b".into(), true)]);
@@ -93,7 +93,7 @@ fn either_end_may_connect() {
         ("c".into(), Some(Address::Tcp("[::1]:1".into()))),
         ("d".into(), Some(Address::Unix("/d".into()))),
     ];
-    assert_eq!(Config::parse(root).unwrap().peers.children, Children::Named(children.into()));
+    assert_eq!(Config::parse(root).unwrap().agent.peers.children, Children::Named(children.into()));
 }
 
 #[test]
@@ -298,12 +298,12 @@ fn a_link_in_a_store_has_an_address_at_both_ends() {
     let config = Config::parse(text).unwrap();
     let place =
         |server: &str| Some(Address::Redis { server: server.into(), prefix: "tree".into() });
-    assert_eq!(config.peers.parents[0].address, place("127.0.0.1:6379"));
+    assert_eq!(config.agent.peers.parents[0].address, place("127.0.0.1:6379"));
     let leaf = [("leaf".to_string(), place("[::1]:6379"))];
-    assert_eq!(config.peers.children, Children::Named(leaf.into()));
+    assert_eq!(config.agent.peers.children, Children::Named(leaf.into()));
     assert_eq!((&*config.store.user, config.store.database), ("agent", 2));
     assert_eq!(config.store.password.as_deref(), Some(std::path::Path::new("/p")));
-    assert_eq!(config.peers.poll.as_millis(), 1_000);
+    assert_eq!(config.agent.peers.poll.as_millis(), 1_000);
     let other = Config::parse(&text.replace("database = 2", "database = 3")).unwrap();
     assert_eq!(config.clone().take(other), ["store"]);
     // (TLS is of connections alone)

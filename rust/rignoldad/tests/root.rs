@@ -1,11 +1,11 @@
 //! The root's folder, and what is published of it.
 use openssl::sha::sha256;
-use rignolda::net::{checksum, Body};
-use rignolda::settings::{Meaning, Published, VALUE_BYTES};
-use rignoldad::config;
+use rignolda_machine::config;
+use rignolda_machine::net::{checksum, Body};
+use rignolda_machine::root::Root;
+use rignolda_machine::settings::{Meaning, Published, VALUE_BYTES};
+use rignolda_machine::{Refused, Time};
 use rignoldad::disk::Disk;
-use rignoldad::refused::Refused;
-use rignoldad::root::Root;
 use std::collections::BTreeMap;
 use std::fs::{self, File, OpenOptions};
 use std::io::BufRead;
@@ -13,7 +13,7 @@ use std::os::unix::fs::FileExt;
 use std::path::{Path, PathBuf};
 use std::process::Command;
 use std::sync::Arc;
-use std::time::{Duration, Instant, SystemTime, UNIX_EPOCH};
+use std::time::{Duration, SystemTime, UNIX_EPOCH};
 
 struct Folder(PathBuf);
 
@@ -42,12 +42,12 @@ struct Tried {
     /// Who asks is the key that is asked for.
     root: Root<String>,
     disk: Disk,
-    now: Instant,
+    now: Time,
     depth: u32,
 }
 
 impl Tried {
-    fn tick(&mut self, now: Instant) {
+    fn tick(&mut self, now: Time) {
         self.now = self.now.max(now);
         self.turn(now);
         while self.root.is_busy() {
@@ -57,7 +57,7 @@ impl Tried {
     }
 
     /// What an agent does in a turn.
-    fn turn(&mut self, now: Instant) {
+    fn turn(&mut self, now: Time) {
         self.begin();
         while let Some(done) = self.disk.done() {
             self.root.done(done, now);
@@ -85,7 +85,7 @@ impl Tried {
         self.tick(before.min(self.now));
     }
 
-    fn begin_round(&mut self, now: Instant) {
+    fn begin_round(&mut self, now: Time) {
         self.root.begin_round(now);
         self.wait();
     }
@@ -126,12 +126,12 @@ impl std::ops::DerefMut for Tried {
 }
 
 /// A root, whose first round is over where `settled`.
-fn root(settings: &Path, settled: bool) -> (Tried, Instant) {
+fn root(settings: &Path, settled: bool) -> (Tried, Time) {
     root_of(config(settings), BTreeMap::new(), settled)
 }
 
 fn config(settings: &Path) -> config::Root {
-    let (round, settings) = (ROUND, settings.into());
+    let (round, settings) = (ROUND, settings.display().to_string());
     config::Root { settings, standby: false, round, harmless: Some(3), hold: false, unsets: None }
 }
 
@@ -140,11 +140,11 @@ fn root_of(
     config: config::Root,
     applied: BTreeMap<String, Vec<u8>>,
     settled: bool,
-) -> (Tried, Instant) {
-    let now = Instant::now();
+) -> (Tried, Time) {
+    let now = rignoldad::system::time();
     let first = SystemTime::now().duration_since(UNIX_EPOCH).unwrap().as_micros() as u64;
-    let root = Root::new(&config, applied, first, now);
-    let disk = Disk::start(&config.settings, Arc::new(|| ())).unwrap();
+    let root = Root::new(&config, applied, first, rignoldactl::sha256, now);
+    let disk = Disk::start(config.settings.as_ref(), Arc::new(|| ())).unwrap();
     let mut root = Tried { root, disk, now, depth: 1 };
     if settled {
         root.tick(now);
@@ -275,6 +275,11 @@ fn it_goes_on_above_numbers_that_are_ahead_twice_in_a_round() {
     assert_eq!(next(&mut root), Some((first + 2_001, true)));
     // (whoever lies about it does not make one table after the other come)
     root.hears([first + 5_000]);
+    assert_eq!(next(&mut root), None);
+    // (what its own files have is no lie, and nobody is passed for it)
+    root.has([first + 3_000, first + 2_000]);
+    root.has([first + 4_000, 0]);
+    assert_eq!(next(&mut root), Some((first + 3_001, true)));
     assert_eq!(next(&mut root), None);
     root.begin_round(now);
     root.hears([first + 5_000]);
@@ -939,21 +944,16 @@ fn what_waits_for_the_end_of_a_drain_is_shown() {
 
 /// Ends a root once what it published is kept, and begins another one, of an agent that applied
 /// this.
-fn begins_again(
-    config: &config::Root,
-    root: Tried,
-    now: Instant,
-    applied: &[&str],
-) -> (Tried, Instant) {
-    let kept = config.settings.join(".rignolda/published");
+fn begins_again(config: &config::Root, root: Tried, now: Time, applied: &[&str]) -> (Tried, Time) {
+    let kept = Path::new(&config.settings).join(".rignolda/published");
     let is_kept = |root: &Tried| {
         let text = fs::read_to_string(&kept).ok();
         text.map(|it| it.lines().filter(|line| !line.ends_with(" -")).count() as u64)
             == Some(root.settings())
     };
     let mut root = root;
-    let until = Instant::now() + Duration::from_secs(60);
-    while !is_kept(&root) && Instant::now() < until {
+    let until = rignoldad::system::time() + Duration::from_secs(60);
+    while !is_kept(&root) && rignoldad::system::time() < until {
         root.tick(now + Duration::from_secs(30));
         std::thread::sleep(Duration::from_millis(1));
     }
@@ -1191,12 +1191,12 @@ fn name_is_spoilt() {
         let config = config::Root { unsets: Some(0), ..config(&folder.0) };
         let (mut root, now) = root_of(config.clone(), BTreeMap::new(), true);
         let kept = folder.0.join(".rignolda/published");
-        let is_kept = |root: &mut Tried, later: Instant, value: &[u8]| {
-            let (until, sha) = (Instant::now() + Duration::from_secs(60), sha256(value));
+        let is_kept = |root: &mut Tried, later: Time, value: &[u8]| {
+            let (until, sha) = (rignoldad::system::time() + Duration::from_secs(60), sha256(value));
             let digits: String = sha.iter().map(|byte| format!("{byte:02x}")).collect();
             while !fs::read_to_string(&kept).is_ok_and(|text| text.contains(&digits)) {
                 root.tick(later + Duration::from_secs(30));
-                assert!(Instant::now() < until, "{at}: it is not kept");
+                assert!(rignoldad::system::time() < until, "{at}: it is not kept");
                 std::thread::sleep(Duration::from_millis(1));
             }
         };

@@ -1,17 +1,14 @@
 //! What a root and a second root do at each step: without a thread, a clock, a file or a journal.
-use rignolda::net::Way;
-use rignolda::settings::Meaning;
+use rignolda_machine::net::Way;
+use rignolda_machine::root::{self, Empty, Root};
+use rignolda_machine::settings::Meaning;
+use rignolda_machine::standby::{self, Begun, Change, Lacks, Standby};
+use rignolda_machine::{Fact, Refused, Time};
 use rignoldactl::source::{Faults, Found};
-use rignoldactl::{at, Standby as Role};
+use rignoldactl::Standby as Role;
 use rignoldad::config::Config;
-use rignoldad::disk::{self, Empty};
-use rignoldad::facts::{Fact, Lacks};
-use rignoldad::refused::Refused;
-use rignoldad::roles::{self, Begun, Folders};
-use rignoldad::root::Root;
-use rignoldad::standby::{Change, Standby};
 use std::collections::BTreeMap;
-use std::time::{Duration, Instant};
+use std::time::Duration;
 
 const TEXT: &str = r#"
 name = "second"
@@ -34,55 +31,58 @@ const PATIENCE: Duration = Duration::from_secs(5);
 const FIRST: u64 = 500;
 const FOLDER: [(&str, &str); 2] = [("a", "1"), ("b", "2")];
 
+/// The name of a standby, and of its root's folder.
+const NAMES: (&str, &str) = ("second", "/settings");
+
 fn config() -> Config {
     Config::parse(TEXT).unwrap()
 }
 
 /// The lines of the journal.
 fn lines(facts: Vec<Fact>) -> Vec<String> {
-    facts.iter().map(|it| format!("{} {it}", it.name())).collect()
+    facts.iter().map(|(fact, words)| format!("{fact} {words}")).collect()
 }
 
 fn values(all: &[(&str, &str)]) -> BTreeMap<String, Vec<u8>> {
     all.iter().map(|(key, value)| (key.to_string(), value.as_bytes().into())).collect()
 }
 
-fn read(all: &[(&str, &str)]) -> disk::Done {
-    disk::Done::Read(Ok(Found { settings: values(all), ..Found::default() }))
+fn read(all: &[(&str, &str)]) -> root::Done {
+    root::Done::Read(Ok(Found { settings: values(all), ..Found::default() }))
 }
 
 /// What a root has to have done and to say since the last time.
-fn acts(root: &mut Root<&str>) -> (Vec<disk::Job>, Vec<String>) {
+fn acts(root: &mut Root<&str>) -> (Vec<root::Job>, Vec<String>) {
     (root.jobs(), lines(root.facts()))
 }
 
 /// What it publishes next: its kind and number.
-fn next(root: &mut Root<&str>, now: Instant) -> Option<(char, u64)> {
+fn next(root: &mut Root<&str>, now: Time) -> Option<(char, u64)> {
     let body = root.next(100, now)?.body;
     Some((body.bytes[0] as char, body.meaning().unwrap().0))
 }
 
 /// All that it publishes now, where this is read of the folder for each table.
-fn all(root: &mut Root<&str>, now: Instant, folder: &[(&str, &str)]) -> Vec<(char, u64)> {
+fn all(root: &mut Root<&str>, now: Time, folder: &[(&str, &str)]) -> Vec<(char, u64)> {
     let mut all = Vec::new();
     loop {
         all.extend(std::iter::from_fn(|| next(root, now)));
         match &root.jobs()[..] {
             [] => return all,
-            jobs => assert_eq!(jobs, [disk::Job::Read]),
+            jobs => assert_eq!(jobs, [root::Job::Read]),
         }
         root.done(read(folder), now);
     }
 }
 
 /// A root whose first round is over: what it published is `a` and `b`.
-fn root(now: Instant) -> Root<&'static str> {
-    let config = config().root.unwrap();
-    let mut root = Root::new(&config, BTreeMap::new(), FIRST, now);
-    assert_eq!(acts(&mut root), (vec![disk::Job::Recall, disk::Job::Read], vec![]));
-    root.done(disk::Done::Recalled(None), now);
+fn root(now: Time) -> Root<&'static str> {
+    let config = config().agent.root.unwrap();
+    let mut root = Root::new(&config, BTreeMap::new(), FIRST, rignoldactl::sha256, now);
+    assert_eq!(acts(&mut root), (vec![root::Job::Recall, root::Job::Read], vec![]));
+    root.done(root::Done::Recalled(None), now);
     root.tick(now, || 1);
-    assert_eq!((acts(&mut root), root.jobs_out()), ((vec![disk::Job::Read], vec![]), 2));
+    assert_eq!((acts(&mut root), root.jobs_out()), ((vec![root::Job::Read], vec![]), 2));
     for _ in 0..2 {
         root.done(read(&FOLDER), now);
     }
@@ -93,15 +93,15 @@ fn root(now: Instant) -> Root<&'static str> {
 
 #[test]
 fn a_read_that_fails_unsets_nothing_and_is_said_once() {
-    let now = Instant::now();
+    let now = rignoldad::system::time();
     let mut root = root(now);
     root.notified(now);
     assert!(!root.awaits_changes());
     root.tick(root.deadline(), || 1);
-    assert_eq!(acts(&mut root), (vec![disk::Job::Changed], vec![]));
+    assert_eq!(acts(&mut root), (vec![root::Job::Changed], vec![]));
     let gone = || {
         let (why, faults) = ("/settings: it is gone".into(), Faults::default());
-        disk::Done::Read(Err(Empty { why, has_none: false, is_new: false, faults }))
+        root::Done::Read(Err(Empty { why, has_none: false, is_new: false, faults }))
     };
     root.done(gone(), now);
     assert_eq!(acts(&mut root), (vec![], vec!["settings /settings: it is gone".into()]));
@@ -109,28 +109,28 @@ fn a_read_that_fails_unsets_nothing_and_is_said_once() {
     assert!(root.awaits_changes());
     root.begin_round(now);
     root.done(gone(), now);
-    assert_eq!(acts(&mut root), (vec![disk::Job::Read], vec![]));
+    assert_eq!(acts(&mut root), (vec![root::Job::Read], vec![]));
     assert_eq!((next(&mut root, now), root.faults().count), (Some(('H', 504)), 1));
 }
 
 #[test]
 fn where_the_disk_is_late_a_round_is_of_what_is_known() {
-    let now = Instant::now();
+    let now = rignoldad::system::time();
     let mut root = root(now);
     root.tick(now + ROUND, || 1);
     let late = root.deadline();
     assert_eq!((late, next(&mut root, late)), (now + ROUND + PATIENCE, None));
     root.tick(late, || 1);
     let (jobs, said) = acts(&mut root);
-    assert!(matches!(jobs[..], [disk::Job::Keep(_), disk::Job::Read]), "{jobs:?}");
+    assert!(matches!(jobs[..], [root::Job::Keep(_), root::Job::Read]), "{jobs:?}");
     assert_eq!(said, ["settings /settings: the disk does not answer"]);
     assert_eq!((next(&mut root, late), next(&mut root, late)), (Some(('H', 504)), None));
     // (the table is to be of what the disk says, and waits for that no longer)
     root.tick(late, || 1);
     assert_eq!((next(&mut root, late), root.jobs_out()), (Some(('T', 505)), 3));
-    root.done(disk::Done::Kept(Err("no space".into())), late);
+    root.done(root::Done::Kept(Err("no space".into())), late);
     let said = "settings /settings: what is published cannot be kept: no space";
-    assert_eq!(acts(&mut root), (vec![disk::Job::Read], vec![said.into()]));
+    assert_eq!(acts(&mut root), (vec![root::Job::Read], vec![said.into()]));
     for _ in 0..2 {
         root.done(read(&[("a", "1"), ("b", "3")]), late);
     }
@@ -139,17 +139,17 @@ fn where_the_disk_is_late_a_round_is_of_what_is_known() {
 
 #[test]
 fn what_is_held_is_published_once_it_is_confirmed() {
-    let now = Instant::now();
+    let now = rignoldad::system::time();
     let mut root = root(now);
     root.notified(now);
     root.tick(root.deadline(), || 1);
-    root.done(disk::Done::Keys(vec![("b".into(), None)]), now);
+    root.done(root::Done::Keys(vec![("b".into(), None)]), now);
     root.done(read(&[("a", "1")]), now);
     let held = "settings 1 of 2 settings would be unset: held until `rignoldactl confirm`";
-    assert_eq!(acts(&mut root), (vec![disk::Job::Changed, disk::Job::Read], vec![held.into()]));
+    assert_eq!(acts(&mut root), (vec![root::Job::Changed, root::Job::Read], vec![held.into()]));
     assert_eq!((next(&mut root, now), root.held()), (None, 1));
     root.confirm("", now, "who").unwrap();
-    assert_eq!((acts(&mut root), root.answers()), ((vec![disk::Job::Read], vec![]), vec![]));
+    assert_eq!((acts(&mut root), root.answers()), ((vec![root::Job::Read], vec![]), vec![]));
     root.done(read(&[("a", "1")]), now);
     let next = root.next(100, now).unwrap().body;
     assert_eq!(next.meaning(), Some((504, Meaning::Changes(vec![("b", None)]))));
@@ -158,7 +158,7 @@ fn what_is_held_is_published_once_it_is_confirmed() {
 
 #[test]
 fn a_root_whose_clock_was_set_back_goes_on_above_what_agents_have() {
-    let now = Instant::now();
+    let now = rignoldad::system::time();
     let mut root = root(now);
     root.hears([0, 503, 9_000]);
     assert_eq!(acts(&mut root).1, ["numbers go on above 9000, which an agent has"]);
@@ -167,12 +167,12 @@ fn a_root_whose_clock_was_set_back_goes_on_above_what_agents_have() {
 
 #[test]
 fn what_came_while_it_drained_is_published_when_that_ends() {
-    let now = Instant::now();
+    let now = rignoldad::system::time();
     let mut root = root(now);
     root.drain(now);
     root.notified(now);
     root.tick(root.deadline(), || 1);
-    root.done(disk::Done::Keys(vec![("a".into(), Some(b"3".into()))]), now);
+    root.done(root::Done::Keys(vec![("a".into(), Some(b"3".into()))]), now);
     for seconds in [0, 600] {
         root.tick(now + Duration::from_secs(seconds), || 1);
         assert_eq!((next(&mut root, now), root.is_draining()), (None, true));
@@ -183,19 +183,19 @@ fn what_came_while_it_drained_is_published_when_that_ends() {
 
 #[test]
 fn who_asks_for_a_change_is_answered_when_it_is_published() {
-    let now = Instant::now();
+    let now = rignoldad::system::time();
     let mut root = root(now);
     root.ask("c@eu", Some(b"1".into()), "one").unwrap();
     root.commit();
     root.ask("d", Some(b"2".into()), "two").unwrap();
     root.commit();
     let kept = |key: &str, value: &str| (key.to_string(), Some(value.as_bytes().to_vec()));
-    let write = |key, value| disk::Job::Write(vec![kept(key, value)]);
+    let write = |key, value| root::Job::Write(vec![kept(key, value)]);
     assert_eq!((acts(&mut root).0, root.jobs_out()), (vec![write("c..eu", "1")], 1));
     let why = Err(Refused::from("no space"));
-    root.done(disk::Done::Written { all: vec![(kept("c..eu", "1"), why)], others: false }, now);
+    root.done(root::Done::Written { all: vec![(kept("c..eu", "1"), why)], others: false }, now);
     assert_eq!((acts(&mut root).0, root.jobs_out()), (vec![write("d", "2")], 1));
-    root.done(disk::Done::Written { all: vec![(kept("d", "2"), Ok(()))], others: false }, now);
+    root.done(root::Done::Written { all: vec![(kept("d", "2"), Ok(()))], others: false }, now);
     assert_eq!(root.answers(), [("one", Err("no space".into()))]);
     assert_eq!(next(&mut root, now), Some(('C', 504)));
     assert_eq!((root.answers(), root.ends()), (vec![("two", Ok(()))], vec![]));
@@ -203,17 +203,17 @@ fn who_asks_for_a_change_is_answered_when_it_is_published() {
 
 #[test]
 fn a_value_that_is_promoted_is_two_changes_and_one_answer() {
-    let now = Instant::now();
+    let now = rignoldad::system::time();
     let mut root = root(now);
     let change = |key: &str, value: Option<&str>| (key.to_string(), value.map(|it| it.into()));
-    let written = |all: Vec<disk::Written>| disk::Done::Written { all, others: false };
+    let written = |all: Vec<root::Written>| root::Done::Written { all, others: false };
     root.ask("a@eu", Some(b"5".into()), "one").unwrap();
     root.commit();
     root.done(written(vec![(change("a..eu", Some("5")), Ok(()))]), now);
     assert_eq!((next(&mut root, now), root.answers()), (Some(('C', 504)), vec![("one", Ok(()))]));
     root.jobs();
     // (what fails is answered, and the next one is begun)
-    let promote = || disk::Job::Promote("a..eu".into());
+    let promote = || root::Job::Promote("a..eu".into());
     root.promote("a@eu", "two").unwrap();
     root.promote("a@eu", "three").unwrap();
     root.commit();
@@ -232,16 +232,14 @@ fn a_value_that_is_promoted_is_two_changes_and_one_answer() {
 }
 
 /// One that begins as this, of rank 50, and may have published up to this number.
-fn standby(role: Role, may: Option<u64>, now: Instant) -> Standby<&'static str> {
-    let (config, fact) = (config(), None);
-    let folders = Folders::of(&config).unwrap();
-    let begun = Begun { folders, role, rank: 50, noted: None, may, fact };
-    Standby::new(&config, begun, values(&[("a", "1")]), now)
+fn standby(role: Role, may: Option<u64>, now: Time) -> Standby<&'static str> {
+    let begun = Begun { role, rank: 50, noted: None, may, fact: None };
+    Standby::new(NAMES, begun, values(&[("a", "1")]), now)
 }
 
 #[test]
 fn a_promotion_has_its_rank_by_the_time_that_it_is_given() {
-    let now = Instant::now();
+    let now = rignoldad::system::time();
     let mut standby = standby(Role::Below, None, now);
     let lacks = || Some(Lacks { who: "leaf".into(), change: 9, own: 8 });
     let words = "leaf has change 9, and this agent has none after 8";
@@ -251,10 +249,10 @@ fn a_promotion_has_its_rank_by_the_time_that_it_is_given() {
     assert_eq!(standby.promote(true, None, (7, 9_000), None, "who"), Err(Refused::IsAsked));
     // (two seconds above the clock, which is ahead of what it has seen)
     let rank = 1_000 + 2_097_152;
-    let promote = roles::Job::Promote { rank, copies: false, digest: None };
+    let promote = standby::Job::Promote { rank, copies: false, digest: None };
     assert_eq!((standby.jobs(), standby.jobs_out()), (vec![promote], 1));
     assert_eq!(lines(standby.facts()), [format!("root promoted as it is: {words}")]);
-    let change = standby.done(roles::Done::Promoted(rank, Ok(values(&[("b", "2")]))));
+    let change = standby.done(standby::Done::Promoted(rank, Ok(values(&[("b", "2")]))));
     assert_eq!(change, Some(Change::Root(rank, values(&[("b", "2")]))));
     assert_eq!(lines(standby.facts()), [format!("root this is the root now, of rank {rank}")]);
     let said = format!("it is the root, as it is: {words}");
@@ -263,7 +261,7 @@ fn a_promotion_has_its_rank_by_the_time_that_it_is_given() {
 
 #[test]
 fn a_root_that_sees_one_of_a_higher_rank_twice_stands_by() {
-    let now = Instant::now();
+    let now = rignoldad::system::time();
     let mut standby = standby(Role::Looks, Some(70), now);
     assert_eq!(standby.tick(0, (&[], 0), 0, now), Some(Change::Root(70, values(&[("a", "1")]))));
     let other = Way { cost: 0, names: vec!["first".into()] };
@@ -273,40 +271,30 @@ fn a_root_that_sees_one_of_a_higher_rank_twice_stands_by() {
     assert_eq!((lines(standby.facts()), standby.other()), (said.map(String::from).into(), "first"));
     standby.looked(0, Some((&other, 51)));
     assert_eq!(standby.tick(1, (&[], 0), 0, now), Some(Change::Below));
-    assert_eq!((standby.jobs(), standby.role()), (vec![roles::Job::StandBy], Role::StandsBy));
+    assert_eq!((standby.jobs(), standby.role()), (vec![standby::Job::StandBy], Role::StandsBy));
     assert_eq!(lines(standby.facts()), ["root first is another root: this one stands by"]);
-    standby.done(roles::Done::StandsBy(Err(at("/settings")("no space"))));
+    standby.done(standby::Done::StandsBy(Err("/settings: no space".into())));
     assert_eq!(lines(standby.facts()), ["root its folder does not know: /settings: no space"]);
     // (and an agent as any other when somebody says so)
     standby.demote("who").unwrap();
-    assert_eq!((standby.jobs(), standby.answers()), (vec![roles::Job::Demote], vec![]));
-    assert_eq!((standby.done(roles::Done::Demoted(Ok(()))), standby.role()), (None, Role::Below));
+    assert_eq!((standby.jobs(), standby.answers()), (vec![standby::Job::Demote], vec![]));
+    assert_eq!((standby.done(standby::Done::Demoted(Ok(()))), standby.role()), (None, Role::Below));
     assert_eq!(standby.answers(), [("who", Ok(String::new()))]);
     assert_eq!(lines(standby.facts()), ["root this is an agent as any other now"]);
 }
 
 #[test]
-fn what_is_wrong_with_the_mark_of_a_root_is_said_at_a_start() {
-    let (config, words) = (config(), |it: &str| format!("root /settings/.root {it}"));
-    for (fact, said) in [
-        (
-            Fact::MayBeOfOthers as fn(_) -> _,
-            "does not belong to the user of the agent alone: left out",
-        ),
-        (Fact::IsNoFile, "is no plain file: it stands by"),
-        (Fact::HasNoRank, "has no number: any other root goes on"),
-    ] {
-        let (folders, role) = (Folders::of(&config).unwrap(), Role::Below);
-        let fact = Some(fact(folders.root.join(".root")));
-        let begun = Begun { folders, role, rank: 0, noted: None, may: None, fact };
-        let mut standby = Standby::<()>::new(&config, begun, BTreeMap::new(), Instant::now());
-        assert_eq!((lines(standby.facts()), standby.facts()), (vec![words(said)], vec![]));
-    }
+fn what_its_folder_says_at_a_start_is_said_once() {
+    let fact = Some(("root", "/settings/.root has no number".to_string()));
+    let begun = Begun { role: Role::Below, rank: 0, noted: None, may: None, fact };
+    let mut standby = Standby::<()>::new(NAMES, begun, BTreeMap::new(), rignoldad::system::time());
+    let said = vec!["root /settings/.root has no number".to_string()];
+    assert_eq!((lines(standby.facts()), standby.facts()), (said, vec![]));
 }
 
 #[test]
 fn one_that_was_the_root_goes_on_by_what_its_parents_and_children_say() {
-    let (now, own) = (Instant::now(), values(&[("a", "1")]));
+    let (now, own) = (rignoldad::system::time(), values(&[("a", "1")]));
     let until = now + Duration::from_secs(30);
     // (its clock counts alone where it does not know what it published)
     for (may, above) in [(None, 900), (Some(70), 70)] {
@@ -320,5 +308,5 @@ fn one_that_was_the_root_goes_on_by_what_its_parents_and_children_say() {
     let said = "root 2 of its children have more than 70, and this root never published that: \
                 another one did, and this one stands by";
     assert_eq!((lines(standby.facts()), standby.other()), (vec![said.into()], ""));
-    assert_eq!(standby.jobs(), [roles::Job::StandBy]);
+    assert_eq!(standby.jobs(), [standby::Job::StandBy]);
 }

@@ -1,5 +1,5 @@
 //! A store whose server answers slowly, too much, or nothing of Redis.
-use rignolda::net::{Store, Turn};
+use rignolda_machine::net::Turn;
 use rignolda_redis::{Login, Redis};
 use std::io::{Read, Write};
 use std::net::{TcpListener, TcpStream};
@@ -45,7 +45,7 @@ fn got(
     let sets = vec![("a:b:up".to_string(), b"1".to_vec())];
     let begun = Instant::now();
     let got = store.turn(&Turn { sets, gets: vec![("a:b:down".into(), 1_000)] });
-    (got.map_err(|why| why.to_string()), begun.elapsed())
+    (got, begun.elapsed())
 }
 
 #[test]
@@ -72,7 +72,7 @@ fn a_transaction_that_is_not_done_fails() {
     let mut store = Redis::new(&address, "p", "a", Login::default(), TIMEOUT);
     let sets = vec![("a:b:up".to_string(), b"1".to_vec())];
     let got = store.turn(&Turn { sets, gets: vec![] });
-    let why = got.map_err(|why| why.to_string());
+    let why = got;
     assert_eq!(why, Err("another process writes there under this agent's name".into()));
 }
 
@@ -117,6 +117,6 @@ fn the_answers_in_a_list_are_bounded_too() {
         let mut store = Redis::new(&address, "p", "a", Login::default(), TIMEOUT);
         let sets = vec![("a:b:up".to_string(), b"1".to_vec())];
         let got = store.turn(&Turn { sets, gets: vec![] });
-        assert_eq!(got.map_err(|why| why.to_string()), Err(expected.into()), "{list}");
+        assert_eq!(got, Err(expected.into()), "{list}");
     }
 }

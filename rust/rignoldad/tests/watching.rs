@@ -1,12 +1,15 @@
 //! What is known of the agents below, and what is made of it.
+use rignolda_machine::below::Below;
+use rignolda_machine::net::wire::REPORT_BYTES;
+use rignolda_machine::Time;
 use rignoldactl::ask::{
     bounds, depths, harmless_needed, lacks, lacks_of, progress, too_few_harmless, tree_text,
     Bounds, CUT, NOT_HEARD,
 };
 use rignoldactl::probe::Probe;
+use rignoldactl::sha256;
 use rignoldactl::{ChildStatus, Compared, Seen, Status};
-use rignoldad::tree::{Below, REPORT_BYTES};
-use std::time::{Duration, Instant};
+use std::time::Duration;
 
 fn status(name: &str, children: &[&str]) -> Status {
     let child = |name: &&str| ChildStatus {
@@ -28,9 +31,9 @@ fn status(name: &str, children: &[&str]) -> Status {
 }
 
 /// The lists of a tree: the root, `a` with `b` and `c`, and `d` below `c`.
-fn tree(now: Instant) -> Vec<Seen> {
-    let (mut root, mut a, mut c) = (Below::default(), Below::default(), Below::default());
-    let none = Below::default();
+fn tree(now: Time) -> Vec<Seen> {
+    let (mut root, mut a, mut c) = (Below::new(sha256), Below::new(sha256), Below::new(sha256));
+    let none = Below::new(sha256);
     assert!(c.heard("d", &none.report(&status("d", &[]), now), now));
     assert!(a.heard("c", &c.report(&status("c", &["d"]), now), now));
     assert!(a.heard("b", &none.report(&status("b", &[]), now), now));
@@ -40,10 +43,10 @@ fn tree(now: Instant) -> Vec<Seen> {
 
 #[test]
 fn groups_that_are_other_ones_are_told_once() {
-    let (mut root, now) = (Below::default(), Instant::now());
+    let (mut root, now) = (Below::new(sha256), rignoldad::system::time());
     let mut hears = |at: u64, groups: &[&str]| {
         let groups = groups.iter().map(|it| it.to_string()).collect();
-        let report = Below::default().report(&Status { groups, ..status("a", &[]) }, now);
+        let report = Below::new(sha256).report(&Status { groups, ..status("a", &[]) }, now);
         assert!(root.heard("a", &report, now + Duration::from_secs(at)));
         [root.has_other_groups(), root.has_other_groups()]
     };
@@ -55,7 +58,7 @@ fn groups_that_are_other_ones_are_told_once() {
 
 #[test]
 fn a_list_has_each_agent_after_its_parent() {
-    let list = tree(Instant::now());
+    let list = tree(rignoldad::system::time());
     let names: Vec<(&str, &str)> = list.iter().map(|s| (&s.name[..], &s.parent[..])).collect();
     assert_eq!(names, [("root", ""), ("a", "root"), ("b", "a"), ("c", "a"), ("d", "c")]);
     assert_eq!(depths(&list), [0, 1, 2, 2, 3]);
@@ -64,9 +67,9 @@ fn a_list_has_each_agent_after_its_parent() {
 
 #[test]
 fn who_is_below_an_agent_that_is_away_is_not_known() {
-    let now = Instant::now();
-    let (mut root, mut a) = (Below::default(), Below::default());
-    a.heard("b", &Below::default().report(&status("b", &[]), now), now);
+    let now = rignoldad::system::time();
+    let (mut root, mut a) = (Below::new(sha256), Below::new(sha256));
+    a.heard("b", &Below::new(sha256).report(&status("b", &[]), now), now);
     root.heard("a", &a.report(&status("a", &["b"]), now), now);
     let mut above = status("root", &["a", "new"]);
     above.children[0].connected = false;
@@ -81,7 +84,7 @@ fn who_is_below_an_agent_that_is_away_is_not_known() {
 
 #[test]
 fn the_bounds_are_the_sums_of_a_path() {
-    let list = tree(Instant::now());
+    let list = tree(rignoldad::system::time());
     let of = |name: &str, depth, c, e, m, n| Bounds { name: name.into(), depth, c, e, m, n };
     // (each link has capacity 1: C = d, M = 3 d, N = 2 d + 1; each inner agent may keep ten for a
     // child, and its sender one more)
@@ -102,7 +105,7 @@ fn the_bounds_are_the_sums_of_a_path() {
 
 #[test]
 fn an_agent_lacks_what_it_has_not_applied() {
-    let mut agent = tree(Instant::now()).remove(4);
+    let mut agent = tree(rignoldad::system::time()).remove(4);
     assert_eq!(lacks(&agent, 5), None);
     assert_eq!(lacks(&agent, 6), Some("has not applied it"));
     agent.whole = false;
@@ -113,7 +116,7 @@ fn an_agent_lacks_what_it_has_not_applied() {
 
 #[test]
 fn numbers_go_round_there_too() {
-    let mut list = tree(Instant::now());
+    let mut list = tree(rignoldad::system::time());
     for (applied, sequence, lacking) in
         [(u64::MAX, u64::MAX, false), (u64::MAX, 1, true), (1, u64::MAX, false), (0, 1, true)]
     {
@@ -129,10 +132,13 @@ fn numbers_go_round_there_too() {
 #[test]
 fn of_a_list_the_number_that_is_furthest_ahead_counts() {
     let heard = |list: &str| {
-        let mut below = Below::default();
-        assert!(below.heard("a", list.as_bytes(), Instant::now()));
+        let mut below = Below::new(sha256);
+        assert!(below.heard("a", list.as_bytes(), rignoldad::system::time()));
         let [sequence, ahead] = below.numbers("a");
-        assert_eq!(sequence, below.tree(&status("root", &["a"]), Instant::now())[1].sequence);
+        assert_eq!(
+            sequence,
+            below.tree(&status("root", &["a"]), rignoldad::system::time())[1].sequence
+        );
         ahead
     };
     assert_eq!(heard(r#"[{"name":"a","sequence":7,"ahead":70}]"#), 70);
@@ -147,12 +153,12 @@ fn of_a_list_the_number_that_is_furthest_ahead_counts() {
     // (who is not connected there may be elsewhere, and have another number now)
     let away = r#"{"name":"c","parent":"a","sequence":13,"ahead":14}"#;
     assert_eq!(heard(&format!(r#"[{{"name":"a","sequence":7}},{away},{below}]"#)), 12);
-    assert_eq!(Below::default().numbers("a"), [0, 0]);
+    assert_eq!(Below::new(sha256).numbers("a"), [0, 0]);
 }
 
 #[test]
 fn refuses_a_list_that_is_none() {
-    let mut now = Instant::now();
+    let mut now = rignoldad::system::time();
     let seen = |name: &str, parent: &str| Seen {
         name: name.into(),
         parent: parent.into(),
@@ -160,7 +166,7 @@ fn refuses_a_list_that_is_none() {
     };
     let good = vec![seen("a", ""), seen("b", "a")];
     let bad: [Vec<Seen>; 2] = [vec![], vec![seen("b", "")]];
-    let mut below = Below::default();
+    let mut below = Below::new(sha256);
     assert!(below.heard("a", &serde_json::to_vec(&good).unwrap(), now));
     for list in bad {
         now += Duration::from_secs(1);
@@ -186,7 +192,7 @@ fn refuses_a_list_that_is_none() {
 /// A leaf that says it were somebody else, or had somebody else below it, harms nobody's place.
 #[test]
 fn leaves_out_what_cannot_be_of_a_tree() {
-    let now = Instant::now();
+    let now = rignoldad::system::time();
     let seen = |name: &str, parent: &str| Seen {
         name: name.into(),
         parent: parent.into(),
@@ -209,7 +215,7 @@ fn leaves_out_what_cannot_be_of_a_tree() {
         seen("far", "liar"),
         seen("below", "honest"),
     ];
-    let (mut root, mut parent) = (Below::default(), Below::default());
+    let (mut root, mut parent) = (Below::new(sha256), Below::new(sha256));
     assert!(parent.heard("liar", &serde_json::to_vec(&lies).unwrap(), now));
     let list = parent.tree(&status("parent", &["liar", "honest"]), now);
     let expected = [
@@ -237,13 +243,13 @@ fn leaves_out_what_cannot_be_of_a_tree() {
 
 #[test]
 fn a_report_is_never_too_long() {
-    let now = Instant::now();
+    let now = rignoldad::system::time();
     let names: Vec<String> = (0..9_000).map(|at| format!("{at:064}")).collect();
     let names: Vec<&str> = names.iter().map(String::as_str).collect();
     let long = "a".repeat(64);
-    let bytes = Below::default().report(&status(&long, &names), now);
+    let bytes = Below::new(sha256).report(&status(&long, &names), now);
     assert!(bytes.len() <= REPORT_BYTES);
-    let mut root = Below::default();
+    let mut root = Below::new(sha256);
     assert!(root.heard(&long, &bytes, now));
     // (of those that are left out nobody knows whether they have it, and so of the others)
     let list = root.tree(&status("root", &[&long]), now);
@@ -254,7 +260,7 @@ fn a_report_is_never_too_long() {
 
 #[test]
 fn the_tree_is_a_line_for_each_agent() {
-    let text = tree_text(&tree(Instant::now()));
+    let text = tree_text(&tree(rignoldad::system::time()));
     let lines: Vec<&str> = text.lines().collect();
     assert_eq!(lines.len(), 6);
     assert!(lines[5].starts_with("      d"), "{text}");
@@ -277,7 +283,7 @@ fn seen(name: &str, parent: &str, connected: bool) -> Seen {
 
 /// What is known at a root whose children said this, a second after it.
 fn known(children: &[(&str, bool)], lists: &[Vec<Seen>]) -> Vec<(String, String, bool)> {
-    let (now, mut root) = (Instant::now(), Below::default());
+    let (now, mut root) = (rignoldad::system::time(), Below::new(sha256));
     for list in lists {
         assert!(root.heard(&list[0].name, &serde_json::to_vec(list).unwrap(), now));
     }
@@ -332,8 +338,8 @@ fn of_two_that_say_it_is_connected_the_last_heard_one_counts() {
 
 #[test]
 fn invented_agents_drive_nobody_out() {
-    let now = Instant::now();
-    let (mut rack, mut root) = (Below::default(), Below::default());
+    let now = rignoldad::system::time();
+    let (mut rack, mut root) = (Below::new(sha256), Below::new(sha256));
     let name = |at| format!(r#",{{"name":"n{at}","parent":"liar","connected":true}}"#);
     let liar = |most| format!(r#"[{{"name":"liar"}}{}]"#, (0..most).map(name).collect::<String>());
     // (there is more than a report may have; and then more than goes into one when it is passed on)
@@ -356,7 +362,7 @@ fn invented_agents_drive_nobody_out() {
 
 #[test]
 fn a_tree_is_as_deep_as_its_deepest_agent() {
-    let (now, mut root) = (Instant::now(), Below::default());
+    let (now, mut root) = (rignoldad::system::time(), Below::new(sha256));
     let mut hears = |name: &str, list: &[Seen]| {
         assert!(root.heard(name, &rignoldactl::report(list), now));
         root.depth()
@@ -376,7 +382,7 @@ fn a_chain_without_end_is_cut() {
     let name = |at: usize| if at == 0 { "liar".into() } else { format!("n{at}") };
     let parent = |at: usize| if at == 0 { "".into() } else { name(at - 1) };
     let chain: Vec<Seen> = (0..3_000).map(|at| seen(&name(at), &parent(at), true)).collect();
-    let (now, mut root) = (Instant::now(), Below::default());
+    let (now, mut root) = (rignoldad::system::time(), Below::new(sha256));
     assert!(root.heard("liar", &rignoldactl::report(&chain), now));
     let list = root.tree(&status("root", &["liar"]), now);
     assert_eq!((list.len(), depths(&list).pop()), (65, Some(64)));
@@ -392,7 +398,7 @@ fn a_chain_without_end_is_cut() {
 
 #[test]
 fn what_was_said_before_it_connected_counts_for_nothing() {
-    let (now, mut root) = (Instant::now(), Below::default());
+    let (now, mut root) = (rignoldad::system::time(), Below::new(sha256));
     let list = serde_json::to_vec(&[seen("a", "", true), seen("b", "a", true)]).unwrap();
     assert!(root.heard("a", &list, now));
     let mut above = status("root", &["a"]);
@@ -408,7 +414,7 @@ fn what_was_said_before_it_connected_counts_for_nothing() {
 /// counts in the end.
 #[test]
 fn of_what_comes_too_soon_the_last_is_read_when_its_time_has_come() {
-    let (now, mut root) = (Instant::now(), Below::default());
+    let (now, mut root) = (rignoldad::system::time(), Below::new(sha256));
     let after = |millis| now + Duration::from_millis(millis);
     let mut list: Vec<Seen> = (0..1_000).map(|at| seen(&format!("n{at}"), "a", true)).collect();
     list.insert(0, seen("a", "", true));
@@ -441,7 +447,7 @@ fn of_what_comes_too_soon_the_last_is_read_when_its_time_has_come() {
 
 #[test]
 fn what_is_harmless_is_no_lag() {
-    let mut list = tree(Instant::now());
+    let mut list = tree(rignoldad::system::time());
     (list[0].sequence, list[0].changed, list[3].applied, list[4].applied) = (30, 6, 4, 0);
     let text = tree_text(&list);
     let lag = |line: &str| line.split_whitespace().nth(1).map(String::from);
@@ -467,13 +473,14 @@ fn what_an_agent_says_of_its_program_is_short() {
         ("a", ""),
     ] {
         let bytes = format!(r#"[{{"name":"a","version":"{text}"}}]"#);
-        let (now, mut root) = (Instant::now(), Below::default());
+        let (now, mut root) = (rignoldad::system::time(), Below::new(sha256));
         assert!(root.heard("a", bytes.as_bytes(), now), "{text}");
         let version = root.tree(&status("root", &["a"]), now)[1].version;
         assert_eq!(rignoldactl::dotted::text(version), kept);
     }
-    let expires = |certificate_expires| Status { certificate_expires, ..Status::default() };
-    let soon = rignoldactl::unix_now() + rignoldactl::SOON;
+    let unix = rignoldactl::unix_now();
+    let expires = |certificate_expires| Status { certificate_expires, unix, ..Status::default() };
+    let soon = unix + rignoldactl::SOON;
     let said: [u64; 4] = [0, 1, soon - 60, soon + 60].map(|at| expires(at).seen().expires.into());
     assert_eq!(said, [0, 1, soon - 60, 0]);
 }
@@ -512,7 +519,7 @@ fn who_may_be_of_a_group_is_waited_for() {
 
 #[test]
 fn who_is_gone_for_good_is_left_out_until_it_is_back() {
-    let (now, mut root) = (Instant::now(), Below::default());
+    let (now, mut root) = (rignoldad::system::time(), Below::new(sha256));
     let list = [seen("a", "", true), seen("b", "a", false), seen("c", "b", false)];
     assert!(root.heard("a", &rignoldactl::report(&list), now));
     let names = |root: &Below| -> Vec<String> {
@@ -557,7 +564,7 @@ fn a_probe_says_what_an_agent_is_not() {
 /// What an agent says of what fails there takes one line, and no more of it than a report has.
 #[test]
 fn why_something_fails_stays_on_its_line() {
-    let (now, mut root) = (Instant::now(), Below::default());
+    let (now, mut root) = (rignoldad::system::time(), Below::new(sha256));
     let why = format!("colour: its file: a\nb\u{1b}[2J {}", "x".repeat(5_000));
     let list = [Seen { failing: 2, why, limit: 9, ..seen("a", "", true) }];
     assert!(root.heard("a", &rignoldactl::report(&list), now));

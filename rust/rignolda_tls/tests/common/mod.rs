@@ -8,16 +8,24 @@ use openssl::nid::Nid;
 use openssl::pkey::{PKey, Private};
 use openssl::x509::extension::{BasicConstraints, SubjectAlternativeName};
 use openssl::x509::{X509Builder, X509NameBuilder, X509};
-use rignolda::net::Address;
+use rignolda_machine::net::Address;
+use rignolda_machine::Time;
 use rignolda_tls::{Line, Listener, Maker, Tls};
 use std::fs;
 use std::io::{ErrorKind, Read, Write};
 use std::net::SocketAddr;
 use std::path::{Path, PathBuf};
+use std::sync::OnceLock;
 use std::time::{Duration, Instant};
 
 /// What does not come on a machine with much else to do does not come at all.
 pub const TIMEOUT: Duration = Duration::from_secs(60);
+
+/// When it is, as an agent's shell says it.
+pub fn time() -> Time {
+    static BEGUN: OnceLock<Instant> = OnceLock::new();
+    Time::after(BEGUN.get_or_init(Instant::now).elapsed())
+}
 
 pub struct Folder(pub PathBuf);
 

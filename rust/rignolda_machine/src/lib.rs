@@ -1,0 +1,47 @@
+//! What an agent of a tree decides, without sockets, files and clocks: all comes to it from
+//! outside, and what is to be done goes out.
+//!
+//! Each step of a link is a call of the proved library [`rignolda`]. Here is what an agent needs
+//! beside these: [`net`] are its connections, byte for byte, and the bodies of its items;
+//! [`settings`] are keys and values that travel so. What bodies say, which are published, taken and
+//! applied is asked of calls that are proved too; what is around all these is tested.
+//!
+//! When something comes is said by a [`Time`]. The crate has nothing of the standard library but
+//! what takes memory: so a compiler refuses a clock, a socket, a file or a thread in it.
+#![no_std]
+#![deny(unsafe_code)]
+#![warn(missing_debug_implementations)]
+
+extern crate alloc;
+#[cfg(any(test, feature = "trial"))]
+extern crate std;
+
+pub mod apply;
+pub mod below;
+pub mod came;
+pub mod config;
+pub mod control;
+pub mod machine;
+pub mod net;
+mod prelude;
+pub mod published;
+mod refused;
+pub mod repeats;
+pub mod restarts;
+pub mod root;
+pub mod settings;
+pub mod sha;
+pub mod standby;
+mod ticket;
+mod time;
+
+pub use refused::Refused;
+#[cfg(feature = "trial")]
+#[doc(hidden)]
+pub use rignolda::trial;
+pub use sha::Sha256;
+pub use ticket::Ticket;
+pub use time::Time;
+
+/// A line for the journal: what happened, and its words.
+pub type Fact = (&'static str, alloc::string::String);

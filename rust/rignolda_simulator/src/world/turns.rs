@@ -1,0 +1,277 @@
+//! What an agent does at a time, and what is done of what its machine asks for.
+use super::{Agent, Comes, World, BEGUN, RESTARTS};
+use crate::drawn;
+use crate::judge::Broken;
+use crate::lines::{line, Held};
+use crate::random::Random;
+use rignolda_machine::machine::{Act, Input};
+use rignolda_machine::net::{Address, Call, End};
+use std::io::Read;
+use std::panic::{catch_unwind, resume_unwind, AssertUnwindSafe};
+
+/// How often an agent has a turn at least, in milliseconds: systemd wants to hear of it.
+const WAKES: u64 = 15_000;
+/// How many turns of an agent take no time.
+const SPINS: u64 = 64;
+/// For how long an agent may have turns one after the other to which nothing comes, in
+/// milliseconds: spoilt memory is looked at each second or two.
+const BUSY: u64 = 5_000;
+
+impl World {
+    /// An agent does what there is to do.
+    pub(super) fn turn(&mut self, it: usize) -> Result<(), Broken> {
+        let clock = self.clock.now();
+        let agent = &mut self.agents[it];
+        if clock < agent.stopped {
+            let at = agent.stopped;
+            agent.busy = None;
+            self.plan(it, at);
+            return Ok(());
+        }
+        if agent.machine.is_none() {
+            return Ok(());
+        }
+        let is_ready = |it: &Held| !it.is_told && (it.end.is_ready() | it.end.is_over());
+        let ready = agent.lines.iter().filter(|(_, it)| is_ready(it));
+        let ready: Vec<u64> = ready.map(|it| *it.0).collect();
+        let later = agent.comes.split_off(&(clock + 1, 0));
+        let comes = std::mem::replace(&mut agent.comes, later);
+        let now = self.now(it);
+        let agent = &mut self.agents[it];
+        let is_due = agent.machine.as_ref().is_some_and(|it| it.until() <= now.at)
+            || clock >= agent.turned + WAKES;
+        if ready.is_empty() && comes.is_empty() && !is_due {
+            return self.rests(it);
+        }
+        let is_again = agent.turned == clock;
+        (agent.turned, agent.spins) = (clock, if is_again { agent.spins + 1 } else { 0 });
+        self.turns += 1;
+        ready.into_iter().for_each(|id| self.reads(it, id));
+        for what in comes.into_values() {
+            match what {
+                Comes::Line(line) => {
+                    let id = self.adds(it, line);
+                    self.step(it, Input::Accepted(id, End::default()));
+                }
+                Comes::Called(call, line) => {
+                    let made = line.map(|line| (self.adds(it, line), End::default()));
+                    let made = made.ok_or_else(|| "nobody is there".to_owned());
+                    self.step(it, Input::Called(*call, made));
+                }
+                Comes::Changed => self.step(it, Input::Changed),
+                Comes::Asked(ticket, request) => self.step(it, Input::Asked(ticket, request)),
+                Comes::Works(act) => {
+                    let is_root = matches!(*act, Act::Disk(_));
+                    let disk = &mut self.agents[it].disk;
+                    let done = disk.works(*act, &mut self.folder, clock);
+                    if is_root {
+                        self.judge.changed(&self.folder);
+                    }
+                    done.into_iter().for_each(|input| self.step(it, input));
+                }
+            }
+        }
+        if is_due {
+            self.step(it, Input::Tick);
+        }
+        self.is_busy(it)?;
+        // (what was asked for until then is under way now)
+        if std::mem::take(&mut self.agents[it].checks) {
+            if let Some(why) = self.shell_fault(it) {
+                self.agents[it].failed.get_or_insert(why.into());
+            }
+        }
+        let agent = &mut self.agents[it];
+        if let Some(machine) = &agent.machine {
+            self.judge.turn(it, machine, &mut agent.disk, clock)?;
+        }
+        if let Some(why) = self.agents[it].failed.take() {
+            self.judge.ends(it, &why)?;
+            self.end(it, false, RESTARTS);
+            return Ok(());
+        }
+        self.rests(it)
+    }
+
+    /// Whether it wants turn after turn for long, as if none were of any use.
+    fn is_busy(&mut self, it: usize) -> Result<(), Broken> {
+        let (now, clock) = (self.now(it).at, self.clock.now());
+        let agent = &mut self.agents[it];
+        let is_due = agent.machine.as_ref().is_some_and(|it| it.until() <= now);
+        agent.busy = is_due.then(|| agent.busy.unwrap_or(clock));
+        match agent.busy {
+            Some(since) if clock > since + BUSY => Err(format!("BUSY: n{it} is never done")),
+            _ => Ok(()),
+        }
+    }
+
+    fn rests(&mut self, it: usize) -> Result<(), Broken> {
+        let Some(machine) = &self.agents[it].machine else {
+            return Ok(());
+        };
+        let until = machine.until() - BEGUN;
+        let until = until.as_nanos().div_ceil(1_000_000) as u64;
+        let (agent, now) = (&self.agents[it], self.clock.now());
+        // (each turn takes a little)
+        let least = if agent.spins < SPINS { now } else { now + 1 };
+        self.plan(it, until.min(agent.turned + WAKES).max(least));
+        Ok(())
+    }
+
+    /// There is this line from now on: its number.
+    fn adds(&mut self, it: usize, line: crate::lines::End) -> u64 {
+        let agent = &mut self.agents[it];
+        agent.made += 1;
+        let version = self.drawn.speaks[it].min(self.drawn.speaks[line.from()]);
+        agent.lines.insert(agent.made, Held::new(line, version));
+        agent.made
+    }
+
+    /// Reads what there is of a line, and writes what can be written.
+    fn reads(&mut self, it: usize, id: u64) {
+        let mut space = [0; 4_096];
+        while let Some(held) = self.agents[it].lines.get_mut(&id) {
+            match held.end.read(&mut space) {
+                Ok(0) => {
+                    held.is_told = true;
+                    self.step(it, Input::Over(id, "the other end closed it"));
+                    break;
+                }
+                Ok(count) => self.step(it, Input::Bytes(id, &space[..count])),
+                Err(_) => break,
+            }
+        }
+        self.writes(it, id);
+        self.acts_of(it);
+    }
+
+    fn writes(&mut self, it: usize, id: u64) {
+        let held = self.agents[it].lines.get_mut(&id).filter(|it| it.has_output());
+        self.written.extend(held.and_then(Held::write).map(|done| (id, done.is_ok())));
+    }
+
+    /// What the machine is to know of its lines; those that it does not know are closed.
+    fn looks_at_lines(&mut self, it: usize) {
+        let Agent { lines, machine, comes, .. } = &mut self.agents[it];
+        let Some(machine) = machine else { return };
+        let is_call = |it: &&Comes| matches!(it, Comes::Called(..));
+        machine.calls = comes.values().filter(is_call).count() as u32;
+        lines.retain(|id, _| machine.peers.has_line(*id));
+        for id in machine.peers.lines() {
+            match lines.get(&id) {
+                None => self.written.push((id, false)),
+                Some(held) if !held.has_output() && machine.peers.sends(id) => {
+                    self.written.push((id, true));
+                }
+                Some(_) => (),
+            }
+        }
+    }
+
+    /// Something comes to an agent, and what follows from it is done.
+    pub fn step(&mut self, it: usize, input: Input<'_>) {
+        self.steps(it, input);
+        self.acts_of(it);
+    }
+
+    fn steps(&mut self, it: usize, input: Input<'_>) {
+        let now = self.now(it);
+        let Some(machine) = &mut self.agents[it].machine else { return };
+        let acts = &mut self.acts;
+        let steps = catch_unwind(AssertUnwindSafe(|| machine.step(now, input, acts)));
+        match steps {
+            Ok(()) => (),
+            Err(why) if !self.judge.may_end(it) => resume_unwind(why),
+            Err(_) => {
+                // (the process ends in the midst of it)
+                self.acts.clear();
+                let agent = &mut self.agents[it];
+                (agent.machine, agent.failed) = (None, Some("it panics".into()));
+                agent.lines.clear();
+                self.judge.panics();
+            }
+        }
+    }
+
+    /// What the machine asks for is done, and what follows from that.
+    pub(super) fn acts_of(&mut self, it: usize) {
+        while !self.acts.is_empty() || !self.written.is_empty() {
+            for act in std::mem::take(&mut self.acts) {
+                self.act(it, act);
+            }
+            for (id, done) in std::mem::take(&mut self.written) {
+                let over = Input::Over(id, "it is over");
+                self.steps(it, if done { Input::Sent(id) } else { over });
+            }
+        }
+    }
+
+    fn act(&mut self, it: usize, act: Act) {
+        match act {
+            Act::Send(id, chunk) => {
+                if let Some(held) = self.agents[it].lines.get_mut(&id) {
+                    held.says(chunk);
+                }
+                self.writes(it, id);
+            }
+            Act::Close(id) => drop(self.agents[it].lines.remove(&id)),
+            Act::Call(call) => self.call(it, call),
+            Act::Fact(fact, words) => {
+                if self.talks {
+                    eprintln!("{:>9} n{it} {fact} {words}", self.clock.now());
+                }
+                self.judge.fact(fact);
+            }
+            Act::Fail(why) => self.agents[it].failed = Some(why.into()),
+            Act::Restart => self.agents[it].failed = Some(String::new()),
+            Act::Answer(ticket, response) => {
+                let at = self.asked.iter().position(|(to, own, _)| (*to, *own) == (it, ticket));
+                match at {
+                    Some(at) => drop(self.asked.remove(at)),
+                    None => self.judge.answers_twice = true,
+                }
+                self.is_told(response);
+            }
+            Act::Begins => self.agents[it].shell.has_disk = true,
+            Act::Anew => {
+                self.agents[it].shell.has_disk = false;
+                self.agents[it].lines.clear();
+            }
+            Act::Check => {
+                self.agents[it].checks = true;
+                self.looks_at_lines(it);
+            }
+            Act::Turn(..) => (),
+            act => {
+                let clock = self.clock.now();
+                let at = self.agents[it].disk.takes(&act, self.drawn.files[it], clock);
+                self.comes(it, at - clock, Comes::Works(Box::new(act)));
+            }
+        }
+    }
+
+    /// Whether an agent is let in by another one.
+    pub(super) fn answers(&self, it: usize, to: usize) -> bool {
+        let is_apart = self.apart.contains(&[it.min(to), it.max(to)]);
+        let is_up = |it: &Agent| it.machine.is_some() && it.refuses <= self.clock.now();
+        self.agents.get(to).is_some_and(is_up) && !is_apart
+    }
+
+    /// A connection is made, after a look-up of its name sometimes, which may take seconds.
+    fn call(&mut self, it: usize, call: Call<Address>) {
+        let Some(to) = drawn::listens(&call.address) else {
+            return;
+        };
+        let random = &mut self.agents[it].random;
+        let most = random.of(&[1, 1, 1, 1, 1, 300, 8_000]);
+        let after = random.below(most);
+        if !self.answers(it, to) {
+            return self.comes(it, after, Comes::Called(Box::new(call), None));
+        }
+        self.lines += 1;
+        let random = Random::new(self.seed, "line", self.lines);
+        let [here, there] = line(&self.clock, [it, to], self.drawn.slow, random);
+        self.comes(it, after, Comes::Called(Box::new(call), Some(here)));
+        self.comes(to, after, Comes::Line(there));
+    }
+}
