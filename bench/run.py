@@ -1,21 +1,16 @@
 #!/usr/bin/env python3
-"""Measures `stab` on jobs of growing size: bench/run.py [--quick | --runs]
+"""Measures runs of worker threads of `stab`, in turn with the same tree of threads over channels
+(channels.rs, which rustc builds): bench/run.py
 
-Makes the jobs in bench/build/ (the same bytes each time), runs each job five times, and prints the
-median of the processor time, the events per second and the peak memory. Nothing is subtracted: a
-time is that of the whole process. It needs Debian's package time, and measures the program of
-./stab, or the one that PROGRAM_STAB names.
-
-With --runs it measures runs of worker threads instead, in turn with the same tree of threads over
-channels (channels.rs, which rustc builds): alone, and beside one busy loop for each processor.
-Linux gives each session a share of the processors, and within one each thread (see autogroup in
-sched(7)). So the loops are in sessions of their own, or in the one of the programs. It prints the
-medians of wall time, and of the ratios in turn. A run that has not delivered every item is named.
+It runs them alone, and beside one busy loop for each processor. Linux gives each session a share of
+the processors, and within one each thread (see autogroup in sched(7)). So the loops are in sessions
+of their own, or in the one of the programs. It prints the medians of wall time, and of the ratios
+in turn. A run that has not delivered every item is named. The program is that of ./stab, or the one
+that PROGRAM_STAB names. (Jobs without threads are measured by tests/hostile/largest.py.)
 """
 import contextlib
 import json
 import os
-import random
 import statistics
 import subprocess
 import sys
@@ -25,83 +20,11 @@ from pathlib import Path
 HERE = os.path.dirname(os.path.abspath(__file__))
 BUILD = f"{HERE}/build"
 sys.dont_write_bytecode = True
-sys.path[:0] = [f"{HERE}/../tools", f"{HERE}/../tests/hostile"]
-from largest import run  # noqa: E402
+sys.path.insert(0, f"{HERE}/../tools")
 from programs import built, options  # noqa: E402
 
-RUNS = 5
 TURNS = 7
 PATIENCE = 60  # seconds, of one run of worker threads
-MAX_TREE_STEPS = 900_000  # more do not fit a file of 16,777,216 bytes
-
-
-def full_start(draw, capacity, labels):
-    """A start with both queues full, and labels of which a quarter is out of range."""
-    def label():
-        return draw.randrange(65536) if draw.random() < 0.25 else draw.randrange(labels)
-    return {"frames": [[label(), 4_000_000_000 + i] for i in range(capacity)],
-            "acks": [label() for _ in range(capacity)], "send": label(), "recv": label()}
-
-
-def acts(draw, capacity):
-    """The acts of one noisy round: a name, and of a loss the place."""
-    for name in ("send_frame", "recv_frame", "send_ack", "recv_ack"):
-        for _ in range(1 + draw.randrange(1 + capacity // 4)):
-            keep = name.startswith("recv") and draw.random() < 0.1
-            yield [name + "_keep" * keep]
-        if name.startswith("send") and draw.random() < 0.1:
-            yield [name.replace("send", "lose"), draw.randrange(capacity)]
-
-
-def link_job(capacity, count):
-    """A link job of so many events over a full start."""
-    draw, labels, events, item = random.Random(capacity), 2 * capacity + 2, [], 0
-    start = full_start(draw, capacity, labels)
-    while len(events) < count:
-        events.append(["offer", item])
-        item += 1
-        events += [act if len(act) > 1 else act[0] for act in acts(draw, capacity)]
-    return {"capacity": capacity, "labels": labels, "start": start, "events": events[:count]}
-
-
-def tree_job(count, capacity=4):
-    """A tree of 64 nodes under a schedule of so many steps."""
-    draw, labels = random.Random(64), 2 * capacity + 2
-    names = ["r"] + [format(i, "x") for i in range(1, 64)]
-    nodes = [{"name": "r"}] + [
-        {"name": names[i], "parent": names[max(0, i - 1 - draw.randrange(8))]} for i in range(1, 64)
-    ]
-    steps = []
-    while len(steps) < count:
-        child = names[1 + draw.randrange(63)]
-        steps += [[child, "offer"]] * 4 + [[child, *act] for act in acts(draw, 1)]
-    return {"capacity": capacity, "labels": labels, "tree": nodes,
-            "items": list(range(min(10_000, count // 10))),
-            "starts": [full_start(draw, capacity, labels) for _ in range(63)],
-            "schedule": steps[:count]}
-
-
-def scripts_job():
-    """Two nodes, and one script of 100,000 letters in each of its four lists."""
-    script = {"frames_out": "PDE" * 33_333 + "P", "frames_in": "TK" * 50_000}
-    script |= {"acks_out": script["frames_out"], "acks_in": script["frames_in"]}
-    nodes = [{"name": "r"}, {"name": "a", "parent": "r"}]
-    return {"capacity": 1, "labels": 4, "tree": nodes, "items": [], "scripts": [script]}
-
-
-def jobs(quick):
-    """Yields the command, the job's name, how many events it has, and what makes it."""
-    sizes = (1_000, 10_000, 100_000, 1_000_000)[:3 if quick else 4]
-    for capacity in (1, 8, 64):
-        for count in sizes:
-            name = f"link of capacity {capacity}"
-            yield "link", name, count, lambda c=capacity, n=count: link_job(c, n)
-    for count in sizes:
-        count = min(count, MAX_TREE_STEPS)
-        yield "tree", "64 nodes", count, lambda n=count: tree_job(n)
-    yield "tree", "64 nodes, no schedule", 0, lambda: tree_job(0)
-    yield "tree", "4 x 100,000 letters", 400_000, scripts_job
-
 
 # Of each run of worker threads the name, the number of items, and the places of the parents of all
 # nodes but the first.
@@ -147,7 +70,7 @@ def measure_runs(program):
     print(f"{'run':18} {'beside':15} {'channels ms':>11} {'locks':>8} {'ratio':>6} {'words':>8} "
           f"{'ratio':>6}")
     for name, items, parents in THREADS:
-        path = path_of("run", name, items, lambda: run_job(items, parents))
+        path = path_of(name, items, parents)
         full = f" received {items} acked ".encode()
         has_all = lambda said: said.count(full) == len(parents) + 1
         columns = [([channels, str(items), *map(str, parents)], lambda _: True),
@@ -169,34 +92,20 @@ def measure_runs(program):
             print(line, flush=True)
 
 
-def path_of(command, name, count, job):
+def path_of(name, items, parents):
     """The file of a job, made where it is not there yet."""
-    path = Path(BUILD, f"{command} {name} {count}.json".replace(" ", "_").replace(",", ""))
+    path = Path(BUILD, f"run {name} {items}.json".replace(" ", "_"))
     if not path.exists():
-        path.write_text(json.dumps(job(), separators=(",", ":")))
+        path.write_text(json.dumps(run_job(items, parents), separators=(",", ":")))
     return path
 
 
 def main():
-    chosen = options(quick=False, runs=False)
+    options()
     os.makedirs(BUILD, exist_ok=True)
-    program = built("stab", BUILD)
     load = os.getloadavg()[0]
     print(f"{time.strftime('%Y-%m-%d')}, {os.cpu_count()} processors, load {load:.1f}")
-    if chosen.runs:
-        measure_runs(program)
-        return
-    print(f"{'job':24} {'events':>9} {'MB':>6} {'ms':>8} {'events/s':>11} {'peak MB':>8}")
-    for command, name, count, job in jobs(chosen.quick):
-        path = path_of(command, name, count, job)
-        _, times, peaks, statuses, _ = zip(*(run(program, [command], path) for _ in range(RUNS)))
-        if any(statuses):
-            print(f"{name:24} {count:9} refused")
-            continue
-        seconds = statistics.median(times)
-        rate = f"{count / seconds:11.0f}" if seconds and count else f"{'-':>11}"
-        print(f"{name:24} {count:9} {path.stat().st_size / 1e6:6.2f} {seconds * 1000:8.1f} {rate} "
-              f"{max(peaks) / 2**20:8.1f}")
+    measure_runs(built("stab", BUILD))
 
 
 if __name__ == "__main__":

@@ -15,14 +15,12 @@ import tempfile
 from concurrent.futures import ThreadPoolExecutor
 from pathlib import Path
 
-TOP = Path(__file__).resolve().parent.parent
-sys.path[:0] = [str(TOP / part) for part in ("tools", "tests/daemon", "tests/library")]
-import check_tables  # noqa: E402
-import debian  # noqa: E402
-import static  # noqa: E402
-from compare import runs  # noqa: E402
-from programs import Cases, kept, ran  # noqa: E402
-from tables import stab_examples  # noqa: E402
+from programs import TOP, Cases, kept, ran
+import check_tables
+import debian
+import static
+from compare import runs
+from tables import stab_examples
 
 # One of so many rows is drawn, besides the examples.
 OF_ROWS = 10

@@ -13,22 +13,21 @@ import sys
 import tempfile
 from pathlib import Path
 
-TOP = Path(__file__).resolve().parent.parent
-sys.path.insert(0, str(TOP / "tools"))
-from programs import Cases, ran  # noqa: E402
+from programs import TOP, Cases, ran
+
 
 OFFLINE = "--offline", "--locked", "--quiet"
-DAEMON = ("-p", "rignoldad", "-p", "rignoldactl", "-p", "rignolda_redis", "-p", "rignolda_tls",
-          "-p", "rignolda_simulator")
+DAEMON = ("-p", "rignolda_machine", "-p", "rignoldad", "-p", "rignoldactl", "-p", "rignolda_redis",
+          "-p", "rignolda_tls", "-p", "rignolda_simulator")
 # The library's crate stands outside, and needs no other; so it is not built in rust/, where the
 # settings of cargo name those of Debian.
 LIBRARY = "--manifest-path", "rust/rignolda/Cargo.toml"
 APART = "--target-dir", "rust/target/library"
 # Tests that are built once, and not looked into, need nothing for a next build or a debugger.
 ONCE = {"CARGO_INCREMENTAL": "0", "CARGO_PROFILE_DEV_DEBUG": "0"}
-SOURCES = ("rignoldad/src", "rignoldad/tests", "rignoldactl/src", "rignoldactl/tests",
-           "rignolda_redis/src", "rignolda_simulator/src", "rignolda_tls/src",
-           "rignolda_tls/tests")
+SOURCES = ("rignolda_machine/src", "rignolda_machine/tests", "rignoldad/src", "rignoldad/tests",
+           "rignoldactl/src", "rignoldactl/tests", "rignolda_redis/src", "rignolda_simulator/src",
+           "rignolda_tls/src", "rignolda_tls/tests")
 
 
 def of_sources(cases):
@@ -43,7 +42,11 @@ def of_sources(cases):
             cases.works(f"the form, {name}", "cargo", "fmt", *words, "--check", cwd=at)
     cases.works("simulated trees keep what the pages promise", "cargo", "run", "--profile",
                 "simulate", *OFFLINE, "-p", "rignolda_simulator", "--", "runs=60", cwd="rust")
-    long = [f"{file}: {line}" for part in SOURCES for file in Path("rust", part).glob("*.rs")
+    # (what a process does with spoilt memory, it does without the checks of a debug build)
+    cases.works("simulated trees recover from any field of memory", "cargo", "run", "--profile",
+                "spoil", *OFFLINE, "-p", "rignolda_simulator", "--", "class=fields", "runs=32",
+                cwd="rust")
+    long = [f"{file}: {line}" for part in SOURCES for file in Path("rust", part).rglob("*.rs")
             for line in file.read_text().splitlines() if len(line) > 100]
     cases.holds("no line is longer than 100 characters", not long, "\n".join(long))
 

@@ -17,13 +17,9 @@ The programs are those of check_tables.py. The last line is 'N passed, M failed'
 import json
 import re
 import sys
-from pathlib import Path
 
-TOP = Path(__file__).resolve().parent.parent
-sys.path.insert(0, str(TOP / "tools"))
-
+from programs import TOP, answered, counted, run_with
 from faults.reference import Link
-from programs import answered, counted, run_with
 
 DATA = TOP / "crates/gate_checks/data"
 PAGE = TOP / "docs/PROTOCOL.md"

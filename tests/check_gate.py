@@ -9,6 +9,7 @@ import re
 import sys
 
 from house import TOP, House, remove
+from programs import paragraphs
 
 house = House()
 house.bring("gate", "tools/costs.py", "tools/crates.py", "tools/programs.py", "tools/running.py")
@@ -69,30 +70,9 @@ for at in range(len(SCRIPTS)):
 script(0, "echo 5 passed, 0 failed")
 house.command("tests/try_edits.py", 'echo "$PWD: edits $*"; echo 0 passed, 0 failed')
 pages_and_release()
-for first, second, last, name in (
-        (*PARTS, "352 passed, 0 failed", "the counts of all parts are added"),
-        ("echo 299 passed, 1 failed; exit 1", PARTS[1], "351 passed, 1 failed",
-         "a failure of the first part fails"),
-        (PARTS[0], "echo 40 passed, 2 failed; exit 1", "350 passed, 2 failed",
-         "failures of the second part fail"),
-        ("echo 08 passed, 3 failed; exit 1", "echo 1 passed, 09 failed; exit 1",
-         "19 passed, 12 failed", "failures of both parts are added"),
-        ("echo 0 passed, 1 failed; exit 2", "echo 0 passed, 1 failed; exit 1",
-         "10 passed, 2 failed", "after a first part that stopped the second one is still run"),
-        (f"{PARTS[0]}; exit 1", PARTS[1], "352 passed, 1 failed",
-         "a status that no count explains is a failure"),
-        ("echo 300 passed, 1 failed", PARTS[1], "352 passed, 1 failed",
-         "a failure with status 0 is a failure"),
-        ("echo nothing", PARTS[1], "52 passed, 1 failed",
-         "a first part without a count is a failure"),
-        (PARTS[0], "exit 0", "310 passed, 1 failed", "a second part without a count is one"),
-        (f"{PARTS[0]}; echo more", PARTS[1], "52 passed, 1 failed",
-         "a count that is not in the last line does not count"),
-        (f"{PARTS[0]}, 1 lost", PARTS[1], "52 passed, 1 failed",
-         "nor does a line of another form"),
-        ("kill -KILL $$", PARTS[1], "52 passed, 1 failed", "a part that is killed is one")):
-    run(first, second)
-    holds(name, gave(last))
+for it in paragraphs(TOP / "tests/houses/gate"):
+    run(*(it.get(word, [usual])[0] for word, usual in zip(("first", "second"), PARTS)))
+    holds(it["name"][0], gave(it["last"][0]))
 script(1, "kill -KILL $$")
 run()
 holds("and so is one beside others", gave("352 passed, 1 failed"))
@@ -243,7 +223,7 @@ remove(house.top / "tests/edits")
 
 # Planted bugs that are tried apart, of a crate of four functions. The prover is a command that goes
 # by what a body says.
-house.bring("tests/edits.py", "tests/try_edits.py", "tools/programs.py")
+house.bring("tests/edits.py", "tests/try_edits.py", "tests/programs.py")
 house.write("crates.txt", "low:\n")
 house.write("crates/low/src/lib.rt", """\
 pub fn one() { first }
@@ -292,31 +272,13 @@ def tried(name, last, steps, edits, *words, folder="edits"):
     holds(name, ended(last) and house.read("steps") == "".join(f"check {it}\n" for it in steps))
 
 
-ONE, TWO, THREE = " --only one", " --only Cup::two", " --only CupFromFull::three"
-FIRST = "first", "wrong"
-tried("bugs of several functions are tried together", "3 passed, 0 failed",
-      [TWO + THREE + ONE], [FIRST, ("second", "wrong"), ("third", "wrong")])
-tried("and those of one function one after the other", "2 passed, 0 failed", [ONE, ONE],
-      [FIRST, ("{ first", "{ also_wrong; first")])
-tried("one that is still proved fails", "0 passed, 1 failed", [ONE], [("first", "right")])
-holds("and is named", "\nFAILED low/a: " in f"\n{house.ended.out}")
-for name, word in ("as the one that it is", "right"), (
-        "also where another one keeps it from being proved", "rests"):
-    tried(name, "1 passed, 1 failed", [TWO + ONE, TWO], [FIRST, ("second", word)])
-tried("so does one whose function only calls another one that is refused", "0 passed, 1 failed",
-      [ONE], [("first", "calls")])
-tried("but one that is refused in a closure of its function is refused", "2 passed, 0 failed",
-      [TWO + ONE], [("first", "inside"), ("second", "inside")])
-tried("or whose proof names what is gone", "0 passed, 1 failed", [ONE], [("first", "gone")])
-tried("and one that cannot be applied", "1 passed, 1 failed", [TWO],
-      [("{ second }", "{ second } // wrong"), ("no_such", "wrong")])
-tried("one that is in no function is tried in the whole crate", "1 passed, 0 failed", [""],
-      [("= 4", "= 5 wrong")])
-tried("those that are tried by hand", "1 passed, 0 failed", [ONE], [FIRST], "--more", "low",
-      folder="more_edits")
-tried("controls are proved, and where one is not, each is tried alone", "1 passed, 1 failed",
-      [TWO + ONE, ONE, TWO], [("first", "right"), ("second", "wrong")], "--controls", "low",
-      folder="controls")
+for it in paragraphs(TOP / "tests/houses/edits"):
+    (words,), (folder,) = it.get("words", [""]), it.get("folder", ["edits"])
+    tried(it["shows"][0], it["last"][0], [
+        "".join(f" --only {name}" for name in step.split()) for step in it["step"]],
+        [edit.split(" | ") for edit in it["edit"]], *words.split(), folder=folder)
+    for text in it.get("says", []):
+        holds("and is named", f"\n{text}" in f"\n{house.ended.out}")
 holds("a crate that is not listed is refused",
       house.run(house.top / "tests/try_edits.py", "no_such").status == 2)
 

@@ -7,12 +7,9 @@ made from the crates. The last line is 'N passed, M failed'.
 import itertools
 import re
 import sys
-from pathlib import Path
 
-TOP = Path(__file__).resolve().parent.parent
-sys.path.insert(0, str(TOP / "tools"))
-from faults.reference import ROUND, Link, Tree, reading_round  # noqa: E402
-from programs import Cases  # noqa: E402
+from programs import TOP, Cases
+from faults.reference import ROUND, Link, Tree, reading_round
 
 TESTS = (TOP / "crates/tests_protocol/src/rounds.rt").read_text()
 

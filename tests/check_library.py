@@ -15,12 +15,10 @@ import sys
 import tempfile
 from pathlib import Path
 
-TOP = Path(__file__).resolve().parent.parent
-sys.path[:0] = [str(TOP / "tools"), str(TOP / "tests/library")]
-import try_check_report  # noqa: E402
-from compare import drawn, runs  # noqa: E402
-from crates import clang  # noqa: E402
-from programs import Cases, ran  # noqa: E402
+from programs import TOP, Cases, paragraphs, ran
+import try_check_report
+from compare import drawn, runs
+from crates import clang
 
 ARCHIVES = "crates/stab_c/out/libstab_c.a", "release/librignolda.a", "release/libstab_c.a"
 CARGO = "rust/rignolda/Cargo.toml"
@@ -28,18 +26,6 @@ WARNED, INLINE = ("-Wall", "-Wextra", "-Werror"), "-DRIGNOLDA_INLINE"
 IN_C = "-std=gnu11", "-O2", *WARNED
 # The rows of the header's table of what to call when nothing comes: each of them is needed.
 ROWS = "connection", "number", "child", "sender", "receiver", "list"
-# What is said to somebody who gives other words to agents/run_tree than it takes.
-REFUSED = (
-    ("a capacity of 3", "invalid choice: 3 (choose from 1, 2, 4, 8, 16, 32, 64)", "--capacity",
-     "3"),
-    ("too few labels", "with a capacity of 4 a link has 10 to 1000 labels",
-     "--capacity", "4", "--labels", "9"),
-    ("no agents", "a tree has 1 to 64 agents", "--agents", "0"),
-    ("a folder that is there", "File exists: '{room}'", "--keep", "{room}"),
-    ("a folder that cannot be made", "Not a directory: '{room}/file/it'", "--keep",
-     "{room}/file/it"),
-    ("no program", "is no program: `make -C agents run` builds one", "--agent", "{room}/none"),
-)
 
 
 class Library(Cases):
@@ -112,8 +98,9 @@ class Library(Cases):
         """What is tested without a compiler."""
         self.has_none("the checker of reports", try_check_report.wrong())
         (self.room / "file").touch()
-        for name, text, *words in REFUSED:
-            words = [it.format(room=self.room) for it in words]
+        for it in paragraphs(TOP / "tests/library/refused"):
+            (name,), (text,), (words,) = it["name"], it["says"], it["words"]
+            words = [it.format(room=self.room) for it in words.split()]
             status, said = ran("agents/run_tree", "--agent", "/bin/sh", *words)
             last = said.rstrip("\n").rpartition("\n")[2]
             self.holds(f"agents: {name}", status == 2 and "run_tree: error: " in last
@@ -155,10 +142,11 @@ class Library(Cases):
         self.in_both("the kit", "100000 1", [*words, self.archive])
         self.has_all_calls()
         self.by_python()
-        for name, part in ("librignolda.a", ""), ("librignolda_settings.a", "-settings"):
+        for name, file in (("librignolda.a", "rignolda/lib/{}-linux.a"),
+                           ("librignolda_settings.a", "rignolda_machine/lib/{}-linux-settings.a")):
             for machine, folder in ("x86_64", ""), ("aarch64", "arm64/"):
                 self.works(f"the crate for Rust has {folder}{name} of the release", "cmp",
-                           f"rust/rignolda/lib/{machine}-linux{part}.a", f"release/{folder}{name}")
+                           f"rust/{file.format(machine)}", f"release/{folder}{name}")
         self.works("all of the archive needs nothing else", clang()[0], "-nostdlib", "-static",
                    "-fuse-ld=lld", "-Wl,--whole-archive", self.archive,
                    "-Wl,-e,rignolda_params_check", "-o", self.room / "alone")

@@ -20,36 +20,17 @@ import json
 import random
 import sys
 from concurrent.futures import ThreadPoolExecutor
-from pathlib import Path
 
-TOP = Path(__file__).resolve().parent.parent
-sys.path[:0] = [str(TOP / part) for part in ("tests/daemon", "tools")]
-
+from programs import answered, counted, run_with
 import long
 from faults.logs import delivered, strays_of, text_of
 from jobs import asked, drawn_tree, spoilt_items
-from programs import answered, counted, run_with
 from tables.reader import begin, tree_of
+from tables.rows import told
 
 TREE = [{"name": "r"}, {"name": "a", "parent": "r"}]
 JOB = {"capacity": 1, "labels": 4, "tree": TREE, "items": [10, 11]}
-SHAPE, LISTS, PLACES = (f"rignolda: logs: wrong {what}\n"
-                        for what in ("shape", "number of lists", "number of places"))
-PLACE = "rignolda: logs: a place past the end of the items\n"
-REFUSED = [
-    ({}, SHAPE), ({"received": None}, SHAPE), ({"received": [[], 1]}, SHAPE),
-    ({"received": [[], ["x"]]}, SHAPE), ({"received": [[], [4294967296]]}, SHAPE),
-    ({"received": [[], []], "from": 1}, SHAPE), ({"received": [[], []], "from": [0, -1]}, SHAPE),
-    ({"received": [[]], "from": ["x"]}, SHAPE), ({"received": []}, LISTS),
-    ({"received": [[], [], []]}, LISTS), ({"received": [[]], "from": [0]}, LISTS),
-    ({"received": [[], []], "from": [0]}, PLACES), ({"received": [[], []], "from": []}, PLACES),
-    ({"received": [[], []], "from": [0, 3]}, PLACE),
-    ({"received": [[], []], "from": [3, 0]}, PLACE),
-    ({"received": [[], []], "from": [0, 65536]}, PLACE),
-    ({"received": [[], []], "from": [4294967295, 0]}, PLACE),
-    ({"received": [[], []], "from": [0, 4294967296]}, SHAPE),
-    ({"received": [[], []], "capacity": 65}, "rignolda: job: capacity out of range\n"),
-]
+REFUSED = [(json.loads(row.given), row.err) for row in told("judge")]
 
 
 def spoiled(draw, received, top):
@@ -148,7 +129,7 @@ def tried(file):
     cases = [drawn(draw, file, at % 2) for at in range(count)]
     runs = list(of_runs(draw))
     wanted = [(0 if text == "obeys\n" else 1, text, "") for _, text in cases]
-    cases += [({**JOB, **members}, text) for members, text in REFUSED]
+    cases += REFUSED
     wanted += [(1, "", text) for _, text in REFUSED]
     with ThreadPoolExecutor(2) as pool:
         judged = lambda case: answered(file, "judge", given=case[0], timeout=600)
@@ -162,8 +143,8 @@ def tried(file):
              for (job, _), has, want in zip(cases + runs, said, wanted)]
     tried += [(f"explain: {json.dumps(job)}", finds(file, job), text.startswith("rignolda: "))
               for job, text in cases[:count:10] + cases[count:] if "received" in job]
-    tried += [(f"agents: {name}", long.judged(file, *parts, broken=[*broken, ()][0]), want)
-              for name, parts, want, *broken in long.CASES]
+    tried += [(f"agents: {name}", long.judged(file, *parts, broken=broken), want)
+              for name, parts, want, broken in long.CASES]
     return counted(((name, None if has == want else f"{has}\nwanted {want}")
                     for name, has, want in tried), quiet=True)
 

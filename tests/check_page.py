@@ -26,12 +26,10 @@ from unittest.mock import ANY
 
 import websocket
 
-TOP = pathlib.Path(__file__).resolve().parent.parent
-sys.path[:0] = [str(TOP / "tools"), str(TOP / "agents")]
-from check_drawn import blocks, cut, is_head  # noqa: E402
-from check_report import parts_of  # noqa: E402
-from jobs import drawn_link, drawn_tree  # noqa: E402
-from programs import Cases, answered, built, options, ran  # noqa: E402
+from programs import TOP, Cases, answered, built, options, ran
+from check_drawn import blocks, cut, is_head
+from check_report import parts_of
+from jobs import drawn_link, drawn_tree
 
 PAGE = TOP / "page" / "index.html"
 DATA = TOP / "crates" / "gate_checks" / "data"
@@ -264,24 +262,9 @@ SOLVED_TREES = [on(A, ROUND) + on(B, ROUND[:3]), on(A, ROUND[2:3]) + on(B, ROUND
 
 # Of each step of the proof, worked out by hand: how many events have happened, the labels that are
 # nowhere then, how many items are missing, and what is marked.
-PROOF = [(0, [3], 0, "frames"), (0, [3], 0, "acks"), (0, [3], 0, "recv"), (0, [3], 0, "send"),
-         (0, [3], 0, "free"), (0, [3], 0, "labels"), (1, [3], 0, "send acks"),
-         (2, [0, 3], 1, "send"), (3, [0, 3], 1, "recv acks"), (5, [0, 3], 2, "send"),
-         (6, [0, 1, 3], 2, "recv"), (9, [0, 1, 3], 3, "send free"),
-         (9, [0, 1, 3], 3, "frames recv acks"), (10, [0, 1, 3], 3, "send next"),
-         (1, [3], 0, "acks"), (2, [0, 3], 0, "acks"), (5, [1, 2, 3], 0, "frames recv"),
-         (7, [1, 2, 3], 0, "send"), (10, [0, 1, 3], 3, "frames recv acks"),
-         (11, [0, 1], 3, "frames"), (12, [0, 1, 3], 3, "frames"), (14, [0, 1], 3, "recv acks"),
-         (15, [0, 1], 3, "send acks"), (16, [0, 1, 2], 3, "frames recv"),
-         (17, [0, 1, 2], 3, "recv"), (19, [0, 1, 2], 3, "acks"),
-         (20, [0, 1, 2], 3, "frames recv acks"), (21, [0, 1, 2], 3, "send"),
-         (21, [0, 1, 2], 3, "frames recv acks"), (22, [0, 1, 2], 3, "send next"),
-         (24, [1, 2, 3], 3, "frames recv"), (26, [1, 2, 3], 3, "send"),
-         (31, [0, 2, 3], 3, "send next"), (31, [0, 2, 3], 3, ""), (0, [], 0, "labels"),
-         (9, [0, 1], 3, "send"), (10, [0, 1], 3, "send next"), (10, [0, 1], 3, "free"),
-         (14, [1, 2], 3, "send"), (0, [], 0, "labels"), (4, [], 1, "recv"),
-         (7, [], 2, "frames send"), (10, [], 3, "send"), (12, [0], 2, "recv acks"),
-         (14, [0], 3, "send"),]
+PROOF = [(int(events), [*map(int, labels.split())], int(missing), marks.strip())
+         for events, labels, missing, marks in (
+             line.split("|") for line in (TOP / "tests/page_proof").read_text().splitlines())]
 # how many steps the parts have, and the labels and what is delivered at the end of each
 PROOF_PARTS = [(6, 4, []), (8, 4, [99]), (4, 4, [99, 10]), (10, 4, [99, 13]),
                (6, 4, [99, 13, 14, 15]), (5, 3, [99, 13]), (6, 2, [99, 11])]

@@ -4,156 +4,24 @@ own, and touches nothing else. The last line is 'N passed, M failed'.
 """
 import sys
 
-from house import House, remove
+from house import TOP, House, house_of, remove
+from programs import paragraphs
 
 house = House()
 holds, top, write = house.holds, house.top, house.write
-CUP = """\
-/// A cup, which [`Cup::fill`](Cup::fill) fills.
-pub struct Cup {
-    level: u16,
-}
-
-impl Cup {
-    /// Fills the cup.
-    pub fn fill(
-        &mut self,
-        by: u16,
-    ) -> bool
-        requires { by ≤ 3 }
-        ensures full { IfOk result (λ x. record {
-          level = 3;
-        }) }
-        // A refusal
-        // changes nothing.
-        ensures kept { self.new ≡ self.old }
-    {
-        self.pour(by)
-    }
-
-    /// How full it is.
-    pub fn level(&self) -> u16 {
-        self.level
-    }
-
-    /// Nobody else calls it.
-    fn pour(&mut self, by: u16) -> bool
-        ensures hidden { ⊤ }
-    {
-        true
-    }
-}
-
-/// What pours.
-pub trait Pours {
-    /// Pours once.
-    fn once(&self)
-        ensures poured { 1 ≡ 1 };
-}
-
-impl Pours for Cup {
-    fn once(&self)
-        ensures more { 1 ≡ 1 }
-    {}
-}
-"""
-LIB = """\
-//! The lowest layer.
-mod cup;
-mod export;
-pub mod laws;
-pub use cup::{Cup, Pours};
-"""
-README = """\
-# A page
-
-## Of `cups`, and more
-
-See `Cup::fill.full`, `.kept` and `laws::cups_are_cups` in `specs/Cups.antt`,
-`IsFull.level`, [here](#of-cups-and-more) and [there](docs/LAYERS.md#low).
-```
-`Cup::fill.no_such`
-```
-"""
-CLAIMS = """\
-## `low`
-
-The lowest layer.
-
-### Claims
-
-**`Cup`** A cup, which `Cup::fill` fills.
-
-**`Cup::fill`** `(&mut self, by: u16) -> bool` Fills the cup.
-
-- *requires* `by ≤ 3`
-- `.full` `IfOk result (λ x. record { level = 3; })`
-- *A refusal changes nothing.*
-- `.kept` `self.new ≡ self.old`
-
-**`Cup::level`** `(&self) -> u16` How full it is. *No clause, tested.*
-
-**`Pours`** What pours.
-
-**`Pours::once`** `(&self)` Pours once.
-
-- `.poured` `1 ≡ 1`
-
-**`Cup::once`** `(&self)` As `Pours` says.
-
-- `.more` `1 ≡ 1`
-
-**`low_fill`** `(cup: &mut Cup)` Fills a cup from C.
-
-- `.filled` `1 ≡ 1`
-
-**`laws::cups_are_cups`** `()` A law.
-
-- `1 ≡ 1`
-
-**`laws::cups_are_round`** `()` A law that says nothing. *No clause, tested.*
-
-- `⊤`
-
-| Definitions | What they say |
-|---|---|
-| `Cups.antt` | What a cup is. It is round. |
-
-**`IsFull`** `(level : ℕ) (cup : Cup)`
-
-- `.level` `⊤ × ⊤`
-- `.cup` `⊤`
-
-Planted bugs: `cup_with_a_hole`, `cup_without_bottom`.
-"""
 # By the path of each file of the house its text: a crate with a type, a trait, laws and a private
-# function, and two pages.
-FILES = {
-    "crates.txt": "# crates\nlow may_wait=1: thiserror\n",
-    "crates/low/src/lib.rt": LIB,
-    "crates/low/src/cup.rt": CUP,
-    "crates/low/src/export.rt": '/// Fills a cup from C.\n#[unsafe(no_mangle)]\npub extern "C" fn '
-    "low_fill(cup: &mut Cup)\n    ensures filled { 1 ≡ 1 }\n{}\n",
-    "crates/low/src/laws.rt": "".join(
-        f"/// A law{more}.\npub fn cups_are_{name}()\n    ensures {{ {clause} }}\n{{}}\n"
-        for more, name, clause in (("", "cups", "1 ≡ 1"), (" that says nothing", "round", "⊤"))),
-    "crates/low/specs/Cups.antt": "-- What a cup is.\n-- Source: this project's own; it is round.\n"
-    "use X\n\npub record IsFull (level : ℕ)\n    (cup : Cup) : Type 0 where\n  -- (always)\n"
-    "  pub level : ⊤\n      × ⊤\n  pub cup : ⊤\n",
-    "crates/low/proofs/Lib.antt": "-- Of cups.\n",
-    "crates/low/must-fail/cup_without_bottom.edit": "file: src/cup.rt\n",
-    "tests/edits/low/cup_with_a_hole.edit": "file: src/cup.rt\n",
-    "docs/LAYERS.md": "# Layers\n\n## low\n",
-    "README.md": README,
-}
+# function, and two pages; and what the page of claims has to say of them.
+*FILES, (_, CLAIMS) = house_of("pages")
+README, CUP, LIB = (dict(FILES)[it] for it in (
+    "README.md", "crates/low/src/cup.rt", "crates/low/src/lib.rt"))
 
 
 def make_house(more=()):
     """Makes the house anew, with more files."""
     remove(top)
-    house.bring("tools/pages.py", "tools/crates.py", "tools/programs.py", "tests/edits.py",
-                "tests/duplicates.py")
-    for path, text in {**FILES, **dict(more)}.items():
+    house.bring("tools/pages.py", "tools/claims_head", "tools/crates.py", "tools/programs.py", *(
+        f"tests/{it}.py" for it in ("programs", "edits", "duplicates")))
+    for path, text in {**dict(FILES), **dict(more)}.items():
         write(path, text)
 
 
@@ -215,31 +83,19 @@ def prove(name, function, clause, *faults, line="All is said."):
     pages(name, 3 - bool(faults), *faults)
 
 
-for clause in "OnErr result (cup.new ≡ cup.old)", "cup.new ≡ washed cup.old result":
+OF, = paragraphs(TOP / "tests/houses/clauses")
+for clause in OF["leaves"]:
     prove(f"a clause says what a refusal leaves ({clause})", CHANGES, clause)
-for clause in "OnOk result (cup.new ≡ cup.old)", "cup.new.level ≡ cup.old.level", "1 ≡ 1":
+for clause in OF["not leaves"]:
     prove(f"and where none does, the proof has to say so ({clause})", CHANGES, clause,
           "docs/PROOF.md:0: low::wash: no clause says what a refusal leaves of what it is lent, "
           f"and the sentence {STAYS} does not name it: {SILENT}")
     for name in "wash", "low::wash", "wa*":
         prove(f"by its name ({name}; {clause})", CHANGES, clause,
               line=f"{STAYS} of `{name}`. And `Cup::fill`.")
-for clause in (
-        "MatchResult result (λ _. ⊤) (λ fault. 1 ≡ 1)", "IfErr result (IsReason by)",
-        "let much = by in IfErr result (IsReason much)",
-        "IfErr result (λ fault. fault ≢ WashFault.Memory → wash by ≡ Err fault)",
-        "result ≡ wash by",
-        "IfErr result (λ fault. (fault ≡ WashFault.Write) ⊎ (fault ≡ WashFault.Memory))",
-        "IfErr result (λ fault. IsFault by fault)", "OnErr result (by ≢ 1)",
-        "IfErr result (λ fault. fault ≢ WashFault.Memory → (at : ℕ) → wash by ≢ at)",
-        "IfErr result (λ fault. (at : ℕ) → fault ≡ WashFault.Other at → IsDirty at)"):
+for clause in OF["why"]:
     prove(f"a clause says why ({clause})", REFUSES, clause)
-for clause in (
-        "IfOk result (λ done. done ≡ by)", "IfErr result (λ fault. fault ≢ WashFault.Other)",
-        "result ≡ Err WashFault.Memory → 0 < by", "OnErr result (by.new ≡ by.old)",
-        "IfErr result (λ fault. (at more : ℕ) → fault ≢ WashFault.Other at more)",
-        "IfErr result (λ fault. fault ≢ WashFault.Write → Keeps by)",
-        "IfErr result (λ fault. (fault ≡ WashFault.Other) ⊎ (fault ≡ WashFault.Memory))"):
+for clause in OF["not why"]:
     prove(f"and where none does, the proof has to say so ({clause})", REFUSES, clause,
           f"docs/PROOF.md:2: Cup::fill: take it out of the sentence {WHY}, since there is no such "
           "public function, or nothing for a clause to say",

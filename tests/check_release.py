@@ -267,7 +267,8 @@ change("crates.txt", r"\Z", "stab_c staticlib: low itoa\nrignolda_settings_c sta
        "stab_page staticlib: low\n")
 write("page/page.html", "<script>\nlet it = '{{MODULE}}';\n</script>\n")
 for file in ("include/rignolda.h", "man/stab.1", "docs/schema/job.json", "agents/agent.c",
-             "agents/out/agent", "rust/rignolda/src/lib.rs", "rust/rignolda/target/built"):
+             "agents/out/agent", "rust/rignolda/src/lib.rs", "rust/rignolda/target/built",
+             "rust/rignolda_machine/src/lib.rs"):
     write(file)
 write("CHANGELOG.md", "## 1.2.0, 2026-11-24, later: of three\n")
 CARGO = '[package]\nname = "it"\nversion = "1.2.0"\n\n'
@@ -347,9 +348,9 @@ holds("the archive has all of it", [
     it for it in names_in(archive) if not re.search(r"/$|^$|^examples|^[A-Z]|\.md$", it)] == [
         "agents/agent.c", "docs/schema/job.json", "include/rignolda.h", "lib/librignolda.a",
         "lib/librignolda_settings.a", "man/stab.1", "page/index.html", "page/rignolda.wasm",
-        "rust/rignolda/Cargo.toml",
-        "rust/rignolda/lib/x86_64-linux-settings.a", "rust/rignolda/lib/x86_64-linux.a",
-        "rust/rignolda/src/lib.rs", "stab"])
+        "rust/rignolda/Cargo.toml", "rust/rignolda/lib/x86_64-linux.a",
+        "rust/rignolda/src/lib.rs", "rust/rignolda_machine/lib/x86_64-linux-settings.a",
+        "rust/rignolda_machine/src/lib.rs", "stab"])
 
 # The daemon, whose programs another compiler makes.
 DAEMON = ["rignoldad", "rignoldactl"]
@@ -360,11 +361,12 @@ case $* in
 esac
 mkdir -p "$to"
 for program in rignoldad rignoldactl; do
-    cat "$program/src/main.rs" rignolda/lib/* >"$to/$program"
+    cat "$program/src/main.rs" rignolda/lib/* rignolda_machine/lib/* >"$to/$program"
 done""")
 command(house.bin / "rustc", 'echo "rustc ${RUSTC:-1.0}"')
 command(house.bin / "dpkg-deb", "")
-for file in "rust/Cargo.toml", "rust/Cargo.lock", "rust/rignolda/build.rs", "tools/debian_crates":
+for file in ("rust/Cargo.toml", "rust/Cargo.lock", "rust/rignolda/build.rs",
+             "rust/rignolda_machine/build.rs", "tools/debian_crates"):
     write(file)
 write("rust/rignoldad/src/main.rs", "a daemon\n")
 write("rust/rignoldactl/src/main.rs", "a control\n")
@@ -406,7 +408,7 @@ holds("another release leaves them as they are", same(work / "release", release)
 said("they are what is built of the sources", 0, "", "--check")
 said("where another compiler built them they are not compared, which is no success", 4,
      "rignoldactl is NOT COMPARED: rustc 1.0 built it, not rustc 2.0", "--check", RUSTC="2.0")
-house.bring("tests/check_daemon.py")
+house.bring("tests/check_daemon.py", "tests/programs.py")
 for script in re.findall('"(check[a-z_]*.py)"', (top / "tests/check_daemon.py").read_text()):
     command(f"tests/daemon/{script}", "echo '0 passed, 0 failed'")
 counts = []
@@ -485,10 +487,11 @@ checked("then nothing is wrong", 33)
 compiled = house.read("compiled")
 holds("each was compiled for its machine", compiled.count("--target aarch64-unknown-linux-gnu") >= 3
       and compiled.count("--target x86_64-unknown-linux-gnu") >= 2)
-holds("and the crate for Rust has the archives of both", sorted(
-    it.name for it in (top / "rust/rignolda/lib").iterdir()) == [
-        f"{machine}-linux{part}.a" for machine in ("aarch64", "x86_64")
-        for part in ("-settings", "")])
+holds("and the crates for Rust have the archives of both", sorted(
+    f"{it.parent.parent.name} {it.name}" for it in (top / "rust").glob("*/lib/*")) == [
+        f"{crate} {machine}-linux{part}.a"
+        for crate, part in (("rignolda", ""), ("rignolda_machine", "-settings"))
+        for machine in ("aarch64", "x86_64")])
 sources = daemon("--sources").out
 OTHERS = more("rust/rignolda/lib/aarch64-linux.a")
 holds("an archive is one of the sources of its own machine's daemon alone",

@@ -24,11 +24,9 @@ import sys
 import tempfile
 from pathlib import Path
 
-ROOT = Path(__file__).resolve().parent.parent
-sys.path[:0] = [str(ROOT / "agents"), str(ROOT / "tools")]
-import check_report  # noqa: E402
-from jobs import asked, drawn_link, drawn_tree, spoilt_items  # noqa: E402
-from programs import Cases, answered, run_with  # noqa: E402
+from programs import Cases, answered, run_with
+import check_report
+from jobs import asked, drawn_link, drawn_tree, spoilt_items
 
 # How the plain program ends where a text is no report.
 NO_REPORT = "another form", "number of items", "each node", "not end", "have an end"

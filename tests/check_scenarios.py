@@ -19,14 +19,10 @@ import re
 import sys
 import xml.etree.ElementTree
 from concurrent.futures import ThreadPoolExecutor
-from pathlib import Path
 
-TOP = Path(__file__).resolve().parent.parent
-sys.path.insert(0, str(TOP / "tools"))
-
+from programs import answered, counted, run_with
 from faults.scenario import drawn_text, link_text, random_job, schedule_text, text_of
 from jobs import asked, drawn_link
-from programs import answered, counted, run_with
 
 VALUES = [None, True, -1, 0, 1, 70000, 0.5, "", "x", "offer", "publish", "lose_frame", [], [0],
           [[0]], {}, {"send": 0, "recv": 1}, {"send": 0, "recv": 1, "acks": [1, 1, 1, 1]}]

@@ -10,16 +10,13 @@ It needs Debian's package python3-jsonschema. The last line is 'N passed, M fail
 """
 
 import json
-import pathlib
 import sys
 
 from jsonschema import Draft7Validator
 
-ROOT = pathlib.Path(__file__).resolve().parent.parent
-sys.path.insert(0, str(ROOT / "tools"))
-from examples import DATA  # noqa: E402
-from programs import counted  # noqa: E402
-from tables.rignolda_scenario import REFUSED  # noqa: E402
+from programs import TOP, counted, paragraphs
+from examples import DATA
+from tables.rows import told
 
 # the faults that a schema finds as well, wherever they are found
 FOUND = {
@@ -31,24 +28,11 @@ FOUND = {
 # members that a job may have as well, and what is not of their form
 TREE = {"capacity": 1, "labels": 4, "tree": [{"name": "r"}, {"name": "a", "parent": "r"}],
         "items": [10]}
-START = {"send": 0, "recv": 1, "frames": [[2, 99]], "acks": [0]}
-GOOD = [
-    {"steps": []}, {"steps": [["publish", [20, 21]], ["strike", "b", START], ["a", "offer"]]},
-    {"steps": [["restart", "b", [50]], ["rounds", 0], ["reading_rounds", 65535]]},
-    {"steps": [["a", "lose_frame", 0]]}, {"backlogs": [[], [7]]}, {"received": [[7], []]},
-    {"received": [[], []], "from": [0, 3]},
-]
-BAD = [
-    {"steps": 1}, {"steps": ["offer"]}, {"steps": [["a", "publish"]]},
-    {"steps": [["publish", 20]]}, {"steps": [["publish", [4294967296]]]},
-    {"steps": [["strike", "a", [0]]]}, {"steps": [["restart", "a"]]},
-    {"steps": [["reading_rounds", [1]]]}, {"backlogs": {}}, {"backlogs": [7]},
-    {"backlogs": [[], [-1]]}, {"received": None}, {"received": [[], 1]}, {"received": [[], ["x"]]},
-    {"received": [[], [4294967296]]}, {"from": 1}, {"from": [0, -1]}, {"from": ["x"]},
-    {"from": []}, {"from": [0, 4294967296]},
-    # (a number with a point is a whole one to a schema)
-    *({"steps": [step]} for step in REFUSED["wrong shape"] if step != ["rounds", 1.0]),
-]
+OF, = paragraphs(TOP / "tests/schemas.rows")
+GOOD, BAD = (list(map(json.loads, OF[it])) for it in ("good", "bad"))
+# (a number with a point is a whole one to a schema)
+BAD += [{"steps": json.loads(row.given)["steps"]} for row in told("scenario")
+        if row.err.endswith("step 2: wrong shape\n") and '["rounds", 1.0]' not in row.given]
 
 # refused jobs that have the form of a job: a number with a point is an integer to a schema
 NOT_FOUND = {"number_with_a_point"}
@@ -65,7 +49,7 @@ def cases():
     None."""
     schemas = {}
     for kind in ("link_job", "job"):
-        schema = json.loads((ROOT / "docs" / "schema" / f"{kind}.json").read_text())
+        schema = json.loads((TOP / "docs" / "schema" / f"{kind}.json").read_text())
         Draft7Validator.check_schema(schema)
         schemas[kind] = Draft7Validator(schema)
     looked_at = set()

@@ -12,47 +12,16 @@ import sys
 import tempfile
 from pathlib import Path
 
-TOP = Path(__file__).resolve().parent.parent
-sys.path.insert(0, str(TOP / "tools"))
-import debian  # noqa: E402
-import static  # noqa: E402
-from programs import Cases  # noqa: E402
+from programs import TOP, Cases, paragraphs
+import debian
+import static
 
 CALLS = TOP / "tests/static/calls.c"
 WORDS = "", "four", "a b"
 # What the calls ask of a processor, by the names that the system has for it.
 FLAGS = "pni ssse3 cx16 sse4_1 sse4_2 movbe popcnt aes lahf_lm abm 3dnowprefetch".split()
-# Planted bugs: what is in the file, and what stands there instead.
-PLANTED = [
-    ("size + NUMBER + UNIT - 1", "size + UNIT - 1"),
-    ("kept[units] = *block;", "(void)block;"),
-    ("rest += units * UNIT;", "rest += units * NUMBER;"),
-    ("rest = piece + UNIT;", "rest = piece + NUMBER;"),
-    ("end = piece + PIECE;", "end = piece + 2 * PIECE;"),
-    ("if (!piece)", "if (piece == end)"),
-    ("static _Thread_local void **kept", "static void **kept"),
-    ("? block : large(block, size)", "? block : block"),
-    ("units ? block : large(block, size)", "units ? block : large(NULL, size)"),
-    ("memcpy(next.at, block, used)", "memcpy(next.at, block, used / 2)"),
-    ("{at != NULL, at ? at : &nothing}", "{true, at ? at : &nothing}"),
-    ("at ? at : &nothing", "at"),
-    ("place >= count ||", "place > count + 1 ||"),
-    ("length == room", "length + 1 == room"),
-    ("            return -2;", "            return -1;"),
-    ("buffer[length++] = *it", "buffer[length++] = *it, buffer[length] = 0"),
-    ("argc > 0 ? (size_t)argc : 0", "argc > 1 ? (size_t)argc - 1 : 0"),
-    ("    return errno;", "    return 0;"),
-    ("    errno = error;", "    static int own; own = error; (void)own;"),
-    ("write(file, bytes, length)", "write(file, bytes, length - 1)"),
-    ("index >= 3", "index >= 300"),
-    ("{1, 7, 0x80000001}", "{7, 1, 0x80000001}"),
-    ("{1, 7, 0x80000001}", "{1, 7, 1}"),
-]
-PLANTED_IN_STEPS = [
-    ("__atomic_fetch_and(at, (type)~it, __ATOMIC_SEQ_CST)", "__atomic_fetch_and(at, it, 5)"),
-    ("__atomic_fetch_add(at, it, __ATOMIC_SEQ_CST)", "*at; *at = (type)(*at + it)"),
-    ("(at, &wanted, next, 0,", "(at, &wanted, wanted, 0,"),
-]
+# Planted bugs: what is in a file, and what stands in its place; those of atomic steps are of arm64.
+PLANTED = [*paragraphs(TOP / "tests/static/planted.rows")]
 
 
 def planted(room, old, new):
@@ -97,7 +66,8 @@ def main():
 
             wrong = said(static.SHIMS)
             cases.holds(f"what programs call, on {architecture}", not wrong, wrong)
-            for old, new in PLANTED_IN_STEPS if before else PLANTED:
+            for old, new in ((*it["old"], *it["new"]) for it in PLANTED
+                             if ("in" in it) == bool(before)):
                 wrong = said(planted(room, old, new), "-w")
                 cases.holds(f"a planted bug is found: {' '.join(new.split())}",
                             wrong not in ("", "they do not fit"), wrong, quiet=True)

@@ -1,13 +1,13 @@
 #!/usr/bin/env -S python3 -B
 """Runs the programs rignolda and stab on many command lines, and compares what they print.
 
-The files of tests/tables that are named below have a table of rows each; rows.py there says what a
-row is. A program is the one that ./rignolda or ./stab starts, or else the one that the gate has
-left in crates/rignolda/out or crates/stab_cli/out; PROGRAM_RIGNOLDA and PROGRAM_STAB in the
-environment name others. The examples run by the build of LLVM as well, where the gate has just made
-it. The faults of the rows of stab, with their statuses, have to be those of the tables of
-docs/FORMATS.md, but for a few that no row brings about. The manual of rignolda and the crates for
-Rust have to have the version of the release, as the program has. The last line is 'N passed, M
+The files of tests/tables that are named below have rows; rows.py there says what a row is. A
+program is the one that ./rignolda or ./stab starts, or else the one that the gate has left in
+crates/rignolda/out or crates/stab_cli/out; PROGRAM_RIGNOLDA and PROGRAM_STAB in the environment
+name others. The examples run by the build of LLVM as well, if the gate has just made it. The faults
+of the rows of stab, with their statuses, have to be those of the tables of docs/FORMATS.md, but for
+a few that no row brings about. The manual of rignolda and the crates for Rust have to have the
+version of the release, as the program has. The last line is 'N passed, M
 failed'.
 """
 
@@ -21,17 +21,18 @@ from concurrent.futures import ThreadPoolExecutor
 from importlib import import_module
 from pathlib import Path
 
-sys.path.insert(0, str(Path(__file__).resolve().parent.parent / "tools"))
-
 from programs import BUILT, TOP, answered, counted, run_with
 from tables import stab_examples
 from tables.rignolda_lines import VERSION
+from tables.rows import told
 
 # The tables of each program, and each row with its program.
-TABLES = {"rignolda": "lines explain bounds check draw files jobs scenario",
+TABLES = {"rignolda": "lines explain check draw files jobs scenario",
           "stab": "examples lines links trees limits"}
 ROWS = [(program, row) for program, names in TABLES.items() for name in names.split()
         for row in import_module(f"tables.{program}_{name}").ROWS]
+ROWS += [("rignolda", row) for name in ("bounds", "check", "explain", "lines", "scenario")
+         for row in told(name)]
 # The faults of docs/FORMATS.md that no row brings about: those of reading, writing, memory and
 # threads, and the differences of links behind locks, which never come.
 WITHOUT_ROW = {

@@ -19,14 +19,11 @@ line is 'N passed, M failed'.
 import collections
 import glob
 import itertools
-import os
 import re
 import sys
 
-TOP = os.path.dirname(os.path.dirname(os.path.realpath(__file__)))
-sys.path.insert(0, f"{TOP}/tools")
-from crates import first_number, read  # noqa: E402
-from programs import counted  # noqa: E402
+from programs import TOP, counted
+from crates import first_number, read
 
 TABLE, LEAST, FORMS = "tests/duplicates.txt", 8, 4
 NO_CODE = re.compile(r"\s*(//|--|#|(pub )?(ghost )?use\b|open\b|import\b)")

@@ -28,10 +28,8 @@ import os
 import re
 import sys
 
-TOP = os.path.dirname(os.path.dirname(os.path.realpath(__file__)))
-sys.path.insert(0, f"{TOP}/tools")
-from crates import listed, read  # noqa: E402
-from programs import counted  # noqa: E402
+from programs import TOP, counted
+from crates import listed, read
 
 # The folders of a crate's edits: those of the gate, by `rt ci` and apart, those that are tried by
 # hand, and controls.

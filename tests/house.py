@@ -7,14 +7,12 @@ import re
 import shutil
 import signal
 import subprocess
-import sys
 import tempfile
 import time
 from pathlib import Path
 
-TOP = Path(__file__).resolve().parent.parent
-sys.path.insert(0, str(TOP / "tools"))
-from programs import Cases  # noqa: E402
+from programs import TOP, Cases
+
 
 # Commands like rt, and like the compiler and the linker that it finds. What they make of a crate is
 # the text of its first file, so that of a program is a script; where it says that it differs, the
@@ -94,6 +92,12 @@ def remove(*paths):
             shutil.rmtree(path)
         elif path.is_symlink() or path.exists():
             path.unlink()
+
+
+def house_of(name):
+    """The files of tests/houses/NAME, each its path and its text, behind lines with `==> PATH`."""
+    return [file.split("\n", 1) for file in re.split(
+        "^==> ", (TOP / "tests/houses" / name).read_text(), flags=re.M)[1:]]
 
 
 class Ended:

@@ -30,23 +30,7 @@ from crates import listed  # noqa: E402
 
 TOP = Path(__file__).resolve().parent.parent
 # What the page of claims begins with.
-HEAD = """# Claims, definitions and lemmas
-
-The page [PROOF.md](PROOF.md) has the argument, and this page what it is made of, crate by crate.
-`tools/pages.py` writes it from the sources.
-
-- *Claims*: what other crates can use. Each function has what it requires, and then each clause that
-  it ensures, with its name if it has one: `function.clause` is how a page cites it. A comment
-  before clauses speaks of them. Each function has the exception *or memory was refused*, unless its
-  comment says that it takes no memory. Where a function has no clause, that is said.
-- *Definitions*: the files of `specs/`, whose words the clauses use. A reader has to judge that they
-  say what is meant. Examples that can be worked out with a pencil are beside them, and those of a
-  claim `examples::worked_out` are proved. A record of which a page cites a field, as it cites a
-  clause, is below them with all its fields.
-- *Lemmas*: the files of `proofs/`. `ForCallers.antt` is for the crates above. A folder there is
-  named for a file of the code and has what the prover needs for its functions alone.
-- *Planted bugs*: edits of the code that the prover refuses in the gate, by their names.
-"""
+HEAD = (TOP / "tools/claims_head").read_text()
 # The endings of the files that a page may name.
 ENDINGS = "antt|rt|edit|md|py|sh|c|h|a|rs|toml|json|run|out|txt|html|svg|wasm|gz|bazel"
 # A page about the past may name what is no more.

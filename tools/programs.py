@@ -12,6 +12,9 @@ import textwrap
 from pathlib import Path
 
 TOP = Path(__file__).resolve().parent.parent
+# What checks import, each from its own folder, after this file.
+sys.path += [str(TOP / it) for it in (
+    "tools", "agents", "tests", "tests/daemon", "tests/library", "lab/ends")]
 
 # Where the gate leaves each program, as a release would have it.
 BUILT = {
@@ -99,6 +102,18 @@ def options(*names, **usual):
         how = {"action": "store_true"} if value is False else {"type": type(value)}
         words.add_argument(f"--{name}", default=value, **how)
     return words.parse_args()
+
+
+def paragraphs(file):
+    """The paragraphs of a file of rows, of which each line is a word, a colon and a text: by each
+    word its texts, in which `\\n` is the end of a line. A line that begins with # is a comment."""
+    for paragraph in file.read_text().split("\n\n"):
+        found = {}
+        for line in paragraph.splitlines():
+            word, _, text = line.partition(":")
+            if not word.startswith("#"):
+                found.setdefault(word, []).append(text[1:].replace("\\n", "\n"))
+        yield found
 
 
 def sum_up(results):

@@ -343,12 +343,12 @@ class Release(Commands):
             file.write_bytes(data)
 
     def copy_archives(self):
-        """Copies the archives for the crate for Rust, which has those of its targets inside."""
-        to = TOP / "rust/rignolda/lib"
+        """Copies the archives for the crates for Rust, which have those of their targets inside."""
         for name, it in self.artefacts.items():
+            crate, part = ("_machine", "-settings") if "settings" in name else ("", "")
+            to = TOP / f"rust/rignolda{crate}/lib"
             if it.kind == "library" and to.parent.is_dir():
                 to.mkdir(exist_ok=True)
-                part = "-settings" if "settings" in name else ""
                 shutil.copy(RELEASE / name, to / f"{processor_of(name)}-linux{part}.a")
 
     def make(self, is_anew):
@@ -493,7 +493,7 @@ class Release(Commands):
         # (what was built there by hand stays)
         ignore = shutil.ignore_patterns("__pycache__", "out", "target")
         for part in ("README.md CHANGELOG.md examples LICENSE Makefile docs man completions "
-                     "include agents install.sh Containerfile rust/rignolda "
+                     "include agents install.sh Containerfile rust/rignolda rust/rignolda_machine "
                      "rust/rignoldad/Cargo.toml rust/rignoldad/packaging page/index.html").split():
             if (TOP / part).is_dir():
                 shutil.copytree(TOP / part, to / part, ignore=ignore, dirs_exist_ok=True)

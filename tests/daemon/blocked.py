@@ -14,8 +14,11 @@ from runner import sure, test
 # Calls of the system that do something else while there is a file that is named for them: most of
 # them wait, and say so by another file.
 PRELOADED = r"""
+#define _GNU_SOURCE
+#include <dlfcn.h>
 #include <errno.h>
 #include <fcntl.h>
+#include <netdb.h>
 #include <stdio.h>
 #include <stdlib.h>
 #include <string.h>
@@ -32,7 +35,9 @@ static void waits(const char *call)
     char began[4096];
     if (is_on(call)) {
         snprintf(began, sizeof began, "%s.began", getenv(call));
-        close(open(began, O_CREAT | O_WRONLY, 0600));
+        int file = open(began, O_CREAT | O_WRONLY | O_APPEND, 0600);
+        syscall(SYS_write, file, ".", 1);       /* one for each call */
+        close(file);
     }
     while (is_on(call))
         usleep(10000);
@@ -64,6 +69,14 @@ int accept4(int listener, struct sockaddr *from, socklen_t *length, int flags)
 {
     errno = EAGAIN;             /* and nobody is there, by what the call says */
     return is_on("of_accept4") ? -1 : syscall(SYS_accept4, listener, from, length, flags);
+}
+int getaddrinfo(const char *name, const char *service, const struct addrinfo *hints,
+                struct addrinfo **found)
+{
+    int (*next)(const char *, const char *, const struct addrinfo *, struct addrinfo **) =
+        dlsym(RTLD_NEXT, "getaddrinfo");
+    waits("of_getaddrinfo");    /* as where no server of names answers */
+    return next(name, service, hints, found);
 }
 int epoll_wait(int poll, struct epoll_event *events, int most, int timeout)
 {
@@ -165,11 +178,10 @@ def a_disk_that_hangs_stops_nobody(tree, root, left):
     tree.begin()
     hangs.touch()
     with subprocess.Popen(root.command("publish", "slow", "1"), stdout=subprocess.DEVNULL):
-        time.sleep(0.5)
+        sure(until((tree.home / "slow.began").exists), "nothing waits for the disk")
         rounds = root.status()["round"]
-        for _ in during(9):
+        for _ in during(9, pause=0.1):
             sure(took(root.status) < PATIENCE, "it answers late")
-            time.sleep(0.1)
         sure("slow" not in left.files(), "it is published before the disk has it")
         # (a round waits for the disk, but not for ever)
         sure(root.status()["round"] > rounds, "there is no round")
@@ -178,6 +190,20 @@ def a_disk_that_hangs_stops_nobody(tree, root, left):
     becomes(lambda: left.files().get("slow"), b"1")
     tree.settles()
     root.becomes(unpublished=0)
+
+
+@of_tree({"left": "root"}, runs=False, needs="cc")
+def a_name_that_is_looked_up_for_long_is_looked_up_once(tree, root, left):
+    """And what comes of it leads to a connection."""
+    hangs, asked = preload(left, "getaddrinfo"), tree.home / "slow.began"
+    left.top["parents"] = [f"root@localhost:{root.port}"]
+    hangs.touch()
+    tree.start()
+    sure(until(asked.exists), "it looks up no name")
+    for _ in during(5, pause=0.1):
+        sure(asked.stat().st_size == 1, "it is looked up again, while the first one goes on")
+    hangs.unlink()
+    tree.is_ready()
 
 
 @of_tree({}, runs=False)

@@ -7,7 +7,6 @@
 import concurrent.futures
 import contextlib
 import importlib
-import itertools
 import os
 import random
 import re
@@ -16,21 +15,18 @@ import signal
 import socket
 import struct
 import sys
-import time
 
 import runner
-import trial
-from daemons import (PACKAGING, Tree, bounded, by_tls, certify, counted, memory, of_tree, patient,
+from daemons import (PACKAGING, bounded, by_tls, certify, counted, memory, of_tree, patient,
                      root_has, until)
-from memory import write_over
+from file_faults import spoil_some
 from programs import ran
-from protocol import Parent, body, closed, entry, frame, hello
-from relay import between
-from runner import sure, test
+from protocol import Parent, body, closed, frame, hello
+from runner import sure
 
 # (each of them tells its tests)
 for name in ("blocked", "floods", "groups", "hooks", "hostile", "memory_faults", "operating",
-             "packaging", "parents", "reached", "roots", "rounds", "store", "watching"):
+             "packaging", "parents", "reached", "roots", "rounds", "store", "trial", "watching"):
     importlib.import_module(name)
 
 
@@ -52,39 +48,12 @@ def settings_reach_all_and_what_is_removed_is_gone(tree):
     sure(tree["right2"].files()["big"] == big)
 
 
-@test(begins=True)
-def connections_that_break_lose_nothing():
-    """Whoever connects, also by TLS; and there is no round that would mend what was lost."""
-    for secure in [], [by_tls]:
-        # (nobody is left behind since the machine is slow: what breaks is to be all there is)
-        with Tree(None, root_has(round="1h"), patient, *secure) as tree:
-            relays = [between(tree[name], name == "right", cuts=(0.02, 0.25), seed=seed)
-                      for seed, name in enumerate(("left", "right1", "left2", "right"))]
-            tree.start()
-            changes = itertools.count()
-
-            def broke_while_it_wrote():
-                at = next(changes)
-                tree.write(f"key{at % 10}", f"{at} " + "x" * (at * 97 % 5_000))
-                return all(relay.connections > 8 for relay in relays)
-
-            sure(until(broke_while_it_wrote, pause=0.03), "hardly a connection broke")
-            # (on a slow machine nothing gets through where each connection breaks at once)
-            for relay in relays:
-                relay.calm = True
-            tree.settles()
-            gaps = {agent.name: agent.status()["gaps"] for agent in tree}
-            sure(not any(gaps.values()), gaps)
-
-
-def spoil(folder, draw):
-    """Spoils what an agent keeps, most files, and each of them in one of the ways of trial.py."""
+def spoil(agent, draw):
+    """Spoils what an agent keeps, or most of its files, each in one of the ways."""
     if draw.randrange(4) == 0:
-        return trial.spoil(folder, "gone", draw)
-    for path in sorted(folder.glob("[!.]*")):
-        if path.is_file() and draw.randrange(5):
-            trial.spoil(folder, draw.choice([*trial.OF_FILES]), draw, [path.name])
-    (folder / "extra").write_text("1")
+        return shutil.rmtree(agent.settings)
+    spoil_some(agent, draw, least=30)
+    (agent.settings / "extra").write_text("1")
 
 
 @of_tree(None, root_has(round="1h"))
@@ -92,7 +61,7 @@ def spoiled_folders_are_right_after_two_rounds(tree):
     draw = random.Random(3)
     for turn in range(6):
         for agent in tree:
-            spoil(agent.settings, draw)
+            spoil(agent, draw)
         # (what was published since the last whole table does not mend it)
         tree.write("key1", turn)
         tree.rounds(2)
@@ -100,7 +69,7 @@ def spoiled_folders_are_right_after_two_rounds(tree):
         sure(not tree.wrong(), turn, tree.wrong())
     for agent in tree:
         agent.kill()
-        spoil(agent.settings, draw)
+        spoil(agent, draw)
     tree.start()
     # (a start begins with the whole table)
     tree.settles()
@@ -172,9 +141,8 @@ def only_the_right_certificate_is_let_in(tree, root, false, leaf, strange, liar,
 
 
 @of_tree({"leaf": "root"}, runs=False)
-def what_a_false_parent_sends_is_bounded_and_checked(tree, root, leaf):
+def what_a_false_parent_sends_is_bounded(tree, root, leaf):
     parent = Parent(leaf)
-    send = parent.send
     with bounded(leaf, 3.9):
         for bad in (frame(0, b"", length=0xffff_ffff), frame(0, b"", length=(16 << 20) + 1),
                     frame(0, b"x" * 1_000, length=0x7fff_ffff), b"X" * 50, b"W" * 5_000,
@@ -187,69 +155,11 @@ def what_a_false_parent_sends_is_bounded_and_checked(tree, root, leaf):
     with bounded(leaf, 64), contextlib.suppress(OSError):
         for label in range(100_000):
             parent.sock.sendall(frame(label % 255, body(b"H", label)))
-    leaf.restart()
-    parent.meet()
-    draw = random.Random(9)
-    one = entry(b"a", b"1")
-    # (wire.rs has more of them, one by one)
-    odd = [b"", body(b"H", 1, b"x"), body(b"T", 1, [entry(b"../a", b"1")]),
-           body(b"C", 1, [entry(b".pending", b"1")]), body(b"C", 1, [one]) + b"x"]
-    odd += [draw.randbytes(draw.randrange(200)) for _ in range(30)]
-    for text in odd:
-        send(text)
-    garbage = leaf.status()["garbage"]
-    sure(garbage == len(odd), "garbage was counted as", garbage, "of", len(odd))
-    send(body(b"T", 5, [one]), item=12345)
-    sure(leaf.status()["garbage"] == garbage + 1, "a body that does not fit was taken")
-    sure(leaf.files() == {}, leaf.files())
-
-    def comes(number, **files):
-        """It applies what has this number, and has these files."""
-        leaf.ask("wait", number)
-        found = {key: value.decode() for key, value in leaf.files().items()}
-        sure(found == files, found)
-
-    # what is older than the last is not applied
-    send(body(b"T", 100, [one, entry(b"b", b"2")]))
-    send(body(b"C", 101, [entry(b"a", b"new"), entry(b"b", None)]))
-    send(body(b"C", 99, [entry(b"a", b"old"), entry(b"c", b"3")]))
-    send(body(b"T", 98, []))
-    comes(101, a="new")
-    leaf.becomes(strays=2, gaps=0, whole=True)
-    # a number that was left out is a gap, until a whole table comes
-    send(body(b"C", 103, [entry(b"d", b"4")]))
-    leaf.becomes(gaps=1, whole=False)
-    send(body(b"T", 104, [entry(b"d", b"5")]))
-    comes(104, d="5")
-    for kind in (b"T", b"C", b"H"):
-        for number in (2**64 - 1, 2**64 - 2, 2**63, 0):
-            send(body(kind, number, b"" if kind == b"H" else [entry(b"bad", b"1")]))
-    sure(until(lambda: "bad" in leaf.files()) and leaf.alive(), leaf.files())
+    # (what bodies mean, and what of them is taken, is in wire.rs, numbers.rs and table.rs)
     parent.gives_way()
 
 
 # ---- The root's folder
-
-@of_tree({"left": "root", "leaf": "left", "new": "root"}, root_has(round="1h"), runs=False)
-def what_is_wrong_in_the_roots_memory_gets_nowhere(tree):
-    values = {f"k{at}": f"right {at:026}" for at in range(10)}
-    over = {value.encode(): value.replace("right", "wrong").encode()
-            for key, value in values.items() if key != "k0"}
-    old = [agent for agent in tree if agent.name != "new"]
-    for key, value in values.items():
-        tree.write(key, value)
-    tree.start(old)
-    tree.settles(*old)
-    sure(write_over(tree.root.process.pid, over) > 8, "it does not remember them")
-    with tree.root.publisher() as publish:
-        for _ in range(150):
-            # (so many that tables come)
-            publish("k0", values["k0"])
-    tree["new"].start()
-    tree.settles()
-    time.sleep(0.5)
-    sure(not tree.wrong(), tree.wrong())
-
 
 @of_tree({}, runs=False)
 def what_is_answered_is_in_the_folder(tree):
@@ -500,7 +410,7 @@ def manuals_and_completions_name_everything(tree):
         sure(not lacking, name, "has no", lacking)
     for option in re.findall(r"--([a-z]+)", help_of("rignoldad")):
         sure("--" + option in pages["rignoldad.8"], option)
-    source = (PACKAGING.parent / "src/config.rs").read_text()
+    source = "".join(it.read_text() for it in PACKAGING.parent.glob("src/config/*.rs"))
     keys = re.search(r'const KEYS: &str = "(.*?)";', source, re.DOTALL)
     of_hooks = re.search(r"const HOOK_KEYS: .* = \[(.*?)\];", source)[1].replace(",", " ")
     for key in (keys[1].replace("\\", " ") + " " + of_hooks.replace('"', "")).split():

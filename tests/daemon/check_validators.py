@@ -15,63 +15,30 @@ from pathlib import Path
 from daemons import HOME, PACKAGING, Tree, binaries, counted
 from runner import HERE
 import debian
-from programs import Cases, answered, ran
+from programs import Cases, answered, paragraphs, ran
 
 ALARMS = PACKAGING / "alarms.yml"
-# When an alarm is tried, where it is not this.
+# When an alarm is tried, if it says no other time.
 USUAL = "10m15s"
-LATE = {"RignoldaDraining": "39m"}
 # The exposure by which systemd-analyze judges the unit is at most this, times ten.
 EXPOSURE = 15
-# By alarm its series, as promtool reads them, with a value each 15 s: those of an agent that is
-# well, of one that has too little of the trouble when the alarm is tried, and of one that goes on
-# having it. The alarm fires then for the last one alone, and at the begin for none.
-CASES = {
-    "RignoldaAway": [("connected", "1x79", "1x38 0x2 1x39", "1x9 0x69")],
-    "RignoldaRootless": [("rootless", "0x79", "0x38 1x2 0x39", "0x9 1x69")],
-    "RignoldaAgentsAway": [("agents_away", "0x79", "0x38 2x2 0x39", "0x9 1x69")],
-    "RignoldaFilesDiffer": [("agents_differing", "0x79", "0x38 2x2 0x39", "0x9 1x69")],
-    "RignoldaMended": [("mended_total", "0x79", "7x79", "0x29 1x49")],
-    "RignoldaTwins": [("child_clashes_total{child=\"c\"}", "0x79", "3x79", "0x29 1x49")],
-    "RignoldaUnpublished": [("unpublished", "0x79", "0x38 1x2 0x39", "0x9 2x69")],
-    "RignoldaHeld": [("held", "0x79", "0x38 1x2 0x39", "0x9 2x69")],
-    "RignoldaItemWaits": [
-        ("child_item_age_seconds{child=\"c\"}", "0.2x79", "0x38 40 0x39", "0+15x79")],
-    "RignoldaBacklog": [
-        ("child_backlog{child=\"c\"}", "810x79", "0x79", "0 900x78"),
-        ("backlog_limit", "1024x79", "8x79", "1024x79")],
-    "RignoldaRoundLate": [("round_age_seconds", "30x79", "0x38 91 0x39", "0+15x79")],
-    "RignoldaIncomplete": [("whole", "1x79", "1x37 0x2 1x39", "1x9 0x69")],
-    "RignoldaGaps": [("gaps_total", "0x79", "0x19 30x59", "0+1x79")],
-    "RignoldaIgnoredAcknowledgements": [
-        ("child_ignored_total{child=\"c\"}", "0x79", "0+2x79", "0+2x79"),
-        ("child_reconnects_total{child=\"c\"}", "0+1x79", "0+1x79", "1x79")],
-    "RignoldaGarbage": [("garbage_total", "0x79", "7x79", "0x29 1x49")],
-    "RignoldaRefused": [("refused_total", "0x79", "0+1x79", "0+2x79")],
-    "RignoldaApply": [("failing", "0x79", "0x38 1x2 0x39", "0x9 1x69")],
-    "RignoldaReloadFailed": [("reload_failed", "0x79", "0x29 1x11 0x37", "0x9 1x69")],
-    # (the clock begins at 0 there: 20 days, 14 days and an hour, and 13 days; at first all have 20)
-    "RignoldaCertificateExpires": [("certificate_expires_timestamp_seconds", "1728000x79",
-                                    "1728000 1213200x78", "1728000 1123200x78")],
-    "RignoldaTwoRoots": [("other_root", "0x79", "0x38 1x2 0x39", "0x9 1x69")],
-    "RignoldaStandsBy": [("stands_by", "0x79", "0x38 1x2 0x39", "0x9 1x69")],
-    "RignoldaDraining": [("draining", "0x159", "0x79 1x79", "0x9 1x149")],
-}
+# By alarm its series, of agents that are well, have too little of the trouble, and have it.
+CASES = {it["alarm"][0]: it for it in paragraphs(HERE / "alarms.rows")}
 
 
 def trial(alarm, summary):
     """What promtool has to try for an alarm, as of its file of tests."""
     series = []
-    for name, *agents in CASES[alarm]:
+    for name, *agents in (it.split(" | ") for it in CASES[alarm]["series"]):
         name, _, labels = name.removesuffix("}").partition("{")
         for agent, values in zip(("well", "brief", "bad"), agents):
             series.append({"series": f'rignolda_{name}{{instance="{agent}",{labels}}}',
                            "values": values})
-    labels = {"instance": "bad", **dict(re.findall(r'(\w+)="(\w+)"', CASES[alarm][0][0]))}
+    labels = {"instance": "bad", **dict(re.findall(r'(\w+)="(\w+)"', CASES[alarm]["series"][0]))}
     fires = [{"exp_labels": labels, "exp_annotations": {"summary": summary}}]
     return {"interval": "15s", "input_series": series, "alert_rule_test": [
         {"eval_time": "0s", "alertname": alarm},
-        {"eval_time": LATE.get(alarm, USUAL), "alertname": alarm, "exp_alerts": fires}]}
+        {"eval_time": CASES[alarm].get("late", [USUAL])[0], "alertname": alarm, "exp_alerts": fires}]}
 
 
 def prometheus(cases, room):

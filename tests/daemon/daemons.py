@@ -75,10 +75,14 @@ def becomes(value, expected, *words, pause=0.01):
     sure(holds, *words, holds or value(), "is not", expected)
 
 
-def during(seconds):
-    """0, 1, 2 and so on, until so many seconds have passed."""
+def during(seconds, pause=0.0):
+    """0, 1, 2 and so on, with a pause between them, until so many seconds have passed."""
     end = time.monotonic() + seconds
-    return itertools.takewhile(lambda _: time.monotonic() < end, itertools.count())
+    for at in itertools.count():
+        if time.monotonic() >= end:
+            return
+        yield at
+        time.sleep(pause)
 
 
 def took(act):
@@ -418,8 +422,8 @@ class Tree:
 
     def goes_on(self, truth, agents=None):
         """Asserts that all have these settings as long as three rounds of half a second take."""
-        time.sleep(1.5)
-        sure(not self.wrong(agents, truth), self.wrong(agents, truth))
+        for _ in during(1.5):
+            sure(not self.wrong(agents, truth), self.wrong(agents, truth))
 
     def right(self, seconds=USUAL, agents=None):
         """Whether all agents come to have the settings of the root's folder."""
@@ -585,11 +589,10 @@ def tls(home, name):
     return context
 
 
-def used(agent, of=""):
-    """The seconds of a processor that a process used, or of it the loop alone."""
-    folder = pathlib.Path(f"/proc/{agent.process.pid}")
-    file = folder / f"task/{agent.process.pid}/stat" if of == "its loop" else folder / "stat"
-    fields = file.read_text().rpartition(")")[2].split()
+def used(agent):
+    """The seconds of a processor that a process used."""
+    text = pathlib.Path(f"/proc/{agent.process.pid}/stat").read_text()
+    fields = text.rpartition(")")[2].split()
     return (int(fields[11]) + int(fields[12])) / os.sysconf("SC_CLK_TCK")
 
 

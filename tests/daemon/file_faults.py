@@ -20,24 +20,11 @@ import time
 from daemons import during, meanwhile, read
 from memory import stopped, writable
 from memory_faults import AGAIN, TREES, Trials, main
+from programs import paragraphs
+from runner import HERE
 
-# What a shell does at the place $1, of which $2 is an older copy, and $3 another agent's. (A socket
-# has nothing for the first six.)
-HOWS = {
-    "halved": 'if [ -d "$1" ]; then ls -d "$1"/* | sed -n "p;n" | xargs rm -rf; '
-              'else truncate -s $(($(stat -c %s "$1") / 2)) "$1"; fi',
-    "emptied": 'if [ -d "$1" ]; then find "$1" -mindepth 1 -delete; else truncate -s 0 "$1"; fi',
-    "garbage": 'find "$1" ! -type d | while read at; do head -c 99 /dev/urandom >"$at"; done',
-    "an older copy": 'cp -a "$2" "$1.copy" && rm -rf "$1" && mv "$1.copy" "$1"',
-    "another agent's": 'cp -a "$3" "$1.copy" && rm -rf "$1" && mv "$1.copy" "$1"',
-    "a link": 'rm -rf "$1.away"; mv "$1" "$1.away" && ln -s "$PWD/$1.away" "$1"',
-    "a file": 'rm -rf "$1"; head -c 99 /dev/urandom >"$1"',
-    "a folder": 'rm -rf "$1"; mkdir "$1"',
-    "a full folder": 'rm -rf "$1"; mkdir -p "$1/deep/er"; echo x | tee "$1/deep/file" >"$1/key1"',
-    "deleted": 'rm -rf "$1"',
-    "a pipe": 'rm -rf "$1"; mkfifo "$1"',
-    "a link to nowhere": 'rm -rf "$1"; ln -s /nowhere/at/all "$1"',
-    "of mode 0": '[ -e "$1" ] || echo x >"$1"; chmod 0 "$1"'}
+# How something is spoiled, and what a shell does then.
+HOWS = {it["how"][0]: it["does"][0] for it in paragraphs(HERE / "spoils.rows")}
 ALL, SOCKET = ["root", "second", "hub", "one", "two"], list(HOWS)[:6]
 # Where each is, at whom, and what is no fault there, as a missing disk, or somebody else's folder.
 PLACES = {
@@ -50,7 +37,8 @@ PLACES = {
     "published": ("truth/.published", ["root"]), "record": ("truth/.rignolda/published", ["root"]),
     "number": ("", ALL), "folders": ("", ALL), "memory": ("", ALL), "promote": ("", ["second"])}
 MOVES = [10**6, -10**6, 2**40, -2**40, 2**62, -2**62, 2**63 - 1, 2**63, 2**63 + 1]
-# What puts back a folder, with a marker that is old, new or gone, and also that of the root.
+# What keeps a copy, and puts back a folder of it, with a marker that is old, new or gone, and also that of the root.
+KEEP = "rm -rf old; mkdir old; cp -a settings old; cp -a truth old"
 BACK = """cp -a settings/.rignolda .; rm -rf settings; cp -a old/settings .
 [ $1 != new ] || cp -a .rignolda settings; [ $1 != no ] || rm -f settings/.rignolda
 [ $2 = False ] || { rm -rf truth; cp -a old/truth .; }"""
@@ -60,6 +48,17 @@ def shell(agent, words, *more):
     """Whether this is done in the folder of an agent."""
     words = ["sh", "-c", words, "sh", *map(str, more)]
     return not subprocess.run(words, cwd=agent.home, stderr=subprocess.DEVNULL).returncode
+
+
+def spoil_some(agent, draw, least=1):
+    """Spoils some of an agent's files, each in one of the ways, while it may write them."""
+    path = agent.settings
+    names = sorted(it.name for it in path.glob("[!.]*") if it.is_file() and not it.is_symlink())
+    for name in draw.sample(names, min(len(names), draw.choice([least, least, 2 * least, 30]))):
+        # (in one of them two names come to be one file)
+        how = draw.choice([*HOWS.values(), 'ln -f "$3" "$1"'])
+        shell(agent, how, f"settings/{name}", f"old/settings/{name}",
+              f"settings/{draw.choice(names)}")
 
 
 def bare(tree):
@@ -174,7 +173,7 @@ class Files(Trials):
         draw = random.Random(f"{self.seed} {kind} {number}")
         if draw.random() < 0.3 or not (self.tree.root.home / "old").exists():
             for agent in self.tree:
-                shell(agent, "rm -rf old; mkdir old; cp -a settings old; cp -a truth old")
+                shell(agent, KEEP)
             self.goes_by(draw, 0.5)
         self.what, self.older, self.most, self.is_of_root = self.what[-3:], [], {}, False
         if kind == "promote":

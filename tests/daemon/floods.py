@@ -25,17 +25,15 @@ WAITING = 16
 # By whose certificate each flood is.
 KINDS = {"keys": "stranger", "keys of a child": "evil", "records of a byte": "evil",
          "sessions": "stranger", "chains": "many"}
-# A prime one less than which is divisible by 2 to the power of 300: a square root modulo it costs a
-# fifth of a second.
-PRIME = ((1 << 360) + 347 << 300) + 1
-# By one of which it is divisible by 2 to the power of 600, most of a second.
-HARDER = ((1 << 60) + 45 << 600) + 1
+# A prime one less than which is divisible by 2 to the power of 600: a square root modulo it costs
+# most of a second.
+PRIME = ((1 << 60) + 45 << 600) + 1
 # How long a flood goes on where nobody ends it.
 LONG = USUAL * PATIENCE * 4
 OPENSSL = ctypes.CDLL("libssl.so.3")
 
 
-# ---- Who floods
+# ---- Who floods (each at a pace of its own)
 
 @functools.cache
 def first_hello(group):
@@ -57,11 +55,11 @@ def der(tag, *parts):
     return bytes([tag]) + length + inside
 
 
-def hard_certificate(modulo):
+def hard_certificate():
     """A certificate that nobody signed, whose key is a compressed point on a curve of its own."""
     curves, name = b"\x2a\x86\x48\xce\x3d", der(0x30, der(0x31, der(0x30, der(
         6, b"\x55\x04\x03"), der(12, b"x"))))
-    point, prime, one = b"\2" + bytes(83), der(2, modulo.to_bytes(83, "big")), der(2, b"\1")
+    point, prime, one = b"\2" + bytes(83), der(2, PRIME.to_bytes(83, "big")), der(2, b"\1")
     curve = der(0x30, one, der(0x30, der(6, curves, b"\1\1"), prime),
                 der(0x30, der(4, b"\1"), der(4, b"\x31")), der(4, point), der(2, b"\7"))
     key = der(0x30, der(0x30, der(6, curves, b"\2\1"), curve), der(3, b"\0", point))
@@ -71,7 +69,7 @@ def hard_certificate(modulo):
                der(3, b"\0", der(0x30, one, one)))
 
 
-def hard_client(port, address, count, modulo=PRIME, timeout=1):
+def hard_client(port, address, count):
     """A client from this address that is to send its certificates; and so many of them, which are
     hard to read."""
     record = lambda kind, inside: b"\x16\3\3" + struct.pack(
@@ -80,10 +78,10 @@ def hard_client(port, address, count, modulo=PRIME, timeout=1):
     more = b"".join([extension(10, b"\0\4\0\x1d\0\x17"), extension(11, b"\1\0"),
                      extension(13, b"\0\4\4\3\x08\4"), extension(0xff01, b"\0")])
     first = b"\3\3" + bytes(33) + b"\0\4\xc0\x2b\xc0\x2f\1\0" + struct.pack(">H", len(more))
-    one = hard_certificate(modulo)
+    one = hard_certificate()
     chain = (b"\0" + struct.pack(">H", len(one)) + one) * count
     sock = socket.socket()
-    sock.settimeout(timeout)
+    sock.settimeout(LONG)
     sock.bind((address, 0))
     sock.connect(("127.0.0.1", port))
     sock.sendall(record(1, first + more))
@@ -93,21 +91,11 @@ def hard_client(port, address, count, modulo=PRIME, timeout=1):
     return sock, record(11, b"\0" + struct.pack(">H", len(chain)) + chain)
 
 
-def hard(port, count=4):
-    """Clients from an address each that send certificates which are hard to read."""
-    socks = []
-    for at in during(LONG):
-        with contextlib.suppress(OSError):
-            sock, text = hard_client(port, f"127.8.0.{at % count + 1}", 3)
-            sock.sendall(text)
-            socks = [*socks, sock][-50:]
-        time.sleep(0.1)
-
-
-def flood(kind, port, home):
+def flood(kind, port, home, begun):
     """Makes connections to an agent, each of which does one thing as often as it may."""
-    if kind in ("slow", "silent", "hard"):
-        return {"slow": slow, "silent": silent, "hard": hard}[kind](port)
+    begun.set()
+    if kind in ("slow", "silent"):
+        return {"slow": slow, "silent": silent}[kind](port)
     context = tls(home, KINDS[kind])
     if kind == "sessions":
         context.maximum_version = ssl.TLSVersion.TLSv1_2
@@ -187,10 +175,13 @@ def silent(port):
 @contextlib.contextmanager
 def flooding(kind, tree):
     """Asserts that a process of its own floods the root as long as the block goes on."""
-    process = multiprocessing.get_context("spawn").Process(
-        target=flood, args=(kind, tree.root.port, tree.home), daemon=True)
+    spawn = multiprocessing.get_context("spawn")
+    begun = spawn.Event()
+    process = spawn.Process(
+        target=flood, args=(kind, tree.root.port, tree.home, begun), daemon=True)
     process.start()
     try:
+        sure(begun.wait(USUAL * PATIENCE), kind, "does not begin")
         yield
         sure(process.is_alive(), kind, "ended by itself")
     finally:
@@ -232,7 +223,6 @@ def floods_hold_nobody_up(tree):
         closed = lambda: tree.root.said("it sends too much without data")
         before = closed()
         with flooding(kind, tree), flooding(kind, tree):
-            time.sleep(0.5)
             for _ in range(5):
                 tree.reaches("left", "right")
             tree["right"].restart()
@@ -242,21 +232,6 @@ def floods_hold_nobody_up(tree):
             is_closed = lambda: closed() > before or not kind.startswith("keys")
             sure(until(is_closed), kind, "goes on without an end")
         tree.settles()
-
-
-@of_tree({"left": "root", "right": "root"}, secure, begins=True)
-def what_an_unknown_one_sends_costs_the_loop_nothing(tree):
-    """Certificates that are hard to read are read by other threads, and hold nobody up."""
-    ways = "", "its loop"
-    before = [used(tree.root, of) for of in ways]
-    spent = lambda: [used(tree.root, of) - was for of, was in zip(ways, before)]
-    with flooding("hard", tree):
-        sure(until(lambda: spent()[0] > 1), "it costs nothing at all")
-        tree.reaches("left", "right")
-        tree["right"].restart()
-        sure(until(tree["right"].up, pause=0.1), "who begins anew does not get in")
-        whole, loop = spent()
-        sure(loop < whole / 4, "the loop used", loop, "of", whole)
 
 
 def busy(agent):
@@ -275,7 +250,7 @@ def comes_back(tree, child):
     child.kill()
     with contextlib.ExitStack() as stack:
         # (a handshake has room for 36 of them: half a minute of a processor)
-        clients = [hard_client(tree.root.port, f"127.8.0.{at}", 36, HARDER, LONG)
+        clients = [hard_client(tree.root.port, f"127.8.0.{at}", 36)
                    for at in range(1, 13)]
         socks = [stack.enter_context(sock) for sock, _ in clients]
         for sock, text in clients:

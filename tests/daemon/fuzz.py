@@ -26,25 +26,6 @@ TARGETS = ["messages", "body", "configuration", "control", "agent"]
 TRIPLE = "x86_64-unknown-linux-gnu"
 # (where it lies, cargo finds the settings that name Debian's crates)
 CRATE = HOME / "rust/target/fuzz_targets"
-MANIFEST = """[package]
-name = "targets"
-version = "0.0.0"
-edition = "2021"
-publish = false
-[lib]
-path = "{here}/fuzz_targets/targets.rs"
-crate-type = ["staticlib"]
-[dependencies]
-rignolda = {{ path = "{rust}/rignolda" }}
-rignoldad = {{ path = "{rust}/rignoldad" }}
-rignoldactl = {{ path = "{rust}/rignoldactl" }}
-serde_json = "1"
-[profile.release]
-debug-assertions = true
-overflow-checks = true
-panic = "abort"
-[workspace]
-"""
 FLAGS = ("-Cpasses=sancov-module -Cllvm-args=-sanitizer-coverage-level=4 "
          "-Cllvm-args=-sanitizer-coverage-inline-8bit-counters "
          "-Cllvm-args=-sanitizer-coverage-pc-table "
@@ -56,7 +37,8 @@ def cargo(rust, *words, **more):
     """Has cargo do something with the targets, over the daemon's sources in a folder."""
     CRATE.mkdir(parents=True, exist_ok=True)
     shutil.copy(HOME / "rust/Cargo.lock", CRATE)
-    (CRATE / "Cargo.toml").write_text(MANIFEST.format(here=HERE, rust=rust))
+    manifest = (HERE / "fuzz_targets/manifest").read_text()
+    (CRATE / "Cargo.toml").write_text(manifest.format(here=HERE, rust=rust))
     return ran("cargo", *words, "--offline", "--quiet", cwd=CRATE, env={**os.environ, **more})
 
 

@@ -1,26 +1,16 @@
-"""Settings that have another value for some groups of agents, and how that becomes all's."""
-import shutil
-
+"""Settings that have another value for some groups of agents, and how that becomes all's: what an
+operator asks and is told. (Which value counts, is in waiting.rs, publisher.rs and digest.rs.)"""
 from daemons import of_tree, patient, read, root_has
-from operating import digest, holders
 from runner import sure
 
 OF = {"root": [], "left": ["canary", "eu"], "leaf": [], "right": ["eu"]}
 SHAPE = {"left": "root", "leaf": "left", "right": "root"}
 
 
-def notes_changes(tree):
-    """Each agent notes what its hook was told."""
+def have_groups(tree):
     for agent in tree:
-        agent.hook(f'echo $1 $2 $(cat) >>{agent.home}/told')
         if OF[agent.name]:
             agent.top["groups"] = OF[agent.name]
-
-
-def told(tree, key):
-    """What each agent's hook was told of a key."""
-    return {agent.name: [line[-1] for line in map(str.split, agent.noted("told")) if line[1] == key]
-            for agent in tree}
 
 
 def here(tree, *words):
@@ -30,7 +20,7 @@ def here(tree, *words):
     sure(not tree.wrong(), *words, tree.wrong())
 
 
-@of_tree(SHAPE, notes_changes, patient, root_has(round="1h"), runs=False)
+@of_tree(SHAPE, have_groups, patient, root_has(round="1h"), runs=False)
 def a_group_has_its_own_value_until_it_is_that_of_all(tree, root, left, leaf, right):
     for name, value in (("colour", "green"), ("size@eu", 1), ("size@us", 2), ("other", 3)):
         tree.write(name, value)
@@ -38,33 +28,12 @@ def a_group_has_its_own_value_until_it_is_that_of_all(tree, root, left, leaf, ri
     tree.is_well()
     here(tree, "publish", "colour@canary", "blue")
     here(tree, "publish", "colour@eu", "white")
-    # that of the group which an agent names first
-    now = {"root": "green", "left": "blue", "leaf": "green", "right": "white"}
-    said = {name: label for name, (label, note) in holders(tree, "colour").items() if not note}
-    # (of a value that the root has not in its own files there is a label)
-    sure(said["root"] == said["leaf"] == digest("colour", b"green"), said)
-    sure(len({*said.values()}) == 3 and not {*said.values()} & {
-        digest("colour", value.encode()) for value in ("blue", "white")}, said)
     groups = {it["name"]: it["groups"] for it in root.ask("tree")}
     sure(groups == OF, groups)
     lines = [line.split() for line in root.run("tree").stdout.splitlines()]
     sure([line[1] for line in lines[:3]] == ["groups", "0", "canary,eu"], lines)
-    # what is for others changes nothing here, and no hook runs
     here(tree, "publish", "colour", "grey")
     here(tree, "publish", "colour@us", "pink")
-    sure(told(tree, "colour")["right"] == ["green", "white"], told(tree, "colour"))
-    sure(told(tree, "size")["right"] == ["1"], told(tree, "size"))
-    # one that begins anew has what counts for it, also where its files are gone
-    right.kill()
-    shutil.rmtree(right.settings)
-    for agent in (right, left, root):
-        agent.restart()
-    tree.is_well()
-    sure(not root.status()["held"], root.status())
-    tree.wait()
-    # (it may have begun with the table, and been told what changed since after that)
-    sure(told(tree, "colour")["right"][-1] == "white", told(tree, "colour"))
-    (right.home / "told").write_text("")
     root.ask("wait", "--group", "canary", "--timeout", "60s")
     leaf.kill()
     root.ask("wait", "--group", "eu", root.ask("publish", "other", "4")["sequence"])
@@ -81,11 +50,6 @@ def a_group_has_its_own_value_until_it_is_that_of_all(tree, root, left, leaf, ri
     sure(tree.truth() == {"colour": b"blue", "colour@us": b"pink", "size@eu": b"1",
                           "size@us": b"2", "other": b"4"}, tree.truth())
     here(tree, "unset", "size@eu")
-    sure(told(tree, "colour") == {
-        "root": ["green", "grey", "blue"], "left": ["green", "blue"],
-        "leaf": ["green", "grey", "blue"], "right": ["grey", "blue"]}, told(tree, "colour"))
-    sure(told(tree, "size") == {"root": [], "leaf": [], "left": ["1", "size"],
-                                "right": ["size"]}, told(tree, "size"))
     # what is no name of one is refused, and named
     for name in ("a@b@c", "a..b", "a@.b", "@b", "a@", "a@b..c"):
         root.refuses(f"`{name}` is no key", "publish", name, "1")

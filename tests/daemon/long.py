@@ -26,7 +26,7 @@ from pathlib import Path
 import store
 from daemons import Tree, during, fan, meanwhile, until
 from memory import stands_still
-from programs import answered, run_with
+from programs import answered, paragraphs, run_with
 from relay import between, lose
 from runner import options, run_seeds, sure
 
@@ -311,7 +311,13 @@ BEGUN = {
     "leaf": start("leaf", 3) + ["connected the parent inner, a new count"] + received(10, 11, 12)}
 
 
-def part(published, inner, leaf):
+def part(text):
+    """A part of logs as judged.rows has it."""
+    if text in (known := {"begun": BEGUN, "anew": ANEW, "begun again": AGAIN}):
+        return known[text]
+    lists = [[number for first, _, last in (word.partition("-") for word in words.split())
+              for number in range(int(first), int(last or first) + 1)] for words in text.split("|")]
+    published, inner, leaf = lists
     return {"root": lines("published", *published), "inner": received(*inner),
             "leaf": received(*leaf)}
 
@@ -333,41 +339,17 @@ def judged(file, *parts, broken=()):
     return [name for _, name, _ in wrong], count, left_out
 
 
-MANY = list(range(13, 113))
-OLD = list(range(1000, 1000 + 1 + LIMIT))
-# The child begins anew at the whole table 10, and has all up to 30; the leaf lacks the last 10.
+# The child begins anew, and the root.
 ANEW = {"root": ["connected inner, a new count"],
         "inner": start("inner", 4) + ["connected the parent root, a new count",
                                       "connected leaf, a new count"] + received(*range(10, 31)),
         "leaf": ["connected the parent inner, a new count"] + received(*range(10, 21))}
-LATER = list(range(31, 113))
-# The law allows the leaf 1 + 60 strays where its parent has none, and 4 missing ones.
-CASES = [
-    ("all arrives", [BEGUN, part(MANY, MANY, MANY)], ([], 2, 0)),
-    ("the leaf lacks the last ones", [BEGUN, part(MANY, MANY, MANY[:-9])], ([], 2, 0)),
-    ("its first 4 are missing", [BEGUN, part(MANY, MANY, MANY[4:])], ([], 2, 0)),
-    ("so are 5", [BEGUN, part(MANY, MANY, MANY[5:])], (["leaf"], 2, 0)),
-    ("a late one is missing", [BEGUN, part(MANY, MANY, MANY[:50] + MANY[51:])],
-     (["leaf"], 2, 0)),
-    ("one is missing at both", [BEGUN, part(MANY, MANY[:50] + MANY[51:], MANY[:50] + MANY[51:])],
-     (["inner", "leaf"], 2, 0)),
-    ("as many strays as may be", [BEGUN, part(MANY, MANY, OLD + MANY)], ([], 2, 0)),
-    ("one more", [BEGUN, part(MANY, MANY, [999] + OLD + MANY)], (["leaf"], 2, 0)),
-    ("one of the last comes twice", [BEGUN, part(MANY, MANY, MANY + MANY[-1:])],
-     (["leaf"], 2, 0)),
-    ("two are exchanged", [BEGUN, part(MANY, MANY, MANY[:70] + [84, 83] + MANY[72:])],
-     (["leaf"], 2, 0)),
-    ("a link begins anew", [BEGUN, part(MANY, MANY, MANY), ANEW], ([], 2, 2)),
-    ("nothing comes to the child, which then begins anew at an older table",
-     [BEGUN, part(MANY, [], []), ANEW, part([], [], range(21, 31)), ANEW,
-      part([], LATER, [*range(21, 31), *LATER])], ([], 6, 4)),
-    ("nothing comes to the child any more, and the leaf has a backlog",
-     [BEGUN, part(MANY, [], []), ANEW, part([], [], range(21, 31))], ([], 4, 2)),
-    ("a process is killed while it writes a line, and begins anew",
-     [BEGUN, part([13], [13], [13]),
-      {"root": start("root", 5) + ["connected inner, a new count"] + lines("published", 90),
-       "inner": received(90), "leaf": received(90)}], ([], 2, 2), {(1, "root")}),
-]
+AGAIN = {"root": start("root", 5) + ["connected inner, a new count"] + lines("published", 90),
+         "inner": received(90), "leaf": received(90)}
+CASES = [(it["case"][0], [*map(part, it["part"])],
+          (it.get("wrong", []), int(it["judged"][0]), int(it["left out"][0])),
+          {(int(at), name) for at, name in map(str.split, it.get("broken", []))})
+         for it in paragraphs(Path(__file__).parent / "judged.rows")]
 
 
 if __name__ == "__main__":

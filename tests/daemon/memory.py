@@ -2,12 +2,9 @@
 import contextlib
 import os
 import pathlib
-import re
 import signal
 
 from daemons import until
-
-PIECE = 1 << 20
 
 
 def stands_still(process):
@@ -36,23 +33,3 @@ def stopped(process):
             yield memory.fileno()
     finally:
         os.kill(process, signal.SIGCONT)
-
-
-def write_over(process, texts):
-    """Writes over each copy of some texts in a process, by others as long: how many there were."""
-    sought = re.compile(b"|".join(map(re.escape, texts)))
-    longest = max(map(len, texts))
-    count = 0
-    with stopped(process) as memory:
-        for start, end, _ in writable(process):
-            for at in range(start, end, PIECE):
-                # (a copy may begin in one piece and end in the next one)
-                length = min(PIECE + longest - 1, end - at)
-                try:
-                    piece = os.pread(memory, length, at)
-                except OSError:
-                    continue
-                for found in sought.finditer(piece):
-                    os.pwrite(memory, texts[found[0]], at + found.start())
-                    count += 1
-    return count

@@ -1,7 +1,8 @@
 #!/usr/bin/env -S python3 -B
 """Faults in the memory of running agents, and whether their trees come back from each of them.
 
-    tests/daemon/memory_faults.py [--trials 100] [--seed 1] [--trees 3] [KIND or KIND:NUMBER..]
+    tests/daemon/memory_faults.py [--trials 100] [--seed 1] [--trees 3] [--loss PERCENT]
+        [KIND or KIND:NUMBER..]
 
 While one of four agents is stopped, something is written into its memory: a bit, a byte, a word or
 64 bytes anywhere in the heap, something in the data or on a stack, or it is aimed: at the agent
@@ -27,18 +28,19 @@ import struct
 import sys
 import time
 
-from daemons import (PATIENCE, Tree, by_tls, counting, during, of_tree, patient, root_has,
-                     until)
-from memory import stopped, writable, write_over
+from daemons import PATIENCE, Tree, by_tls, counting, of_tree, root_has, until
+from memory import stopped, writable
 from parents import also
-from protocol import Child, hello, look, report
+from protocol import hello, look
+from relay import lose
 from roots import two
 from runner import options, sure, test
-from trial import KEY
 
 # An agent that says no sign for as long as HANGS hangs.
 ROUND, LONG, HANGS = 0.5, 120.0, 6.0
 SHAPE = {"hub": "root", "one": "hub", "two": "hub"}
+# What may be the name of a setting.
+KEY = re.compile(r"[A-Za-z0-9_][A-Za-z0-9._-]{0,127}")
 # What is done to a tree of each kind before it starts.
 SECOND = also("one", "root"), also("two", "root")
 TREES = {"plain": [], "tls": [by_tls, *SECOND], "parents": SECOND, "roots": [by_tls, two]}
@@ -292,6 +294,9 @@ class Unit:
     def tend(self):
         """How it ended by itself, where it did. It runs again then."""
         now, how = time.monotonic(), None
+        if not self.agent.process:
+            # (somebody ended it, and starts it again)
+            return None
         with contextlib.suppress(BlockingIOError):
             while self.socket.recv(4_096):
                 self.seen = now
@@ -322,26 +327,26 @@ def answers(agent, words, context):
 
 class Trials:
     """A tree, and faults in it: what came of each kind, and why agents ended, as two lists."""
-    trees = TREES
+    trees, shapes = TREES, {"roots": {**SHAPE, "second": "root"}}
 
     def __init__(self, seed, came, whys):
         self.seed, self.came, self.whys, self.made, self.of = seed, came, whys, 0, None
 
     def make(self, of, ends):
         """A new tree of a kind, that is right, and ends then."""
-        self.tree = Tree({**SHAPE, "second": "root"} if of == "roots" else SHAPE,
-                         root_has(round=f"{int(ROUND * 1_000)}ms"), *self.trees[of])
+        self.tree = Tree(self.shapes.get(of, SHAPE), root_has(round=f"{int(ROUND * 1_000)}ms"),
+                         *self.trees[of])
         ends.callback(self.tree.close)
         self.of, self.what, self.ends = of, [], []
         self.units = [Unit(agent, self.whys) for agent in self.tree]
         self.tree.fill()
         # (one agent has another value, and each tells a hook of some)
         self.tree.write("key2@canary", "another")
-        self.tree["two"].top["groups"] = ["canary"]
+        [*self.tree][3].top["groups"] = ["canary"]
         for unit in self.units:
             unit.agent.hooks = [{"keys": ["key*"], "run": "/bin/true"}]
             unit.start()
-        if of == "roots":
+        if "standby" in self.tree.root.tables["root"]:
             sure(until(self.tree.root.status), self.tree.root.text())
             self.tree.root.ask("promote", "--as-is")
         if not self.holds(lambda: not self.wrong() and self.says_right(), 60):
@@ -368,11 +373,16 @@ class Trials:
             below[it.name] in above(it) for it in self.tree if it is not self.tree.root)
 
     def wrong(self):
-        """The agents whose settings are wrong. A file that has no key for its name, as a spoiled
-        path may make one, is no setting: an agent says that it is there, and leaves it alone."""
+        """The agents whose settings are wrong. What is no file, or has no key for its name, as a
+        spoiled path may make one, is no setting: an agent says that it is there, and leaves it
+        alone."""
         truth = self.tree.truth()
-        of = lambda it: {key: value for key, value in it.files().items() if KEY.fullmatch(key)}
-        return [it.name for it in self.tree if of(it) != counting(truth, it.top.get("groups", []))]
+
+        def is_right(agent):
+            own = counting(truth, agent.top.get("groups", []))
+            return own == {key: value for key, value in agent.files().items()
+                           if key in own or value is not None and KEY.fullmatch(key)}
+        return [agent.name for agent in self.tree if not is_right(agent)]
 
     def waits(self, seconds, *words):
         """Whether `wait` says that all have applied what the root's folder has."""
@@ -552,45 +562,16 @@ def who_finds_its_configuration_spoiled_ends_and_says_so(tree):
             with stopped(process) as memory:
                 copies = Memory(process, memory).found(re.escape(path))
                 os.pwrite(memory, b"?", copies[at % len(copies)] + len(path) - 1)
-        time.sleep(3)
-        for unit in units:
-            unit.tend()
+        # (each looks at what it has of it in that time)
+        until(lambda: not [unit.tend() for unit in units], 3 / PATIENCE, 0.05)
         tree.is_well()
     begins = "rignoldad: its memory is spoiled: "
     sure(whys and all(why.startswith(begins) for why in whys), whys)
 
 
-@of_tree({"left": "root", "away": "left", "leaf": "left"}, patient, without=["away"])
-def what_is_spoiled_of_an_absent_child_cuts_nobody_off(tree, root, left):
-    """What an agent remembers of it is said by nobody anew: a name that is none stays there."""
-    for turn, spoiled in enumerate((b"\xff", b"\0", b"x")):
-        name = f"nobody-else-has-this-{turn}"
-        child = Child(left, "away")
-        child.send(report([{"name": "away", "connected": True},
-                           {"name": name, "parent": "away", "connected": True}]))
-        named = lambda: any(it["name"] == name for it in root.ask("tree"))
-        sure(until(named), root.ask("tree"))
-        child.close()
-        sure(until(lambda: left.said("closed away") > turn), left.text()[-300:])
-        # (who is below it is named as long as it is away)
-        time.sleep(2.5)
-        sure(named(), root.ask("tree"))
-        spoil = {name.encode(): name[:4].encode() + spoiled + name[5:].encode()}
-        sure(write_over(left.process.pid, spoil) > 0, "it is nowhere in its memory")
-        names = {it["name"] for it in left.ask("tree")}
-        sure(names == {"left", "away", "leaf"}, names)
-        for _ in during(2):
-            tree.reaches("leaf")
-        bad = root.status()["bad_reports"]
-        for _ in during(2):
-            tree.reaches("leaf")
-        sure(root.status()["bad_reports"] == bad, "reports of it are none for ever")
-    sure(not root.said("closed left"), root.text()[-500:])
-    sure(left.status()["reconnects"] == 1, left.status())
-
-
 def main(trials=Trials, kinds=[*KINDS, "pair"], columns=COLUMNS, most="trials"):
-    chosen = options("kind", **{most: 100, "seed": "1", "trees": 3})
+    chosen = options("kind", **{most: 100, "seed": "1", "trees": 3, "loss": 0.0})
+    lose(chosen.loss)
     kinds = chosen.kind or kinds
     faults = [(*kinds[at % len(kinds)].split(":"), at // len(kinds))[:2]
               for at in range(vars(chosen)[most])]

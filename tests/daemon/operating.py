@@ -57,6 +57,7 @@ def who_has_not_said_its_groups_is_waited_for_until_it_is_forgotten(tree, root, 
     # it is one of the tree again when it is back, and when it is away after that
     two.start()
     becomes(lambda: [it["connected"] for it in root.ask("tree") if it["name"] == "two"], [True])
+    # (the root looks for that once in two seconds)
     time.sleep(2.5)
     two.kill()
     sure(until(lambda: "two is not connected" in root.lacks("--everywhere")), root.ask("tree"))
@@ -182,17 +183,6 @@ def a_refused_child_says_why(tree, root, left):
     tree.is_well()
     says = left.run("status").stdout + left.run("tree").stdout
     sure("refused by" not in says and "refuses" not in says, says)
-
-
-@of_tree({"left": "root", "twin": "root"}, by_tls, runs=False)
-def each_of_two_with_one_name_says_so(tree, root, left, twin):
-    twin.top["name"], twin.tables["tls"] = "left", left.tables["tls"]
-    root.top["children"] = ["left"]
-    tree.start()
-    why = "closed the parent: another process with the name of this agent has connected to it"
-    left.says(why)
-    twin.says(why)
-    root.says("clash left: two processes have this name")
 
 
 @of_tree({"left": "root", "leaf": "root"}, lambda tree: tree["leaf"].below(tree["left"]), by_tls,
@@ -437,8 +427,7 @@ def a_folder_under_git_goes_back(tree, root, left):
     (root.truth / "key2").unlink()
     commit("A change")
     differs(key1=3, key2=None)
-    time.sleep(1)
-    sure(left.files() == whole, left.files())
+    tree.goes_on(whole, [left])
     root.ask("confirm", root.ask("diff")["digest"])
     tree.wait()
     tree.settles()

@@ -1,8 +1,9 @@
-"""The choice of parents in trees of processes: who loses the root, stands still, or is alone."""
+"""What agents do that have no root, though they have parents. (How parents are chosen is in
+parents.rs and peers.rs of the library; who stands still, in trial.py.)"""
 import signal
 import time
 
-from daemons import becomes, of_tree, patient, until
+from daemons import of_tree, patient, until
 from runner import sure
 
 
@@ -15,40 +16,8 @@ def hasty(tree):
     patient(tree, ack_timeout="500ms", evict="2s")
 
 
-@of_tree({"rack0": "root", "rack1": "root", "leaf": "rack1"}, hasty, also("leaf", "rack0"),
-         begins=True)
-def who_has_another_parent_leaves_one_that_lost_the_root(tree, root, rack0, rack1, leaf):
-    """Or one that stands still."""
-    # (it may have begun after the other one)
-    leaf.becomes(parent="rack1")
-    root.ask("child", "remove", "rack1")
-    tree.write("two", "2")
-    tree.settles(rack0, leaf)
-    leaf.becomes(parent="rack0", way=["root", "rack0", "leaf"])
-    # (of the two that have it for a child, it is where it is connected)
-    becomes(lambda: {it["name"]: it["parent"] for it in root.ask("tree")}["leaf"], "rack0")
-    rack1.becomes(cost=128, way=["rack1"])
-    # (who has moved says so, and holds nothing back at its old parent)
-    sure(until(lambda: rack1.said("closed leaf: it takes another parent")), rack1.text())
-    sure(rack1.status()["children"][0]["left_behind"], rack1.status())
-    # (and it is back where it was once that has the root again)
-    root.ask("child", "add", "rack1")
-    root.ask("child", "remove", "rack0")
-    tree.write("three", "3")
-    tree.settles(rack1, leaf)
-    root.ask("child", "add", "rack0")
-    leaf.becomes(parent="rack1")
-    sure(until(rack0.up), rack0.text())
-    rack1.signal(signal.SIGSTOP)
-    tree.write("four", "4")
-    tree.settles(rack0, leaf)
-    leaf.becomes(parent="rack0")
-    rack1.signal(signal.SIGCONT)
-    tree.settles()
-
-
 def rests(agents):
-    """Asserts that agents stay where they are for a while, and say nothing."""
+    """Asserts that agents stay where they are for 3 s, and say nothing."""
     moves = lambda: [agent.status()["reconnects"] for agent in agents]
     lines = lambda: sum(agent.text().count("\n") for agent in agents)
     before, length = moves(), lines()
@@ -73,6 +42,7 @@ def agents_without_a_root_rest_and_come_back_to_it(tree):
         tree.settles()
 
     root.kill(signal.SIGTERM)
+    # (it is away for a moment alone)
     time.sleep(0.2)
     come_back()
     root.kill()

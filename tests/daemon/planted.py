@@ -3,6 +3,7 @@
 
     tests/daemon/planted.py [NAME..]         by hand: a build and a test each, in minutes
     tests/daemon/planted.py --fits [NAME..]  whether each fits the code and names a test, at once
+    tests/daemon/planted.py --table          of each file of tests what it tries, and what it finds
 
 A file has the lines `file:`, `old:`, `new:`, as the planted bugs of the crates, and `by:`, the test
 that finds it, and that the daemon passes as it is: one of check.py; of the library or a crate of
@@ -53,16 +54,12 @@ class Edit:
 
 def crate_of(file, rust):
     """What names the tests of a file to cargo, the file, and what is before their names."""
-    library = rust / f"rignolda/tests/{file}.rs"
-    if library.exists():
-        return ["--manifest-path", "rignolda/Cargo.toml", "--test", file], library, ""
-    for crate in "rignoldad", "rignolda_tls":
+    for crate in "rignolda_machine", "rignoldad", "rignolda_tls":
         path = rust / crate / f"tests/{file}.rs"
         if path.exists():
             return ["-p", crate, "--test", file], path, ""
     crate, _, file = file.partition("/")
-    named = ["--manifest-path", "rignolda/Cargo.toml"] if crate == "rignolda" else ["-p", crate]
-    return [*named, "--lib"], rust / crate / f"src/{file}.rs", file.replace("/", "::") + "::tests::"
+    return ["-p", crate, "--lib"], rust / crate / f"src/{file}.rs", file.replace("/", "::") + "::tests::"
 
 
 def fuzzed(name, rust):
@@ -105,6 +102,28 @@ def run(test, rust):
     return result and result[2] == "ok", words[-1][:150] if words else said[-300:]
 
 
+def file_of(test, rust):
+    """The file of a test, in Rust or in Python."""
+    file, _, name = test.rpartition("::")
+    if file == "fuzz":
+        return HERE / "fuzz.py"
+    known = {it.__name__: HERE / f"{it.__module__}.py".replace("__main__", "check") for it in TESTS}
+    return crate_of(file, rust)[1] if file else known[name]
+
+
+def table(edits, rust):
+    """Prints what each file of tests tries, by its first words, and which bugs it finds."""
+    files = {HERE / f"{it.__module__}.py": [] for it in TESTS}
+    files |= {it: [] for it in rust.glob("*/tests/**/*.rs") if "#[test]" in it.read_text()}
+    for edit in edits:
+        files.setdefault(file_of(edit.by, rust), []).append(edit.name)
+    for file, names in sorted(files.items()):
+        first = re.search(r'"""(.+?)(?:\n\n|""")|((?://![^\n]*\n)+)', file.read_text(), re.DOTALL)
+        says = " ".join(re.sub("//!", "", first[1] or first[2]).split()).partition(". ")[0]
+        at = file.relative_to(rust if rust in file.parents else HERE.parent)
+        print(f"{at}: {says.rstrip('.')}. Finds {len(names)}: {', '.join(sorted(names)) or 'none'}")
+
+
 def timed(name, what, test, rust, good):
     """Runs a test: whether that ended as it ought to, of which it says how long it took."""
     begun = time.monotonic()
@@ -127,7 +146,7 @@ def attempt(edits, rust):
 
 
 def main():
-    chosen = options("names", fits=False)
+    chosen = options("names", fits=False, table=False)
     with tempfile.TemporaryDirectory(prefix="rignolda-planted-") as work:
         rust = pathlib.Path(work) / "rust"
         shutil.copytree(HOME / "rust", rust, ignore=shutil.ignore_patterns("target"))
@@ -135,6 +154,8 @@ def main():
         edits = [Edit(path, rust) for path in sorted((HERE / "planted").glob("*.edit"))
                  if not chosen.names or path.stem in chosen.names]
         fit = [edit for edit in edits if edit.fits(rust)]
+        if chosen.table:
+            return table(fit, rust)
         good = [True] * len(fit) if chosen.fits else list(attempt(fit, rust))
         return sum_up(good + [False] * (len(edits) - len(fit)))
 

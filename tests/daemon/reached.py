@@ -6,7 +6,8 @@ import socket
 import time
 
 from blocked import preload
-from daemons import by_tls, certify, counted, during, of_tree, patient, root_has, until
+from daemons import (PATIENCE, by_tls, certify, counted, during, of_tree, patient, root_has,
+                     until)
 from runner import sure
 
 # How long an agent takes to find out that it cannot be reached, at most, and then until it ends.
@@ -55,8 +56,8 @@ def who_is_not_reached_says_so_and_gives_no_sign_until_it_is(tree, root, left, l
 
     def has_signs():
         said()
-        time.sleep(2)
-        return b"WATCHDOG=1" in said()
+        # (one comes each second)
+        return until(lambda: b"WATCHDOG=1" in said(), 2 / PATIENCE)
 
     with contextlib.closing(signs):
         tree.begin()

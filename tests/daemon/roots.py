@@ -6,9 +6,8 @@ import signal
 import time
 from unittest import mock
 
-from daemons import becomes, by_tls, counted, free_port, of_tree, read, until
+from daemons import becomes, by_tls, counted, during, free_port, of_tree, read, until
 from programs import ran
-from protocol import Child, report
 from runner import sure
 
 
@@ -178,7 +177,9 @@ def of_two_roots_that_find_each_other_one_goes_on(tree, root, second, left, leaf
         root.write("who", "root")
         follow(root, root, left, leaf)
         follow(second, second)
-        time.sleep(1)
+        # (none of them hears of the other one)
+        for _ in during(1):
+            sure({it.status()["standby"] for it in (root, second)} == {"root"})
         if is_demoted:
             # (by hand, while it does not see the other one)
             root.ask("demote")
@@ -218,30 +219,6 @@ def a_root_that_returns_while_the_other_one_is_away_keeps_back_what_is_old(tree,
     is_now(second, "root")
     second.ask("publish", "key1", "of the second too")
     follow(second)
-
-
-@of_tree({"second": "root", "left": "root", "liar": "root"}, two, runs=False)
-def a_number_that_one_child_invents_has_no_root_stand_by(tree, root, second, left, liar):
-    """A root that begins alone: a child says what it likes of itself, and of agents below it."""
-    tree.start([root, second, left])
-    tree.fill()
-    sure(until(root.status), root.text())
-    root.ask("promote", "--as-is")
-    follow(root, root, second, left)
-    second.kill()
-    for ahead in (1 << 20, 1 << 32, 1 << 62):
-        number = (root.status()["sequence"] + ahead) % (1 << 64)
-        root.restart()
-        sure(until(root.status), root.text())
-        said = {"connected": True, "applies": True, "whole": True, "sequence": number,
-                "applied": number, "round": number, "changed": number, "ahead": number}
-        child = Child(root, "liar")
-        child.send(report([{"name": "liar", **said}, {"name": "left", "parent": "liar", **said},
-                           *({"name": f"n{at}", "parent": "liar", **said} for at in range(9))]))
-        is_now(root, "root")
-        child.close()
-        root.ask("publish", "key0", ahead)
-        follow(root, root, left)
 
 
 @of_tree({"second": "root", "left": "root"}, two, runs=False)

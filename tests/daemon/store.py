@@ -179,6 +179,7 @@ def faults_of_a_store_are_mended_by_rounds():
             victims = draw.sample(list(tree), turn)
             for at in range(6):
                 tree.write(f"key{at}", f"{turn} {draw.randrange(99)}")
+            # (some of that is under way)
             time.sleep(0.2)
             redis.make_old()
             for victim in victims:

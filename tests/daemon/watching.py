@@ -6,7 +6,7 @@ import time
 
 from blocked import preload
 from daemons import PATIENCE, becomes, of_tree, root_has, took, until, very_patient
-from protocol import Child, report
+from protocol import Child
 from relay import between
 from runner import sure
 
@@ -142,44 +142,6 @@ def a_last_acknowledgement_is_news(tree):
     slow.close()
 
 
-@of_tree({"left": "root", "slow": "left"}, very_patient, root_has(round="1h"), without=["slow"])
-def of_reports_that_come_at_once_the_last_is_heard(tree):
-    """As where an agent stood still for a moment, and reads at once what came meanwhile."""
-    slow = Child(tree["left"], "slow")
-    gaps = lambda: [it["gaps"] for it in tree.root.ask("tree") if it["name"] == "slow"]
-    for turn in range(1, 4):
-        slow.send(b"".join(report([{"name": "slow", "gaps": turn * 10 + at}]) for at in range(5)))
-        becomes(gaps, [turn * 10 + 4])
-    slow.close()
-
-
-@of_tree({"hub": "root", "leaf": "hub", "many": "hub"}, very_patient, root_has(round="1h"),
-         runs=False)
-def reports_cost_what_changed(tree, root, hub, *_):
-    """A thousand agents of which there is no news add nothing to a report of others."""
-    relay = between(hub)
-    tree.begin(["many"])
-    of_many = [{"name": "many", "limit": 9}, *(
-        {"name": f"m{at}", "parent": "many", "connected": True, "limit": 9, "sequence": 1}
-        for at in range(1_000))]
-    many = Child(hub, "many")
-    many.send(report(of_many))
-    seen = lambda: {it["name"]: it for it in root.ask("tree")}
-    becomes(lambda: len(seen()), 1_004)
-    whole, changes = len(report(of_many)), 10
-    before, begun = relay.passed, time.monotonic()
-    for at in range(changes):
-        root.ask("publish", "colour", str(at))
-        becomes(lambda: seen()["leaf"]["applied"], root.status()["changed"])
-    # (all is said every 30 seconds, and so much is a change, with what else travels then)
-    passed, seconds = relay.passed - before, time.monotonic() - begun
-    most = (seconds / 30 + 1) * 2 * whole + changes * 4_000 + seconds * 100
-    sure(passed < most, passed, most, seconds)
-    ages = [it["age"] for name, it in seen().items() if name.startswith("m")]
-    sure(all(abs(age / 1_000 - seconds) < 20 * PATIENCE for age in ages), min(ages), seconds)
-    many.close()
-
-
 @of_tree({"hub": "root", "leaf": "hub"}, very_patient, root_has(round="1h"), runs=False)
 def a_report_that_was_lost_is_asked_for(tree, root, hub):
     """What changed since a report that the parent does not have is no use: it asks for all."""
@@ -222,6 +184,7 @@ def two_agents_of_one_name_are_counted(tree, root, left):
     sure(until(lambda: clashes()[0] > 2), clashes())
     sure(clashes()[1] == 0 and until(lambda: root.said("clash left") == 1), clashes())
     # (and they do not connect without end)
+    # (how often in a second is counted over two)
     before, begun = root.said("connected left"), time.monotonic()
     time.sleep(2)
     times = (root.said("connected left") - before) / (time.monotonic() - begun)

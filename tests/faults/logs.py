@@ -3,14 +3,10 @@ agents/check_report.py. And all lists that a link of capacity 1 can deliver, by 
 states of the link of reference.py. It shares nothing with the program."""
 import copy
 import functools
-import sys
-from pathlib import Path
 
+from check_report import is_subsequence, most_missing, obeys_tree_law
 from faults.reference import ACTS, Link
 from tables.reader import line
-
-sys.path.insert(0, str(Path(__file__).resolve().parent.parent.parent / "agents"))
-from check_report import is_subsequence, most_missing, obeys_tree_law  # noqa: E402
 
 
 def strays_of(tree, hold, node):

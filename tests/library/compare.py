@@ -3,15 +3,11 @@ known of links: what it prints has to be the columns of a drawn run."""
 import concurrent.futures
 import json
 import random
-import sys
 import tempfile
-from pathlib import Path
 
-TOP = Path(__file__).resolve().parent.parent.parent
-sys.path[:0] = [str(TOP / "tests"), str(TOP / "tools")]
-from examples import DATA  # noqa: E402
-from jobs import drawn_link  # noqa: E402
-from programs import answered, built  # noqa: E402
+from examples import DATA
+from jobs import drawn_link
+from programs import answered, built
 
 LETTERS = {"send_frame": "f", "recv_frame": "r", "recv_frame_keep": "R", "send_ack": "s",
            "recv_ack": "a", "recv_ack_keep": "A", "close": "c",

@@ -3,14 +3,11 @@ written by hand, and the tree law of agents/check_report.py, by lists at its bou
 laws are in tests/check_reports.py and tests/check_logs.py.)"""
 import os
 import runpy
-import sys
 import tempfile
 from types import SimpleNamespace
 
-TOP = os.path.dirname(os.path.dirname(os.path.dirname(os.path.realpath(__file__))))
-sys.path.insert(0, f"{TOP}/agents")
-import check_report  # noqa: E402
-
+import check_report
+from programs import TOP
 
 # What the logs have when all begin, what more when b is killed alone, and what comes then: r is the
 # root, a its child, and b and c are those of a. a has 7 and 8, which c has acknowledged, and b has

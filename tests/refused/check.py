@@ -53,37 +53,10 @@ OUT_OF_MEMORY = (3, b"", b"stab: out of memory\n")
 NOT_STARTED = (3, b"", b"stab: run: a worker could not be started\n")
 NO_MEMORY = (3, b"", b"rignolda: out of memory\n")
 
-# Each command, its flags, a job given by name and one on standard input; and faults of each status.
-JOBS = """
-    worst_start links/worst_start_with_origins links/file_after_dashes
-    trees/every_member trees/two_links_under_one_schedule trees/a_wider_second_link
-    trees/an_opening_passed_on runs/a_lone_root runs/words_a_lone_root runs/mixed_a_lone_root
-    refused/no_such_file refused/bad_event refused/flag_twice refused/help refused/unknown_flag
-    refused/two_files refused/too_many_acknowledgements refused_trees/unknown_node
-    refused_trees/too_few_labels_of_a_link refused_trees/opening_too_long
-    runs/two_frames_for_one_place runs/words_two_frames_for_one_place
-    runs/mixed_two_frames_for_one_place runs/words_and_mixed
-""".split()
-
-# Command lines of rignolda, with the status of each: each command with its answer and its faults,
-# and the texts of help, of the version and of mistakes.
-LINES = [
-    (2, ""), (0, "--version"), (0, "help draw"), (2, "draw --bad"), (2, "check - -"),
-    (0, "worst --capacity=1 --labels=4"), (2, "worst --capacity=0 --labels=4"),
-    (0, "random --nodes=3 --items=2 --schedule=5 --hold=1"), (2, "random --nodes=0"),
-    (0, "draw worst_start.json"), (0, "draw --svg worst_start.json"),
-    (0, "draw trees/an_offer_of_nothing.json"), (0, "draw --svg trees/an_offer_of_nothing.json"),
-    (0, "explain trees/every_member.json"), (1, "explain refused_trees/unknown_node.json"),
-    (0, "explain worst_start.json"), (1, "explain"),
-    (0, "bounds trees/every_member.json"), (1, "bounds worst_start.json"),
-    (0, "scenario scenarios/one_restart.json"), (1, "scenario trees/every_member.json"),
-    (0, "draw scenarios/a_struck_link.json"), (0, "draw --svg scenarios/a_struck_link.json"),
-    (1, "judge trees/every_member.json"),
-    (0, "check worst_start.json worst_start.out"),
-    (1, "check worst_start.json links/two_clean_rounds.out"),
-    (0, "check trees/an_offer_of_nothing.json trees/an_offer_of_nothing.out"),
-    (1, "check trees/an_offer_of_nothing.json -"), (1, "check worst_start.json no_such_file"),
-]
+# The examples of stab, and the statuses of command lines of rignolda with these, as `lines` has them.
+CASES = [line.split(" ", 1) for line in (HERE / "lines").read_text().splitlines() if line[0] != "#"]
+JOBS = [name for kind, name in CASES if kind == "stab"]
+LINES = [(int(kind), line) for kind, line in CASES if kind != "stab"]
 
 # The logs of a chain of three nodes, which obey, and which do not: the last one got a third stray.
 LOGS = [(0, [[1, 2, 3], [9, 2, 3], [8, 9, 3]]), (1, [[1, 2, 3], [9, 2, 3], [7, 8, 9]])]

@@ -1,6 +1,5 @@
 """Files that `rignolda` cannot read: each command with each of its files."""
 
-from tables.rignolda_check import NO_LINK
 from tables.rows import Row
 from tables.stab_limits import MOST
 
@@ -38,7 +37,8 @@ ROWS = [
     unread("explain", "file: too long", lambda _: " " * (MOST + 1)),
     unread("check job -", "report file: too long", lambda _: " " * (MOST + 1)),
     # (standard input as long as a report may be)
-    unread("check job -", NO_LINK, lambda _: " " * MOST),
+    unread("check job -", "not a report: line 1 is not as the text of a link has it; the job is a "
+           "link job: see rignolda explain", lambda _: " " * MOST),
     *(unread(line.replace("FILE", file), f"{what}: {said}",
              **({"long": " " * (MOST + 1)} if file == "long" else {}))
       for what, lines in [("file", READERS), ("report file", ["check job FILE"])]

@@ -1,9 +1,18 @@
-"""Rows of tests: a command line with what it reads, and what it has to print."""
+"""Rows of tests: a command line with what it reads, and what it has to print.
+
+A file NAME.rows has rows by paragraphs, each line of which is a word, a colon and a text; texts of
+one word are joined as lines, and `\\n` is the end of a line. A paragraph with `rows:` says what
+those after it have in common. Each of those is a row: `words:` is the command line, `given:` is
+read from standard input, `file X:` is a file beside it, and `old:` and `new:` change one of these,
+which `in:` names, or what is read. It ends with `status:` or 0, and prints `out:` and `err:`; or
+what it prints `on:` one of these `begins:` and `ends:` so, and may have as many `lines:`."""
 
 import json
 from dataclasses import dataclass, field
+from pathlib import Path
 
 from examples import DATA
+from programs import paragraphs
 
 # The worst start of capacity 1, and the text of its link.
 WORST_START, WORST_TEXT = ((DATA / f"worst_start.{it}").read_text() for it in ("json", "out"))
@@ -77,6 +86,27 @@ def replaced(text, part, instead):
     if part not in text:
         raise ValueError(f"there is no {part!r} to replace")
     return text.replace(part, instead, 1)
+
+
+HERE = Path(__file__).parent
+
+
+def told(name):
+    """The rows of such a file."""
+    for at, paragraph in enumerate(paragraphs(HERE / f"{name}.rows")):
+        own = {word: "\n".join(texts) for word, texts in paragraph.items()}
+        if "rows" in own:
+            shared = own
+            continue
+        of = {"in": "given", "given": "", "status": "0", **shared, **own}
+        if "old" in of:
+            of[of["in"]] = replaced(of[of["in"]], of["old"], of["new"])
+        files = {word[5:]: text for word, text in of.items() if word.startswith("file ")}
+        said = {it: f"{of[it]}\n" if it in of else "" for it in ("out", "err")}
+        if "on" in of:
+            said[of["on"]] = like(of["begins"], of["ends"], lines=int(of.get("lines", 0)) or None)
+        yield Row(f"{of['rows']}: {of.get('new', '')}, {at}", of["words"].split(), of["given"],
+                  files, int(of["status"]), **said)
 
 
 def refusals(name, job, said, tasks=(["tree"],)):

@@ -8,8 +8,9 @@ import json
 import re
 from functools import partial
 
+from programs import paragraphs
 from tables.reader import EVENTS as WORDS, row
-from tables.rows import Row, WORST_START as PLAIN, WORST_TEXT
+from tables.rows import HERE, Row, WORST_START as PLAIN, WORST_TEXT
 from tables.texts import FURTHER, WHOLE, broken, by_value, nested, swapped
 
 # Its parts, and what gives the text with each of some others in place of a part of it.
@@ -19,7 +20,6 @@ changed = partial(swapped, PLAIN)
 
 # A start with something in each queue, and room for more: each side expects what comes first.
 EACH_HALF_FULL = '{"frames":[[2,99],[3,98]],"acks":[0,5],"send":0,"recv":1}'
-OVERFULL = ["[[2,99],[3,98]]", "[[2,99],[]]", "[[[2,99]]]"]
 # Entries that are no events.
 NO_EVENTS = ['"jump"', '"offer"', '["jump",0]', '["offer",4294967296]', "[]", "{}",
              '["lose_ack",65536]', "7", "1.5", "true", "null", '["offer"]']
@@ -48,9 +48,6 @@ TEXTS = [
     # the members in another order, white space, and escapes
     PLAIN, "{" + ",".join([EVENTS, START, CAPACITY_AND_LABELS]) + "}",
     " \t\r\n" + PLAIN.replace(",", " ,\n").replace(":", "\t: ") + "\n ",
-    *changed('"capacity"', '"c\\u0061pacity"', '"Capacity"', "capacity", "1"),
-    *changed('"frames"', '"\\u0066rames"', '"frame"'),
-    *changed('"send_frame"', '"send\\u005fframe"', '"SEND_FRAME"', '"send_frame "', '"\\ud83d"'),
     # numbers in each place of one
     *(text for old, new in [
         ('"capacity":1', '"capacity":%s'), ('"labels":4', '"labels":%s'), ("[[2,", "[[%s,"),
@@ -59,8 +56,6 @@ TEXTS = [
         ('["offer",12]', '["offer",%s]'),
     ] for number_text in WHOLE for plain in changed(old, new % number_text)
       for text in [plain, by_value(plain)]),
-    *changed(CAPACITY_AND_LABELS, '"capacity":64,"labels":130', '"capacity":64,"labels":129',
-             '"capacity":65,"labels":200', '"capacity":65537,"labels":4'),
     # labels, each beside the one after it
     *(text for label in (0, 3, 4, 65535)
       for text in changed(START, f'"start":{{"acks":[{label}],"send":{label},"recv":3}}')),
@@ -74,33 +69,14 @@ TEXTS = [
     # further members, and members that come again
     *(text for further in FURTHER for old in ("{" + CAPACITY_AND_LABELS, '"recv":1')
       for text in changed(old, old + ',"note":' + further)),
-    *changed('"labels":4', '"labels":null,"labels":4', '"labels":4,"labels":null',
-             '"labels":9,"labels":4', '"version":3,"labels":4', '"tree":[],"labels":4'),
-    *changed('"send":0', '"send":7,"send":0', '"send":0,"send":-1', '"send":0,"acks":[0]',
-             '"send":0,"frames":[[1,2]],"frames":[[2,99]]', '"send":0,"frames":null'),
-    *changed(EVENTS, '"events":["jump"],' + EVENTS, EVENTS + ',"events":["jump"]',
-             '"events":null', '"events":{}', '"events":"close"', '"events":5', '"events":[]'),
-    # members that are absent, and values of other shapes
-    *changed('"capacity":1,', ""), *changed('"labels":4,', ""), *changed(START + ",", ""),
-    *changed("," + EVENTS, ""), *changed('"send":0,', ""), *changed(',"recv":1', ""),
-    *changed(START, '"start":[]', '"start":null', '"start":7', '"start":{"send":0}'),
-    *changed("[[2,99]]", "[[]]", "[{}]", "[[2]]", "[[2,99,0]]", "[2,99]", "[null]", "null", "{}",
-             '[["2",99]]', *OVERFULL),
-    *changed('"acks":[0]', '"acks":0', '"acks":[[0]]', '"acks":null', '"acks":{}', '"acks":[0,1]',
-             '"acks":["0"]'),
-    *changed('[[2,99]],"acks":[0]', '[[2,99],[3,98]],"acks":[0,1]'),
-    *changed('["offer",13]', '"offer"', '["offer"]', '["offer",13,0]', '["offer",[13]]',
-             '[13,"offer"]', '["close"]', '["close",0]', "[]", "{}", "null", "7", '"jump"',
-             '["jump",0]', '[["offer",13]]', '"lose_frame"', '["lose_frame"]', '{"offer":13}',
-             '["offer","13"]', '["offer",true]', '["offer",null]', '["o\\u0066fer",13]'),
-    *changed("[0]", "[0 0]"), *changed('"start":{', '"start":['),
-    *changed('"recv":1}', '"recv":1]'),
+    # one part of it changed, as links.rows has it
+    *(text for it in paragraphs(HERE / "links.rows") for text in changed(it["old"][0], *it["new"])),
     *(text for bad in NO_EVENTS for text in refused_too(bad)),
     # texts that are cut short, go on, or are not UTF-8
     *broken(PLAIN),
 ]
 
-ROWS = [row(place, ["link"], text) for place, text in enumerate(TEXTS)]
-ROWS += [row(place, ["link", "--trace"], TEXTS[place]) for place in range(0, len(TEXTS), 8)]
+ROWS = [row(place, words, text)
+        for place, text in enumerate(TEXTS) for words in (["link"], ["link", "--trace"])]
 # (worked out by hand)
 ROWS += [Row("the worst start", ["link", "--trace"], PLAIN, out=WORST_TEXT + "origins: s0 i3\n")]

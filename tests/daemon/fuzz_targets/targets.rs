@@ -1,27 +1,24 @@
 //! What the fuzzer calls: each target reads bytes as the daemon does, and panics where what comes
 //! out is not what the format says.
-use rignolda::net::parents::NAMES;
-use rignolda::net::wire::{self, take, Expect, Message, REPORT_BYTES, WAY_BYTES};
-use rignolda::net::{
-    Body, Children, Handler, Line, Parent, Parents, Peers, Setup, Way, BODY_BYTES,
+use rignolda_machine::below::{reports, Below};
+use rignolda_machine::net::parents::NAMES;
+use rignolda_machine::net::wire::{self, take, Expect, Message, REPORT_BYTES, WAY_BYTES};
+use rignolda_machine::net::{
+    Body, Children, End, Output, Parent, Parents, Peers, Setup, Way, BODY_BYTES,
 };
-use rignolda::settings::{Meaning, Table};
+use rignolda_machine::settings::{Meaning, Table};
+use rignolda_machine::{Ticket, Time};
 use rignoldactl::ask::{bounds_text, tree_text};
-use rignoldactl::{ChildStatus, Request, Response, Status};
+use rignoldactl::{sha256, ChildStatus, Request, Response, Status};
 use rignoldad::config::Config;
 use rignoldad::control::{self, Asked, Server};
-use rignoldad::serve::Ticket;
-use rignoldad::reports;
-use rignoldad::tree::Below;
 use std::cell::RefCell;
 use std::collections::BTreeMap;
-use std::fmt;
-use std::io::{self, ErrorKind, Read, Write};
+use std::io::{Read, Write};
 use std::net::Shutdown;
 use std::os::unix::net::UnixStream;
 use std::path::PathBuf;
-use std::sync::Arc;
-use std::time::{Duration, Instant};
+use std::time::Duration;
 
 thread_local! {
     static INPUT: RefCell<Vec<u8>> = const { RefCell::new(Vec::new()) };
@@ -105,7 +102,7 @@ fn written(message: &Message) -> Vec<u8> {
 /// is taken which may be, the tests of the library say.)
 fn messages(bytes: &[u8]) {
     let Some((first, bytes)) = bytes.split_first() else { return };
-    let (expect, now) = (EXPECT[usize::from(first % 4)], Instant::now());
+    let (expect, now) = (EXPECT[usize::from(first % 4)], Time::default());
     let mut chooses = Parents::new("inner", [None, Some(3)]).with_children();
     let (mut input, mut at) = (bytes.to_vec(), 0);
     // (in words, and never of what is a whole message)
@@ -156,16 +153,16 @@ fn told(chooses: &mut Parents, candidate: usize, way: Way) {
 }
 
 /// What an agent tells its parent of a report is one as well, and of changes behind another one.
-fn heard(json: &[u8], now: Instant) {
+fn heard(json: &[u8], now: Time) {
     let base = br#"[{"name":"child"},{"name":"leaf","parent":"child"}]"#;
-    let changes = [b"C", &reports::id(base)[..], json].concat();
+    let changes = [b"C", &reports::id(base, sha256)[..], json].concat();
     passed_on(&[json], now);
     passed_on(&[base, &changes], now);
 }
 
 /// Reports come from a child, and what follows is passed on.
-fn passed_on(reports: &[&[u8]], now: Instant) {
-    let (mut below, mut now) = (Below::default(), now);
+fn passed_on(reports: &[&[u8]], now: Time) {
+    let (mut below, mut now) = (Below::new(sha256), now);
     for report in reports {
         if !below.heard("child", report, now) {
             return;
@@ -177,7 +174,7 @@ fn passed_on(reports: &[&[u8]], now: Instant) {
     let status = Status { name: "inner".into(), children: children.into(), ..Status::default() };
     let report = below.report(&status, now);
     assert!(report.len() <= REPORT_BYTES);
-    assert!(Below::default().heard("inner", &report, now));
+    assert!(Below::new(sha256).heard("inner", &report, now));
     let list = below.tree(&status, now);
     // (what is kept of who is away is the same)
     below.learns([("child", false)].into_iter());
@@ -227,7 +224,7 @@ fn configuration(bytes: &[u8]) {
     let Ok(text) = std::str::from_utf8(bytes) else { return };
     match Config::parse(text) {
         Ok(config) => {
-            let peers = &config.peers;
+            let peers = &config.agent.peers;
             let parents = peers.parents.iter().filter_map(|parent| parent.name.as_ref());
             let children = match &peers.children {
                 Children::Named(children) => children.keys().collect(),
@@ -235,7 +232,7 @@ fn configuration(bytes: &[u8]) {
             };
             let mut names = parents.chain(children).chain([&peers.name]);
             assert!(names.all(|name| is_name(name)));
-            assert_eq!(config.root.is_some(), peers.parents.is_empty());
+            assert_eq!(config.agent.root.is_some(), peers.parents.is_empty());
             assert!(config.clone().take(config.clone()).is_empty());
         }
         Err(faults) => {
@@ -251,7 +248,7 @@ fn configuration(bytes: &[u8]) {
 /// What has come at the control socket.
 fn ready(server: &mut Server) -> Vec<(Ticket, Result<Request, String>)> {
     let fired = server.descriptors().map(|(descriptor, ..)| descriptor).collect();
-    let asked = server.ready(&fired, Instant::now()).into_iter();
+    let asked = server.ready(&fired, Time::default()).into_iter();
     asked
         .map(|(ticket, asked)| match asked {
             Asked::Request(request, _) => (ticket, request),
@@ -302,62 +299,6 @@ fn requests(bytes: &[u8]) {
     });
 }
 
-/// A line that brings what is put here. Nobody looks at what is written to it.
-#[derive(Default)]
-struct Pipe(RefCell<Vec<u8>>);
-
-impl Read for Pipe {
-    fn read(&mut self, to: &mut [u8]) -> io::Result<usize> {
-        let bytes = self.0.get_mut();
-        let count = bytes.len().min(to.len());
-        to[..count].copy_from_slice(&bytes[..count]);
-        bytes.drain(..count);
-        if count == 0 {
-            Err(ErrorKind::WouldBlock.into())
-        } else {
-            Ok(count)
-        }
-    }
-}
-
-impl Write for Pipe {
-    fn write(&mut self, bytes: &[u8]) -> io::Result<usize> {
-        Ok(bytes.len())
-    }
-
-    fn flush(&mut self) -> io::Result<()> {
-        Ok(())
-    }
-}
-
-impl Line for Pipe {
-    fn may_be(&self, name: &str) -> bool {
-        is_name(name)
-    }
-}
-
-#[derive(Default)]
-struct Shell(Below);
-
-impl Handler for Shell {
-    fn on_item(&mut self, body: &Arc<Body>, _: Instant) -> bool {
-        matches!(body.meaning(), Some((_, Meaning::Table(_))))
-    }
-
-    fn on_report(&mut self, child: &str, report: &[u8], now: Instant) {
-        assert!(CHILDREN.iter().any(|(name, _)| *name == child));
-        self.0.heard(child, report, now);
-    }
-
-    fn on_gone(&mut self, child: &str) {
-        self.0.forget(child);
-    }
-
-    fn on_fact(&mut self, _: &'static str, words: fmt::Arguments<'_>) {
-        assert!(!words.to_string().is_empty());
-    }
-}
-
 const CHILDREN: [(&str, Option<&str>); 3] =
     [("leaf", None), ("far", Some("line")), ("kept", Some("store"))];
 /// What others set in the store, and what the agent sets, which they may spoil.
@@ -389,19 +330,19 @@ fn agent(bytes: &[u8]) {
         evict: Duration::from_secs(60),
         poll: Duration::from_millis(50),
     };
-    let (mut now, to) = (Instant::now(), &mut Shell::default());
+    let (mut now, mut below) = (Time::default(), Below::new(sha256));
     let (mut peers, mut store) = (Peers::new(setup, 7, 16, now), BTreeMap::new());
-    let mut rest = bytes;
+    let (mut rest, mut made) = (bytes, 0);
     while let [first, length, after @ ..] = rest {
         let (piece, after) = after.split_at(after.len().min(usize::from(*length)));
         rest = after;
         match usize::from(first % 8) {
             7 => {
                 now += Duration::from_millis(u64::from(*length) * 10);
-                assert_eq!(peers.check(false, now, to), Ok(()));
+                assert_eq!(peers.check(false, now), Ok(()));
                 let children = peers.relay().children();
-                to.0.learns(children.map(|(name, link)| (&**name, link.is_connected())));
-                to.0.keeps(now);
+                below.learns(children.map(|(name, link)| (&**name, link.is_connected())));
+                below.keeps(now);
             }
             6 => {
                 let key = KEYS[usize::from(first / 8) % KEYS.len()];
@@ -409,20 +350,20 @@ fn agent(bytes: &[u8]) {
             }
             at => {
                 if peers.lines().nth(at).is_none() {
-                    peers.accept(Pipe::default(), now, to);
+                    made += 1;
+                    peers.accept(made, End::default(), now);
                 }
-                let (id, line, _) = peers.lines().take(at + 1).last().expect("there is one");
-                line.0.borrow_mut().extend_from_slice(piece);
-                peers.read([id], now, to);
+                let id = peers.lines().take(at + 1).last().expect("there is one");
+                peers.bytes(id, piece, now);
             }
         }
-        turn(&mut peers, &mut store, now, to);
+        turn(&mut peers, &mut below, &mut store, &mut made, now);
         assert_eq!(peers.fault(), None);
     }
     // All that is due now gets done: no loop would turn without end.
     let is_done = (0..16).any(|_| {
-        turn(&mut peers, &mut store, now, to);
-        peers.deadline(now).is_none_or(|at| at > now)
+        turn(&mut peers, &mut below, &mut store, &mut made, now);
+        peers.deadline().is_none_or(|at| at > now)
     });
     assert!(is_done);
     assert!(peers.lines().count() <= 64 + 2 * CHILDREN.len() + 3);
@@ -430,28 +371,56 @@ fn agent(bytes: &[u8]) {
     assert!(peers.way().names.len() <= NAMES);
 }
 
-/// What an agent's loop does at this moment.
-fn turn(
-    peers: &mut Peers<Pipe, &'static str>,
-    store: &mut BTreeMap<String, Vec<u8>>,
-    now: Instant,
-    to: &mut Shell,
-) {
-    peers.tick(now, to);
-    while let Some(call) = peers.next_call(now, to) {
-        match call.address {
-            "store" => peers.in_store(call, now),
-            _ => peers.called(call, Ok(Pipe::default()), now, to),
+/// Does what comes out; and all that is sent is with the system at once.
+fn acts(peers: &mut Peers<&'static str>, below: &mut Below, now: Time) {
+    while let Some(output) = peers.output() {
+        match output {
+            Output::Item(body) => {
+                let is_table = matches!(body.meaning(), Some((_, Meaning::Table(_))));
+                peers.takes(is_table, now);
+            }
+            Output::Send(id, chunk) => {
+                assert!(chunk.from(0).iter().any(|part| !part.is_empty()));
+                peers.sent(id, now);
+            }
+            Output::Report(child, report) => {
+                assert!(CHILDREN.iter().any(|(name, _)| *name == child));
+                below.heard(&child, &report, now);
+            }
+            Output::Gone(child) => below.forget(&child),
+            Output::Fact(_, words) => assert!(!words.is_empty()),
+            _ => (),
         }
     }
-    for (place, turn) in peers.turns(now, to) {
+}
+
+/// Does what is due.
+fn turn(
+    peers: &mut Peers<&'static str>,
+    below: &mut Below,
+    store: &mut BTreeMap<String, Vec<u8>>,
+    made: &mut u64,
+    now: Time,
+) {
+    acts(peers, below, now);
+    peers.tick(now);
+    while let Some(call) = peers.next_call(now) {
+        match call.address {
+            "store" => peers.in_store(call, now),
+            _ => {
+                *made += 1;
+                peers.called(call, Ok((*made, End::default())), now);
+            }
+        }
+    }
+    for (place, turn) in peers.turns(now) {
         store.extend(turn.sets);
         let shown = |(key, most): &(String, usize)| {
             let bytes = store.get(key).map_or(&[][..], Vec::as_slice);
             bytes[..bytes.len().min(*most)].to_vec()
         };
         let got = turn.gets.iter().map(shown).collect();
-        peers.turned(&place, Ok(got), now, to);
+        peers.turned(&place, Ok(got), now);
     }
-    peers.write(now, to);
+    acts(peers, below, now);
 }
