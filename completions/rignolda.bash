@@ -1,4 +1,4 @@
-# The completions of rignolda for bash: source this file. Written by tools/completions.py; change nothing here.
+# The completions of rignolda for bash: source this file.
 _rignolda() {
     local word=${COMP_WORDS[COMP_CWORD]} flags='' files=''
     COMPREPLY=()

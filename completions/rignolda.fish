@@ -1,4 +1,4 @@
-# The completions of rignolda for fish. Written by tools/completions.py; change nothing here.
+# The completions of rignolda for fish.
 complete -c rignolda -f
 complete -c rignolda -n __fish_use_subcommand -l help -d 'Print help'
 complete -c rignolda -n __fish_use_subcommand -l version -d 'Print version'

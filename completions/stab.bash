@@ -1,4 +1,4 @@
-# The completions of stab for bash: source this file. Written by tools/completions.py; change nothing here.
+# The completions of stab for bash: source this file.
 _stab() {
     local word=${COMP_WORDS[COMP_CWORD]} flags='' files=''
     COMPREPLY=()

@@ -1,4 +1,4 @@
-# The completions of stab for fish. Written by tools/completions.py; change nothing here.
+# The completions of stab for fish.
 complete -c stab -f
 complete -c stab -n __fish_use_subcommand -a link -d 'reads a link job and prints the text of the link after its events'
 complete -c stab -n '__fish_seen_subcommand_from link' -l trace
