@@ -128,8 +128,10 @@ impl Lines {
         self.handshakes.go_on(now, |it| *it == Origin::Own || knows(it));
         let registry = self.poll.registry();
         for (fd, ..) in self.others.iter().filter(|(fd, ..)| others.iter().all(|it| it.0 != *fd)) {
-            // (where it was closed, the system has forgotten it already)
-            let _ = registry.deregister(&mut SourceFd(fd));
+            // (if it was closed, the system has forgotten it, and it may be a line's by now)
+            if !self.held.values().any(|it| it.waits_for().0 == *fd) {
+                let _ = registry.deregister(&mut SourceFd(fd));
+            }
         }
         for it in others.iter().filter(|it| !self.others.contains(it)) {
             watch(registry, it.0, Token(OTHER | it.0 as usize), written(it.2))?;
@@ -290,6 +292,9 @@ impl Lines {
         (self.held, self.expires) = (BTreeMap::new(), i64::MAX);
         self.unsure.clear();
         self.again.clear();
+        // (a descriptor that is made now may have the number of one that ends now)
+        let others: Vec<RawFd> = self.others.iter().map(|it| it.0).collect();
+        self.forget(&others);
         self.caller = Caller::new(self.wake.clone());
     }
 
@@ -350,7 +355,8 @@ impl Lines {
         self.unsure = self.held.keys().copied().collect();
     }
 
-    /// These descriptors are made anew: the system tells nothing of the old ones any more.
+    /// These descriptors are made anew: the system tells nothing of the old ones any more, and what
+    /// has their numbers then is waited for.
     pub fn forget(&mut self, old: &[RawFd]) {
         for fd in old {
             let _ = self.poll.registry().deregister(&mut SourceFd(fd));

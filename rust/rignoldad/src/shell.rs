@@ -188,8 +188,19 @@ impl Shell {
         self.machine.step(now, input, &mut self.acts);
     }
 
-    /// Does what is to be done, and what follows from that.
+    /// Does what is to be done, and what follows from that; and looks at itself, if it is to.
     fn act(&mut self, now: Now) -> Result<(), ErrorAt> {
+        self.does_all(now)?;
+        // (what was asked for until then is under way now)
+        if std::mem::take(&mut self.checks) {
+            let checked = self.check(now);
+            self.spoiled = self.spoiled.or(checked.err());
+            self.does_all(now)?;
+        }
+        self.spoiled.map_or(Ok(()), |why| Err(at("its memory is spoiled")(why)))
+    }
+
+    fn does_all(&mut self, now: Now) -> Result<(), ErrorAt> {
         loop {
             for act in std::mem::take(&mut self.acts) {
                 self.does(act, now)?;
@@ -201,14 +212,9 @@ impl Shell {
                 }
             }
             if self.acts.is_empty() {
-                break;
+                return Ok(());
             }
         }
-        // (what was asked for until then is under way now)
-        let checks = std::mem::take(&mut self.checks);
-        let checked = if checks { self.check(now) } else { Ok(()) };
-        let spoiled = self.spoiled.or(checked.err());
-        spoiled.map_or(Ok(()), |why| Err(at("its memory is spoiled")(why)))
     }
 
     fn does(&mut self, act: Act, now: Now) -> Result<(), ErrorAt> {
@@ -248,7 +254,7 @@ impl Shell {
     fn check(&mut self, now: Now) -> Result<(), &'static str> {
         let at = now.at;
         self.answers.passes(at);
-        self.sockets.keep(at);
+        self.sockets.keep(at, &mut self.lines);
         self.renew(at);
         self.says_when_it_expires();
         if !self.lines.looks_up() {

@@ -110,8 +110,11 @@ impl Sockets {
 
     /// Whoever connects to a socket's file comes to this agent, whatever was done to that. To be
     /// told each second or two.
-    pub fn keep(&mut self, now: Time) {
+    pub fn keep(&mut self, now: Time, lines: &mut Lines) {
         self.full_until = self.full_until.min(now + FULL);
+        if !self.all().all(Listener::is_in_place) {
+            self.is_forgotten(lines);
+        }
         let served = self.servers.iter_mut().map(Server::listener_mut);
         let mut lost = String::new();
         for it in self.listeners.iter_mut().chain(served).filter(|it| !it.is_in_place()) {
@@ -148,14 +151,19 @@ impl Sockets {
     /// Makes each anew, since it is used only if somebody connects. What cannot be made now is as
     /// before.
     pub fn begin_anew(&mut self, config: &Config, lines: &mut Lines) {
-        let old: Vec<RawFd> = self.all().map(AsRawFd::as_raw_fd).collect();
-        // (else the system would go on to tell of the descriptors of before)
-        lines.forget(&old);
+        self.is_forgotten(lines);
         self.listeners.iter_mut().for_each(|it| drop(it.begins_anew()));
         let counts = config.control.iter().map(|_| None);
         let counts = counts.chain(config.metrics.map(Some));
         for (server, counts) in self.servers.iter_mut().zip(counts) {
             let _ = control::begins_anew(server, counts);
         }
+    }
+
+    /// The descriptors are others from now on: else the system would go on to tell of those of
+    /// before, and would tell nothing of one that has the number of another one then.
+    fn is_forgotten(&self, lines: &mut Lines) {
+        let old: Vec<RawFd> = self.all().map(AsRawFd::as_raw_fd).collect();
+        lines.forget(&old);
     }
 }

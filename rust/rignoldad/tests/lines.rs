@@ -7,6 +7,7 @@ use rignoldad::config::Config;
 use rignoldad::lines::Lines;
 use rignoldad::system::time;
 use std::io::{Read, Write};
+use std::os::unix::io::AsRawFd;
 use std::os::unix::net::{UnixListener, UnixStream};
 use std::time::Duration;
 
@@ -21,6 +22,11 @@ fn lines() -> Lines {
 
 /// A new line of these, and its other end.
 fn line(lines: &mut Lines) -> (u64, UnixStream) {
+    line_after(lines, || ())
+}
+
+/// The same, right before which something is done.
+fn line_after(lines: &mut Lines, does: impl FnOnce()) -> (u64, UnixStream) {
     static MADE: std::sync::atomic::AtomicU64 = std::sync::atomic::AtomicU64::new(0);
     let made = MADE.fetch_add(1, std::sync::atomic::Ordering::Relaxed);
     let name = format!("rignoldad-lines-{}-{made}", std::process::id());
@@ -28,6 +34,7 @@ fn line(lines: &mut Lines) -> (u64, UnixStream) {
     let _ = std::fs::remove_file(&path);
     let listener = UnixListener::bind(&path).unwrap();
     let address = Address::Unix(path.display().to_string());
+    does();
     let called = lines.call(Call { whom: Whom::Parent, address, failed: 0 });
     std::fs::remove_file(path).unwrap();
     match called {
@@ -111,6 +118,41 @@ fn no_line_has_the_number_of_another_one() {
     lines.begin_anew();
     assert!(line(&mut lines).0 > third);
     drop((one, two, three));
+}
+
+/// An operator's connection that is over, say, gives its descriptor's number to the next line.
+#[test]
+fn a_line_is_waited_for_whatever_its_descriptor_was_before() {
+    let mut lines = lines();
+    for _ in 0..100 {
+        let (gone, _other) = UnixStream::pair().unwrap();
+        let others = vec![(gone.as_raw_fd(), 1, false)];
+        lines.wait(|_| false, others, time(), LONG).unwrap();
+        let (id, mut other) = line_after(&mut lines, || drop(gone));
+        other.write_all(b"RGND").unwrap();
+        fires(&mut lines, id);
+        lines.close(id);
+    }
+}
+
+/// As what tells of changes in a folder, where the agent begins anew.
+#[test]
+fn what_is_made_anew_is_waited_for_though_it_has_the_same_descriptor() {
+    let mut lines = lines();
+    for _ in 0..100 {
+        let (one, _other) = UnixStream::pair().unwrap();
+        let fd = one.as_raw_fd();
+        lines.wait(|_| false, vec![(fd, 0, false)], time(), LONG).unwrap();
+        drop(one);
+        lines.begin_anew();
+        let (one, mut other) = UnixStream::pair().unwrap();
+        if one.as_raw_fd() == fd {
+            other.write_all(b"?").unwrap();
+            let until = time() + LONG;
+            let fired = lines.wait(|_| false, vec![(fd, 0, false)], until, LONG).unwrap();
+            assert!(fired.others.contains(&fd), "the system tells nothing of it");
+        }
+    }
 }
 
 #[test]

@@ -70,7 +70,6 @@ impl Machine {
         acts.push(Act::Anew);
         self.came.begins(now);
         self.peers = peers(&self.config, &mut self.host, now);
-        // (connections are counted from 1 again)
         (self.told, self.calls) = (Told::default(), 0);
     }
 
