@@ -13,7 +13,7 @@ use crate::{Fact, Sha256, Ticket, Time};
 use core::time::Duration;
 
 /// Writes a line at once, before anything follows from it, for trials.
-pub type Trace = fn(&'static str, &str);
+pub type Trace = fn(&Fact);
 
 /// What came, and what became of it.
 #[derive(Debug)]
@@ -145,8 +145,7 @@ impl Came {
         }
         for (child, count) in self.below.were_none() {
             self.bad_reports += count;
-            let all = self.bad_reports;
-            self.fact("report", format!("{child} sent what is none ({all} in all)"));
+            self.fact(Fact::NoReport(child, self.bad_reports));
         }
     }
 
@@ -162,8 +161,7 @@ impl Came {
     /// Takes up what was done about settings.
     pub fn applied(&mut self, now: Time) {
         if let Some(floor) = self.applier.as_mut().and_then(Applier::found_later) {
-            let words = format!("its files have change {floor}, and its memory is older");
-            self.fact("numbers", words);
+            self.fact(Fact::Forgot(floor));
             self.restarts(floor);
         }
         let Some(applier) = &mut self.applier else { return };
@@ -172,16 +170,12 @@ impl Came {
         self.changed |= !done.is_empty() || self.applying.is_some() != is_busy;
         self.applying = is_busy.then(|| self.applying.unwrap_or(now));
         let (good, bad): (Vec<_>, _) = done.into_iter().partition(|it| it.status == Outcome::Done);
-        let words = |it: Applied| ("applied", format!("{} {}", it.sequence, it.key));
-        self.facts.extend(good.into_iter().map(words));
+        let fact = |it: Applied| Fact::Applied(it.sequence, it.key);
+        self.facts.extend(good.into_iter().map(fact));
         // (what fails for one reason is one line)
         let mut whys: BTreeMap<String, Vec<String>> = BTreeMap::new();
         bad.into_iter().for_each(|it| whys.entry(it.status.to_string()).or_default().push(it.key));
-        let words = |(why, keys): (String, Vec<String>)| match &keys[..] {
-            [key] => ("failed", format!("{key}: {why}")),
-            _ => ("failed", format!("{} and {} more: {why}", keys[0], keys.len() - 1)),
-        };
-        self.facts.extend(whys.into_iter().map(words));
+        self.facts.extend(whys.into_iter().map(|(why, keys)| Fact::Failed(keys, why)));
     }
 
     /// What of facts that repeat is to be said by now.
@@ -189,8 +183,8 @@ impl Came {
         self.facts.extend(self.repeats.passes(now));
     }
 
-    fn tell(&mut self, fact: &'static str, words: String) {
-        self.facts.push((fact, words));
+    fn tell(&mut self, fact: Fact) {
+        self.facts.push(fact);
     }
 }
 
@@ -217,16 +211,17 @@ impl Came {
             self.applying = self.applying.or_else(|| applier.is_busy().then_some(now));
         }
         if self.table.full && !was_full {
-            let words = format!("{sequence} would be too much: a whole table is waited for");
-            self.tell("full", words);
+            self.tell(Fact::Full(sequence));
         }
         if let Some(writes) = self.traces {
             // (what a trial judges is written before anything follows from it)
-            let fact = self.root.as_ref().map_or("received", |_| "published");
-            writes(fact, &sequence.to_string());
+            writes(&match self.root {
+                Some(_) => Fact::Published(sequence),
+                None => Fact::Received(sequence),
+            });
         }
         if self.table.strays > strays && self.may_say(now) {
-            self.tell("stray", format!("{sequence} ({} in all)", self.table.strays));
+            self.tell(Fact::Stray(sequence, self.table.strays));
         }
         if takes && is_table {
             self.round_at = Some(now);
@@ -239,8 +234,7 @@ impl Came {
         self.changed = true;
         self.garbage += 1;
         if self.may_say(now) {
-            let (item, length, all) = (body.item, body.bytes.len(), self.garbage);
-            self.tell("garbage", format!("item {item:08x} with {length} bytes ({all} in all)"));
+            self.tell(Fact::Garbage(body.item, body.bytes.len(), self.garbage));
         }
     }
 
@@ -271,19 +265,18 @@ impl Came {
     }
 
     /// A fact that may repeat at any rate.
-    pub fn fact(&mut self, fact: &'static str, mut words: String) {
+    pub fn fact(&mut self, fact: Fact) {
         self.changed = true;
-        self.ended |= fact == "closed";
-        match self.repeats.says(fact, &words, self.now) {
-            None if self.traces.is_none() => return,
-            Some(more @ 1..) => words += &format!(" (and {more} more of these)"),
-            _ => (),
+        self.ended |= matches!(fact, Fact::Closed { .. });
+        match self.repeats.says(&fact, self.now) {
+            None if self.traces.is_none() => (),
+            Some(more @ 1..) => self.tell(Fact::Again(Box::new(fact), more)),
+            _ => self.tell(fact),
         }
-        self.tell(fact, words);
     }
 }
 
 rignolda::spoils! { Came {
     now, root, table, applier, standby, below, ahead, seen, ended, received, garbage, bad_reports,
-    round_at, changed, asks_for_all, applying, said, repeats, facts
+    round_at, changed, asks_for_all, applying, said, repeats
 } }

@@ -21,6 +21,7 @@ pub mod below;
 pub mod came;
 pub mod config;
 pub mod control;
+mod fact;
 pub mod machine;
 pub mod net;
 mod prelude;
@@ -35,6 +36,7 @@ pub mod standby;
 mod ticket;
 mod time;
 
+pub use fact::Fact;
 pub use refused::Refused;
 #[cfg(feature = "trial")]
 #[doc(hidden)]
@@ -43,5 +45,7 @@ pub use sha::Sha256;
 pub use ticket::Ticket;
 pub use time::Time;
 
-/// A line for the journal: what happened, and its words.
-pub type Fact = (&'static str, alloc::string::String);
+/// Of the first of these that holds what follows from it.
+pub fn first_of<T, const N: usize>(all: [(bool, T); N]) -> Option<T> {
+    all.into_iter().find(|(holds, _)| *holds).map(|(_, it)| it)
+}

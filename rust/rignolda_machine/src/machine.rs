@@ -18,7 +18,7 @@ use crate::prelude::*;
 use crate::restarts::Restarts;
 use crate::root::Root;
 use crate::standby::Standby;
-use crate::{Fact, Refused, Time};
+use crate::{Refused, Time};
 
 mod inputs;
 mod looks;
@@ -187,7 +187,7 @@ impl Machine {
                         .iter_mut()
                         .for_each(|it| it.looked(at, said.as_ref().map(|it| (&it.0, it.1))));
                 }
-                Output::Fact(fact, words) => self.came.fact(fact, words),
+                Output::Fact(fact) => self.came.fact(fact),
             }
         }
     }
@@ -244,18 +244,17 @@ impl Machine {
     /// Puts what its parts ask for and say into one list, in the order in which it is to be done.
     fn hands_out(&mut self, now: Time, acts: &mut Vec<Act>) {
         let Came { facts, root, applier, standby, .. } = &mut self.came;
-        let act = |(fact, words): Fact| Act::Fact(fact, words);
-        acts.extend(facts.drain(..).map(act));
+        acts.extend(facts.drain(..).map(Act::Fact));
         if let Some(root) = root {
-            acts.extend(root.facts().into_iter().map(act));
+            acts.extend(root.facts().into_iter().map(Act::Fact));
             acts.extend(root.jobs().into_iter().map(Act::Disk));
         }
         if let Some(standby) = standby {
-            acts.extend(standby.facts().into_iter().map(act));
+            acts.extend(standby.facts().into_iter().map(Act::Fact));
             acts.extend(standby.jobs().into_iter().map(Act::Stand));
         }
         if let Some(applier) = applier {
-            acts.extend(applier.facts().into_iter().map(act));
+            acts.extend(applier.facts().into_iter().map(Act::Fact));
             acts.extend(applier.jobs(now).into_iter().map(|(at, job)| Act::Apply(at, job)));
         }
     }

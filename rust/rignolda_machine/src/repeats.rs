@@ -1,7 +1,7 @@
 //! What repeats in the journal: of lines that anybody can cause at any rate a few are written, and
 //! the others counted.
 use crate::prelude::*;
-use crate::Time;
+use crate::{Fact, Time};
 use core::mem;
 use core::time::Duration;
 
@@ -55,15 +55,10 @@ pub struct Repeats {
     room: Option<Room>,
 }
 
-/// Whom words are about: they begin so.
-fn about(words: &str) -> &str {
-    words.split([' ', ':', ',']).next().unwrap_or_default()
-}
-
 impl Repeats {
     /// Whether this line is written; then also how many like it were not since the last one.
-    pub fn says(&mut self, fact: &'static str, words: &str, now: Time) -> Option<u64> {
-        let mut key = (fact, about(words).to_owned());
+    pub fn says(&mut self, fact: &Fact, now: Time) -> Option<u64> {
+        let mut key = (fact.kind(), fact.about().to_owned());
         if self.all.len() >= ENDS && !self.all.contains_key(&key) {
             key.1.clear();
         }
@@ -84,15 +79,15 @@ impl Repeats {
 
     /// What is to be said by now of lines that were not written; and what does not repeat any more
     /// is forgotten. To be asked each second or two.
-    pub fn passes(&mut self, now: Time) -> Vec<(&'static str, String)> {
+    pub fn passes(&mut self, now: Time) -> Vec<Fact> {
         let mut counts = Vec::new();
-        self.all.retain(|(fact, about), lines| {
+        self.all.retain(|(kind, about), lines| {
             lines.said = lines.said.min(now);
             lines.room.passes(LINES, EACH, now);
             let is_over = now >= lines.said + COUNTS;
             if lines.more > 0 && is_over {
                 let (about, more) = (if about.is_empty() { "others" } else { about }, lines.more);
-                counts.push((*fact, format!("{about}: {more} more of these")));
+                counts.push(Fact::More(kind, about.into(), more));
                 (lines.more, lines.said) = (0, now);
             }
             lines.more > 0 || lines.room.left < LINES
@@ -109,20 +104,32 @@ rignolda::spoils! { Repeats { all, room } }
 mod tests {
     use super::*;
 
+    fn connected(name: &str) -> Fact {
+        Fact::Connected { whom: name.into(), anew: true }
+    }
+
+    fn closed() -> Fact {
+        Fact::Closed { whom: "evil".into(), why: "it left".into(), place: None }
+    }
+
+    fn refused(at: u32) -> Fact {
+        Fact::Refused(format!("n{at} is refused"), 1)
+    }
+
     #[test]
     fn a_child_that_connects_without_end_fills_no_journal() {
         let begun = Time::after(Duration::from_secs(3_600));
         let (mut repeats, mut written, mut counted) = (Repeats::default(), 0, 0);
         for at in 0..30_000_u64 {
             let now = begun + Duration::from_millis(at);
-            for (fact, words) in [("connected", "evil, a new count"), ("closed", "evil: it left")] {
-                if let Some(more) = repeats.says(fact, words, now) {
+            for fact in [connected("evil"), closed()] {
+                if let Some(more) = repeats.says(&fact, now) {
                     (written, counted) = (written + 1, counted + more);
                 }
             }
             // (what happens to others is said beside it)
             if at % 3_000 == 0 {
-                assert_eq!(repeats.says("connected", "left", now), Some(0));
+                assert_eq!(repeats.says(&connected("left"), now), Some(0));
             }
         }
         // (however often it is asked, what comes back comes back)
@@ -132,7 +139,7 @@ mod tests {
         let rest = repeats.passes(end);
         assert_eq!(rest.len(), 2);
         let left: u64 = 60_000 - written - counted;
-        let said = |fact: &'static str, count| (fact, format!("evil: {count} more of these"));
+        let said = |kind, count| Fact::More(kind, "evil".into(), count);
         assert_eq!(rest, [said("closed", left / 2), said("connected", left / 2)]);
         assert!(repeats.passes(end + Duration::from_secs(99)).is_empty());
         assert!(repeats.all.is_empty());
@@ -144,11 +151,11 @@ mod tests {
         let after = |seconds| begun + Duration::from_secs(seconds);
         let mut repeats = Repeats::default();
         let written = |repeats: &mut Repeats, at| {
-            (0..100).filter(|_| repeats.says("closed", "evil: it left", at).is_some()).count()
+            (0..100).filter(|_| repeats.says(&closed(), at).is_some()).count()
         };
         for hour in 0..3 {
             assert_eq!(written(&mut repeats, after(hour * 3_600)), LINES as usize, "{hour}");
-            assert!(repeats.says("closed", "evil: it left", after(hour * 3_600 + 45)).is_some());
+            assert!(repeats.says(&closed(), after(hour * 3_600 + 45)).is_some());
         }
         for lines in repeats.all.values_mut() {
             (lines.room.since, lines.said) = (after(1 << 20), after(1 << 20));
@@ -167,14 +174,13 @@ mod tests {
         let (mut repeats, mut written) = (Repeats::default(), 0);
         for at in 0..100_000_u32 {
             let now = begun + Duration::from_micros(300 * u64::from(at));
-            let words = format!("n{at} is refused");
-            written += u32::from(repeats.says("refused", &words, now).is_some());
+            written += u32::from(repeats.says(&refused(at), now).is_some());
         }
         assert!(written <= ALL_LINES + 3_000 && repeats.all.len() <= ENDS + 1, "{written}");
         // (who is known keeps lines of its own)
         let later = begun + Duration::from_secs(60);
-        let known = |repeats: &mut Repeats| repeats.says("refused", "n7 is refused", later);
-        let others = |repeats: &mut Repeats| repeats.says("refused", "n99999 is refused", later);
+        let known = |repeats: &mut Repeats| repeats.says(&refused(7), later);
+        let others = |repeats: &mut Repeats| repeats.says(&refused(99_999), later);
         for _ in 0..2 * LINES {
             others(&mut repeats);
         }

@@ -19,6 +19,7 @@ mod asked;
 mod asks;
 mod hold;
 mod job;
+mod numbers;
 mod publish;
 mod read;
 mod record;
@@ -301,7 +302,7 @@ impl<W> Root<W> {
             if !mem::replace(&mut self.is_late, true) {
                 let late = format!("{}: the disk does not answer", self.config.settings);
                 self.faults.add(late.clone());
-                self.facts.push(("settings", late));
+                self.facts.push(Fact::Settings(late));
             }
             self.goes_on(now);
         }
@@ -326,9 +327,8 @@ impl<W> Root<W> {
         self.keeping = false;
         let could_not = mem::replace(&mut self.cannot_keep, done.is_err());
         let is_not_kept = |why| {
-            let words =
-                format!("{}: what is published cannot be kept: {why}", self.config.settings);
-            ("settings", words)
+            let folder = &self.config.settings;
+            Fact::Settings(format!("{folder}: what is published cannot be kept: {why}"))
         };
         self.facts.extend(done.err().filter(|_| !could_not).map(is_not_kept));
     }
@@ -358,50 +358,6 @@ impl<W> Root<W> {
             self.reads += 1;
             self.jobs.push(Job::Read);
         }
-    }
-
-    /// Goes on with what the folder had, or with what is known.
-    fn goes_on(&mut self, now: Time) {
-        self.until = None;
-        self.fresh = mem::take(&mut self.for_table).then_some(now);
-        if mem::take(&mut self.begins) && self.known && !self.draining {
-            self.publisher.begin_round(self.harmless());
-            self.went_above = self.went_above.min(self.publisher.is_table_first().into());
-        }
-    }
-
-    /// Goes on above the number that is furthest ahead of those that agents have. Twice in a round
-    /// at most, since whoever lies about it makes a whole table come; and the second time once the
-    /// table of the first one is published, so that nobody is passed.
-    pub fn hears(&mut self, numbers: impl IntoIterator<Item = u64>) {
-        for number in numbers {
-            let may = match self.went_above {
-                0 => true,
-                1 => !self.publisher.is_table_first(),
-                _ => false,
-            };
-            if may && self.goes_above(number, "which an agent has") {
-                self.went_above += 1;
-            }
-        }
-    }
-
-    /// Goes on above the numbers that the agent itself has, of which nobody else says anything:
-    /// however often others were heard in this round, and so that nobody is passed.
-    pub fn has(&mut self, own: [u64; 2]) {
-        for number in own {
-            let may = self.went_above == 0 || !self.publisher.is_table_first();
-            if may && self.goes_above(number, "which its own files have") {
-                self.went_above = self.went_above.max(1);
-            }
-        }
-    }
-
-    fn goes_above(&mut self, number: u64, which: &str) -> bool {
-        self.has_before |= !self.known && number != 0;
-        let goes = self.publisher.go_above(number);
-        self.facts.extend(goes.then(|| ("numbers", format!("go on above {number}, {which}"))));
-        goes
     }
 }
 

@@ -190,7 +190,7 @@ impl<W> Standby<W> {
             }
             (_, Some(lacks)) => {
                 self.asked = Some((who, format!("it is the root, as it is: {lacks}")));
-                self.tell(format!("promoted as it is: {lacks}"));
+                self.tell(Fact::Promoted(lacks.to_string()));
             }
             (_, None) => self.asked = Some((who, String::new())),
         }
@@ -256,7 +256,7 @@ impl<W> Standby<W> {
         let (head, rank) = (way.names[0].clone(), (way.cost == 0).then_some(rank));
         let before = self.others.remove(&at).filter(|it| it.head == head && it.rank == rank);
         if before.is_none() && self.role == Role::Root {
-            self.tell(format!("{head} is another root"));
+            self.tell(Fact::OtherRoot(head.clone()));
         }
         let times = before.map_or(0, |it| it.times).saturating_add(1);
         self.others.insert(at, Other { head, rank, times });
@@ -299,7 +299,7 @@ impl<W> Standby<W> {
             return None;
         }
         if let Some(other) = self.goes_on().map(String::from) {
-            self.tell(format!("{other} is another root: this one stands by"));
+            self.tell(Fact::StandsBy(other.clone()));
             return Some(self.stands_by(other));
         }
         if self.role != Role::Looks {
@@ -312,10 +312,7 @@ impl<W> Standby<W> {
             Says::Nothing => Some(self.is_root(self.rank, self.may.unwrap_or(clock))),
             Says::Newer(count) => {
                 let may = self.may.unwrap_or(0);
-                self.tell(format!(
-                    "{count} of its children have more than {may}, and this root never published \
-                     that: another one did, and this one stands by"
-                ));
+                self.tell(Fact::Outdone(count, may));
                 Some(self.stands_by(String::new()))
             }
         }
@@ -324,7 +321,7 @@ impl<W> Standby<W> {
     /// Goes on above this rank and this number.
     fn is_root(&mut self, rank: u64, above: u64) -> Change {
         (self.role, self.rank) = (Role::Root, rank);
-        self.tell(format!("this is the root now, of rank {rank}"));
+        self.tell(Fact::IsRoot(rank));
         Change::Root(furthest(rank, [above]), mem::take(&mut self.applied))
     }
 
@@ -350,8 +347,7 @@ impl<W> Standby<W> {
                 return None;
             }
             Done::StandsBy(said) => {
-                let why = said.err().map(|why| format!("its folder does not know: {why}"));
-                why.into_iter().for_each(|why| self.tell(why));
+                said.err().into_iter().for_each(|why| self.tell(Fact::NotKept(why.to_string())));
                 return None;
             }
             Done::Promoted(rank, Ok(applied)) => {
@@ -370,12 +366,12 @@ impl<W> Standby<W> {
             return None;
         }
         let change = self.is_below(Role::Below);
-        self.tell("this is an agent as any other now".into());
+        self.tell(Fact::IsBelow);
         was_root.then_some(change)
     }
 
-    fn tell(&mut self, words: String) {
-        self.facts.push(("root", words));
+    fn tell(&mut self, fact: Fact) {
+        self.facts.push(fact);
     }
 
     fn answer(&mut self, said: Result<(), Refused>) {

@@ -48,7 +48,7 @@ impl Told for Came {
         match output {
             Output::Report(_, report) => self.reports.push(report),
             Output::ReportRequest => self.requests += 1,
-            Output::Fact(fact, words) => self.facts.push(format!("{fact} {words}")),
+            Output::Fact(fact) => self.facts.push(format!("{} {fact}", fact.kind())),
             _ => (),
         }
     }

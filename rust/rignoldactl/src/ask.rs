@@ -4,6 +4,7 @@ use crate::{
     dotted, harmless_for, unix_now, ChildStatus, Compared, Diff, Difference, Request, Response,
     Seen, Standby, Status,
 };
+use rignolda_machine::first_of;
 use rignolda_machine::settings::is_newer;
 use serde::Serialize;
 use std::collections::BTreeMap;
@@ -162,16 +163,15 @@ pub fn lacks_of(agent: &Seen, group: &str, sequence: u64) -> Option<&'static str
 
 /// Why an agent has not all up to a sequence number; nothing where it has.
 pub fn lacks(agent: &Seen, sequence: u64) -> Option<&'static str> {
-    match () {
-        () if !agent.connected => Some("is not connected"),
-        () if agent.failing > 0 => Some("has a file or a hook that failed"),
-        () if !agent.whole => Some("waits for a whole table"),
-        () if is_newer(sequence, agent.applied) => Some("has not applied it"),
-        () if agent.compared == Compared::Differs => Some("has other settings in its files"),
-        () if agent.compared == Compared::NotKnown => Some("has not said what its files are"),
-        () if agent.cut => Some(CUT),
-        () => None,
-    }
+    first_of([
+        (!agent.connected, "is not connected"),
+        (agent.failing > 0, "has a file or a hook that failed"),
+        (!agent.whole, "waits for a whole table"),
+        (is_newer(sequence, agent.applied), "has not applied it"),
+        (agent.compared == Compared::Differs, "has other settings in its files"),
+        (agent.compared == Compared::NotKnown, "has not said what its files are"),
+        (agent.cut, CUT),
+    ])
 }
 
 /// How deep each agent of a list is, the first one being at 0.
@@ -305,15 +305,22 @@ pub fn tree_text(list: &[Seen]) -> String {
     ];
     let mut rows = vec![row(head)];
     for (seen, depth) in list.iter().zip(depths(list)) {
-        let state = match () {
-            () if !seen.connected && seen.sequence == 0 => "never heard of".to_owned(),
-            () if !seen.connected => format!("away for {}", age(seen.age)),
-            () if seen.failing > 0 && seen.why.is_empty() => format!("{} failing", seen.failing),
-            () if seen.failing > 0 => format!("{} failing, {}", seen.failing, one_line(&seen.why)),
-            () if !seen.whole => "waits for a whole table".into(),
-            () if seen.stands_by => "stands by: another root is there".into(),
-            () if seen.draining => "drains".into(),
-            () => up(seen),
+        let state = if !seen.connected && seen.sequence == 0 {
+            "never heard of".to_owned()
+        } else if !seen.connected {
+            format!("away for {}", age(seen.age))
+        } else if seen.failing > 0 && seen.why.is_empty() {
+            format!("{} failing", seen.failing)
+        } else if seen.failing > 0 {
+            format!("{} failing, {}", seen.failing, one_line(&seen.why))
+        } else if !seen.whole {
+            "waits for a whole table".into()
+        } else if seen.stands_by {
+            "stands by: another root is there".into()
+        } else if seen.draining {
+            "drains".into()
+        } else {
+            up(seen)
         };
         let state = match seen.connected && seen.failing == 0 && !seen.why.is_empty() {
             true => format!("{state}, refused by {}", one_line(&seen.why)),

@@ -83,10 +83,14 @@ enum Then {
 /// What an agent of these groups had of a key as of a number.
 fn then(keys: &Keys, groups: &[String], number: u64) -> Then {
     let is_as_of = |since| !is_newer(since, number);
-    let of = |key: &Key| match () {
-        () if is_as_of(key.number) => Some(Then::Now(key.digest)),
-        () if key.old_number != 0 && is_as_of(key.old_number) => Some(Then::Before(key.old)),
-        () => Some(Then::NotKnown),
+    let of = |key: &Key| {
+        Some(if is_as_of(key.number) {
+            Then::Now(key.digest)
+        } else if key.old_number != 0 && is_as_of(key.old_number) {
+            Then::Before(key.old)
+        } else {
+            Then::NotKnown
+        })
     };
     let value = |group: Option<&str>| match group {
         None => of(&keys.all),

@@ -1,6 +1,7 @@
 //! What a probe asks of an agent: whether it is well.
 use crate::ask::age;
 use crate::{milliseconds, Standby, Status};
+use rignolda_machine::first_of;
 use std::time::Duration;
 
 /// What an agent has to be.
@@ -27,25 +28,26 @@ impl Probe {
     pub fn fails(&self, status: &Status) -> Option<String> {
         let is_late = |most: Duration| u128::from(status.round_age) > most.as_millis();
         let within = self.within.filter(|_| !status.is_root);
-        match () {
-            () if self.connected && status.standby == Standby::Looks => {
-                Some("it looks for another root".into())
-            }
-            () if self.connected && !status.is_root && status.parent.is_none() => {
-                Some("it has no parent".into())
-            }
-            () if self.connected && status.is_rootless() => Some("its way has no root".into()),
-            () if within.is_some() && !status.whole => Some("it waits for a whole table".into()),
-            () if within.is_some_and(is_late) => {
-                Some(format!("its last whole table came {} ago", age(status.round_age)))
-            }
-            () if self.sound && status.failing > 0 => {
-                Some(format!("{} settings have a file or a hook that failed", status.failing))
-            }
-            () if self.sound && status.unpublished > 0 => {
-                Some(format!("{} in its folder cannot be published", status.unpublished))
-            }
-            () => None,
-        }
+        let looks = status.standby == Standby::Looks;
+        let has_none = !status.is_root && status.parent.is_none();
+        let (failing, unpublished) = (status.failing, status.unpublished);
+        first_of([
+            (self.connected && looks, "it looks for another root".into()),
+            (self.connected && has_none, "it has no parent".into()),
+            (self.connected && status.is_rootless(), "its way has no root".into()),
+            (within.is_some() && !status.whole, "it waits for a whole table".into()),
+            (
+                within.is_some_and(is_late),
+                format!("its last whole table came {} ago", age(status.round_age)),
+            ),
+            (
+                self.sound && failing > 0,
+                format!("{failing} settings have a file or a hook that failed"),
+            ),
+            (
+                self.sound && unpublished > 0,
+                format!("{unpublished} in its folder cannot be published"),
+            ),
+        ])
     }
 }

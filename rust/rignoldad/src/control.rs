@@ -42,10 +42,12 @@ impl Shown {
     /// What this request is for.
     pub fn of(request: &[u8]) -> Shown {
         let is_for = |text: &str| request.starts_with(text.as_bytes());
-        match () {
-            () if is_for("GET /metrics ") || is_for("GET /metrics?") => Shown::Counts,
-            () if is_for("GET / ") => Shown::Page,
-            () => Shown::Nothing,
+        if is_for("GET /metrics ") || is_for("GET /metrics?") {
+            Shown::Counts
+        } else if is_for("GET / ") {
+            Shown::Page
+        } else {
+            Shown::Nothing
         }
     }
 }

@@ -6,7 +6,7 @@ use inotify::{Inotify, WatchMask};
 use rignolda_machine::net::BODY_BYTES;
 use rignolda_machine::root::{Done, Empty, Job, Kept};
 use rignolda_machine::settings::{parts, published_by, shown, SETTINGS, VALUE_BYTES};
-use rignolda_machine::Refused;
+use rignolda_machine::{first_of, Refused};
 use rignolda_redis::Worker;
 use rignoldactl::source::{no_key, read_folder_by, read_plain, too_many, Faults, Found};
 use std::collections::BTreeSet;
@@ -81,11 +81,10 @@ impl Disk {
     /// What of it cannot be, where something cannot: to be asked once a second. So many jobs have
     /// no answer, as who asked for them says.
     pub fn fault(&self, settings: &Path, jobs: u32) -> Option<&'static str> {
-        match () {
-            () if *self.settings != *settings => Some("the root's configuration is another one"),
-            () if !self.worker.is_asked(jobs) => Some(ASKED),
-            () => None,
-        }
+        first_of([
+            (*self.settings != *settings, "the root's configuration is another one"),
+            (!self.worker.is_asked(jobs), ASKED),
+        ])
     }
 }
 

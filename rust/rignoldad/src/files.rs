@@ -3,11 +3,11 @@
 //! decides.
 use crate::digest::Digest;
 use crate::floor::{self, read_floor, Marker};
-use crate::folder::{unlink, Folder};
-use crate::hooks::{self, INPUT, PENDING};
-use crate::place::{has_mount, Place};
+use crate::folder::Folder;
+use crate::hooks::{self, PENDING};
+use crate::place::{has_mount, unlink, Place};
 use rignolda_machine::apply::{Applied, Done, Ended, Identity, Kept, Mark, Outcome};
-use rignolda_machine::apply::{GROUPS, LISTS, MARKER};
+use rignolda_machine::apply::{GROUPS, MARKER};
 use rignolda_machine::config::Apply;
 use rignolda_machine::settings::{is_key, parts, shown, Change, Waiting, VALUE_BYTES};
 use rignolda_machine::Fact;
@@ -19,7 +19,10 @@ use std::io;
 use std::mem::take;
 use std::path::Path;
 use std::sync::Arc;
-use std::time::Instant;
+
+mod others;
+
+use others::Others;
 
 /// The mode of values as they were published.
 const GROUPS_MODE: u32 = 0o600;
@@ -300,7 +303,7 @@ impl Files {
                 let to = moved_aside(&at).map_err(|e| io::Error::other(why(e)))?;
                 let to = to.file_name().unwrap_or_default().to_string_lossy().into_owned();
                 let words = format!("what lay at {GROUPS} was another folder: it is {to} now");
-                self.facts.push(("settings", words));
+                self.facts.push(Fact::Settings(words));
                 folder.leave(None);
                 return self.open_grouped();
             }
@@ -347,47 +350,6 @@ impl Files {
         folder.close();
         self.of_grouped.take_if(|_| !is_kept);
         came
-    }
-}
-
-/// What is in the folder and is nothing of the agent's, and not removed either.
-#[derive(Debug, Default)]
-struct Others {
-    said: Vec<String>,
-    /// When it was looked for, and whether it is to be looked for since then.
-    at: Option<Instant>,
-    is_due: bool,
-}
-
-impl Others {
-    /// Looks for it now, or a little later: all that is in the folder is listed for it.
-    fn may_say(&mut self, folder: &Folder, is_whole: bool) -> Option<Fact> {
-        match is_whole || self.at.is_none_or(|at| at.elapsed() >= LISTS) {
-            true => return self.say(folder),
-            false => self.is_due = true,
-        }
-        None
-    }
-
-    /// Looks for it if that is still to be done.
-    fn say_if_due(&mut self, folder: &Folder) -> Option<Fact> {
-        self.is_due.then(|| self.say(folder)).flatten()
-    }
-
-    /// Names it once.
-    fn say(&mut self, folder: &Folder) -> Option<Fact> {
-        let mut all = folder.others();
-        all.retain(|name| {
-            ![MARKER, PENDING, GROUPS].contains(&&**name) && !name.starts_with(INPUT)
-        });
-        all.sort();
-        let is_new = all != self.said && !all.is_empty();
-        let fact = is_new.then(|| {
-            let (count, first) = (all.len(), all[..all.len().min(3)].join(" "));
-            ("settings", format!("{count} in the folder are none of settings, as {first}"))
-        });
-        *self = Others { said: all, at: Some(Instant::now()), is_due: false };
-        fact
     }
 }
 

@@ -1,5 +1,6 @@
 //! The file that keeps the number up to which an agent's files are.
-use crate::folder::{remove, Folder};
+use crate::folder::Folder;
+use crate::place::remove;
 use rignolda_machine::settings::is_newer;
 use rignoldactl::source::{read_plain, AS_IT_IS};
 use std::fs::{self, File, Metadata, OpenOptions};

@@ -1,6 +1,6 @@
 //! Files of settings.
 use crate::fact;
-use crate::place::{has_mount, Place};
+use crate::place::{remove, unlink, Place};
 use rignolda_machine::apply::Identity;
 use rignolda_machine::settings::{is_key, VALUE_BYTES};
 use rignolda_tls::moved_aside;
@@ -373,38 +373,5 @@ impl Folder {
             done => return done,
         }
         options.open(at)
-    }
-}
-
-/// Removes whatever is at a path: a file, a folder with all that is in it, or nothing. A folder
-/// stays in which something is mounted, since that is somebody else's.
-///
-/// # Errors
-///
-/// Where the system refuses it, or something is mounted there.
-pub fn remove(path: &Path) -> io::Result<()> {
-    match fs::symlink_metadata(path) {
-        Ok(is) if !is.is_dir() => unlink(path),
-        Ok(_) if has_mount(path) => Err(io::Error::other("something is mounted in its place")),
-        Ok(_) => fs::remove_dir_all(path),
-        Err(error) if error.kind() == ErrorKind::NotFound => Ok(()),
-        Err(error) => Err(error),
-    }
-}
-
-/// Removes a file, where one is there. A folder stays.
-///
-/// # Errors
-///
-/// Where the system refuses it.
-pub fn unlink(path: &Path) -> io::Result<()> {
-    match fs::symlink_metadata(path) {
-        Ok(is) if is.is_dir() => Ok(()),
-        Ok(_) => match fs::remove_file(path) {
-            Err(error) if error.kind() != ErrorKind::NotFound => Err(error),
-            _ => Ok(()),
-        },
-        Err(error) if error.kind() == ErrorKind::NotFound => Ok(()),
-        Err(error) => Err(error),
     }
 }

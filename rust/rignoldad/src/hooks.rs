@@ -1,7 +1,8 @@
 //! Runs hooks, and keeps of which keys they are due.
 use crate::floor::read_floor;
-use crate::folder::{remove, unlink, Folder};
+use crate::folder::Folder;
 use crate::place::Place;
+use crate::place::{remove, unlink};
 use rignolda_machine::apply::{Hook, Identity, MARKER};
 use rignolda_machine::config::Apply;
 use rignolda_machine::settings::{is_key, Change};

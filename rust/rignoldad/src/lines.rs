@@ -3,8 +3,6 @@
 use crate::config::{Address, Config};
 use crate::system::{time, unix_now};
 use crate::workers::Wake;
-use mio::unix::SourceFd;
-use mio::{Events, Interest, Poll, Registry, Token, Waker};
 use rignolda_machine::machine::{Input, Machine};
 use rignolda_machine::net::{Call, Chunk, End, Origin};
 use rignolda_machine::Time;
@@ -13,15 +11,16 @@ use rignoldactl::{at, ErrorAt};
 use std::collections::{BTreeMap, HashSet};
 use std::io;
 use std::os::unix::io::RawFd;
-use std::sync::Arc;
 use std::time::Duration;
 
 mod held;
+mod watched;
 
 use held::{Held, Piece};
+use watched::Watched;
+pub use watched::{Fired, Other};
 
-/// How many events are taken in one turn, and how many certificates are looked at.
-const EVENTS: usize = 256;
+/// How many certificates are looked at in one turn.
 const LOOKS: usize = 64;
 /// How much is read at once: some records of TLS.
 const READ_BYTES: usize = 64 << 10;
@@ -31,31 +30,13 @@ const TURN_BYTES: usize = 1 << 20;
 const TURN_READS: usize = 128;
 /// How many lines are read in one turn of which nobody knows whose they are: others come first.
 const TURN_GREETINGS: usize = 8;
-/// An event of a line has its number; that of another descriptor has this bit and the descriptor.
-const OTHER: usize = 1 << (usize::BITS - 1);
-const WAKE: Token = Token(usize::MAX);
 /// The numbers of lines stay below this, of which no process has so many.
 const NUMBERS: u64 = 1 << 48;
 /// After how long the clock is looked at again at the latest, since it may be set.
 const CLOCK: Duration = Duration::from_secs(10);
 
-/// A descriptor that is no line's: its number, which is another one if the system is to be asked
-/// about it anew, and whether it is waited for until it can be written, and not read.
-pub type Other = (RawFd, u64, bool);
-
-/// What can be done now.
-#[derive(Default)]
-pub struct Fired {
-    /// The lines that can be read or written.
-    pub ready: Vec<u64>,
-    pub others: HashSet<RawFd>,
-    /// Whether there is anything else to do.
-    pub is_due: bool,
-}
-
 pub struct Lines {
-    poll: Poll,
-    events: Events,
+    watched: Watched,
     held: BTreeMap<u64, Held>,
     /// The number of the last line, and those of which more may be read at once.
     made: u64,
@@ -65,7 +46,6 @@ pub struct Lines {
     /// Where what is read comes first; and the address of that, with each bit turned.
     space: Box<[u8]>,
     not_at: usize,
-    others: Vec<Other>,
     /// When the first certificate of a line expires, in seconds since 1970.
     expires: i64,
     /// The lines whose certificates have to be looked at, since the authority may be another one.
@@ -79,22 +59,18 @@ pub struct Lines {
 impl Lines {
     /// None yet.
     pub fn new(config: &Config, own: &Own) -> Result<Lines, ErrorAt> {
-        let poll = Poll::new().map_err(at("poll"))?;
-        let waker = Waker::new(poll.registry(), WAKE).map_err(at("poll"))?;
-        let wake: Wake = Arc::new(move || drop(waker.wake()));
+        let (watched, wake) = Watched::new().map_err(at("poll"))?;
         let handshakes = Handshakes::new(wake.clone());
         let mut lines = Lines {
             maker: maker(config)?.with_handshakes(&handshakes).with_own(own),
             handshakes,
-            poll,
-            events: Events::with_capacity(EVENTS),
+            watched,
             held: BTreeMap::new(),
             made: 0,
             again: Vec::new(),
             written: Vec::new(),
             space: Box::default(),
             not_at: 0,
-            others: Vec::new(),
             expires: i64::MAX,
             unsure: Vec::new(),
             caller: Caller::new(wake.clone()),
@@ -126,46 +102,17 @@ impl Lines {
     ) -> io::Result<Fired> {
         let now = time();
         self.handshakes.go_on(now, |it| *it == Origin::Own || knows(it));
-        let registry = self.poll.registry();
-        for (fd, ..) in self.others.iter().filter(|(fd, ..)| others.iter().all(|it| it.0 != *fd)) {
-            // (if it was closed, the system has forgotten it, and it may be a line's by now)
-            if !self.held.values().any(|it| it.waits_for().0 == *fd) {
-                let _ = registry.deregister(&mut SourceFd(fd));
-            }
-        }
-        for it in others.iter().filter(|it| !self.others.contains(it)) {
-            watch(registry, it.0, Token(OTHER | it.0 as usize), written(it.2))?;
-        }
-        self.others = others;
+        let held = &self.held;
+        self.watched.others(others, |fd| held.values().any(|it| it.waits_for().0 == fd))?;
         let until = if self.again.is_empty() { until.min(self.deadline(now)) } else { now };
         // (who is woken since that is long ago has a turn, whatever the machine says)
         let until = until.min(now + most);
-        let pause = (until - time()).as_micros();
-        // (rounded up, since the system counts in milliseconds)
-        let pause = Duration::from_millis(pause.div_ceil(1_000) as u64);
-        match self.poll.poll(&mut self.events, Some(pause)) {
-            Err(e) if e.kind() != io::ErrorKind::Interrupted => return Err(e),
-            _ => (),
-        }
-        let mut fired = Fired { is_due: time() >= until, ..Fired::default() };
-        for event in &self.events {
-            match event.token() {
-                Token(line) if line & OTHER == 0 => {
-                    let held = self.held.get_mut(&(line as u64));
-                    let is_closed = event.is_read_closed() || event.is_error();
-                    held.into_iter().for_each(|it| it.ends |= is_closed);
-                    fired.ready.push(line as u64);
-                }
-                WAKE => fired.is_due = true,
-                Token(other) => drop(fired.others.insert((other & !OTHER) as RawFd)),
-            }
-        }
+        let held = &mut self.held;
+        let mut fired = self.watched.wait(until - time(), |id| {
+            held.get_mut(&id).into_iter().for_each(|it| it.ends = true);
+        })?;
+        fired.is_due |= time() >= until;
         fired.ready.extend(self.handshakes.ended(time()));
-        fired.is_due |= !fired.others.is_empty();
-        // (of these, all need not be read at once: so the system is asked again)
-        for it in self.others.iter_mut().filter(|it| fired.others.contains(&it.0)) {
-            it.1 = u64::MAX;
-        }
         Ok(fired)
     }
 
@@ -200,8 +147,7 @@ impl Lines {
     fn watch(&mut self, id: u64, held: &mut Held) {
         let (fd, writes) = held.waits_for();
         if held.watched != Some((fd, writes)) {
-            let interest = Interest::READABLE | written(writes);
-            let watched = watch(self.poll.registry(), fd, Token(id as usize), interest);
+            let watched = self.watched.line(id, fd, writes);
             held.watched = watched.ok().map(|()| (fd, writes));
         }
         self.expires = self.expires.min(held.line.expires());
@@ -293,8 +239,7 @@ impl Lines {
         self.unsure.clear();
         self.again.clear();
         // (a descriptor that is made now may have the number of one that ends now)
-        let others: Vec<RawFd> = self.others.iter().map(|it| it.0).collect();
-        self.forget(&others);
+        self.watched.forget_all();
         self.caller = Caller::new(self.wake.clone());
     }
 
@@ -358,10 +303,7 @@ impl Lines {
     /// These descriptors are made anew: the system tells nothing of the old ones any more, and what
     /// has their numbers then is waited for.
     pub fn forget(&mut self, old: &[RawFd]) {
-        for fd in old {
-            let _ = self.poll.registry().deregister(&mut SourceFd(fd));
-        }
-        self.others.retain(|it| !old.contains(&it.0));
+        self.watched.forget(old);
     }
 
     // ---- Calls
@@ -387,22 +329,6 @@ impl Lines {
     pub fn looks_up(&self) -> bool {
         self.caller.looks_up()
     }
-}
-
-/// Until when something is waited for: until it can be written, or read.
-fn written(is: bool) -> Interest {
-    if is {
-        Interest::WRITABLE
-    } else {
-        Interest::READABLE
-    }
-}
-
-/// Waits for a descriptor from now on, and at once if it can be read or written already.
-fn watch(registry: &Registry, fd: RawFd, token: Token, interest: Interest) -> io::Result<()> {
-    let mut it = SourceFd(&fd);
-    let again = registry.reregister(&mut it, token, interest);
-    again.or_else(|_| registry.register(&mut it, token, interest))
 }
 
 /// How long another machine may be silent before it counts as gone.

@@ -2,7 +2,7 @@
 //! comes to its place meanwhile.
 use rignolda_machine::apply::Identity;
 use std::fs::{self, File, Metadata, OpenOptions};
-use std::io;
+use std::io::{self, ErrorKind};
 use std::os::unix::fs::{MetadataExt, OpenOptionsExt};
 use std::os::unix::io::AsRawFd;
 use std::path::{Path, PathBuf};
@@ -94,6 +94,39 @@ fn plain(text: &str) -> PathBuf {
         path.extend_from_slice(part.get(3..).unwrap_or_default().as_bytes());
     }
     PathBuf::from(<std::ffi::OsString as std::os::unix::ffi::OsStringExt>::from_vec(path))
+}
+
+/// Removes whatever is at a path: a file, a folder with all that is in it, or nothing. A folder
+/// stays in which something is mounted, since that is somebody else's.
+///
+/// # Errors
+///
+/// Where the system refuses it, or something is mounted there.
+pub fn remove(path: &Path) -> io::Result<()> {
+    match fs::symlink_metadata(path) {
+        Ok(is) if !is.is_dir() => unlink(path),
+        Ok(_) if has_mount(path) => Err(io::Error::other("something is mounted in its place")),
+        Ok(_) => fs::remove_dir_all(path),
+        Err(error) if error.kind() == ErrorKind::NotFound => Ok(()),
+        Err(error) => Err(error),
+    }
+}
+
+/// Removes a file, where one is there. A folder stays.
+///
+/// # Errors
+///
+/// Where the system refuses it.
+pub fn unlink(path: &Path) -> io::Result<()> {
+    match fs::symlink_metadata(path) {
+        Ok(is) if is.is_dir() => Ok(()),
+        Ok(_) => match fs::remove_file(path) {
+            Err(error) if error.kind() != ErrorKind::NotFound => Err(error),
+            _ => Ok(()),
+        },
+        Err(error) if error.kind() == ErrorKind::NotFound => Ok(()),
+        Err(error) => Err(error),
+    }
 }
 
 #[cfg(test)]

@@ -6,18 +6,21 @@
 //! *Reached* is: the end that listens proved the agent's key. What it makes of the certificate does
 //! not count, nor that it has no room: nobody outside can end an agent by that. But if anybody is
 //! answered without TLS, or without a certificate, the agent ends at once.
-use crate::fact;
+use crate::{fact, system};
 use rignolda_machine::net::parents::NONE;
 use rignolda_machine::net::{Address, Parent, Way};
 use rignolda_machine::Time;
 use rignolda_tls::{ask, By, Looked, Looker, Maker, Own, Tls};
 use rignoldactl::{Request, Response};
-use std::io::Write;
 use std::path::PathBuf;
 use std::sync::atomic::{AtomicBool, AtomicU64, Ordering};
 use std::sync::{mpsc, Arc, Mutex, MutexGuard, PoisonError};
 use std::thread;
 use std::time::Duration;
+
+mod judge;
+
+use judge::{worse, Judge, Round};
 
 /// How often it looks; if it listens nowhere, since then less can be wrong, and has a parent; and
 /// how soon again after it failed.
@@ -30,8 +33,6 @@ const WITHIN: Duration = Duration::from_secs(10);
 /// more: else it comes without TLS, and is to be refused. While it fails, it always comes so.
 const BY_TLS: u64 = 6;
 const NAMED: u64 = 30;
-/// For how long, and in how many looks, nothing is reached before the agent ends.
-const FAILS: (Duration, u32) = (Duration::from_secs(60), 4);
 /// For how long it waits to be told that there was no room: the loop counts that as it comes to it.
 const TOLD: Duration = Duration::from_secs(3);
 /// After how long without a look the thread itself counts as lost.
@@ -43,48 +44,6 @@ const ALONE_EVERY: Duration = Duration::from_secs(60);
 /// How often in turn it finds one that answers before it ends.
 const FINDS: u32 = 2;
 const STACK_BYTES: usize = 512 << 10;
-
-/// What all looks of one time came to.
-#[derive(Clone, Debug, PartialEq, Eq)]
-enum Round {
-    /// Each end was reached. Whether each has answered, too.
-    Reached(bool),
-    /// One could not be tried.
-    Unknown,
-    /// One was not reached, for this.
-    Failed(String),
-    /// One answers whoever has no certificate.
-    Open(String),
-}
-
-/// What follows from these.
-#[derive(Debug)]
-struct Judge {
-    /// In how many looks in turn nothing was reached, and since when.
-    fails: u32,
-    since: Time,
-}
-
-impl Judge {
-    fn new(now: Time) -> Judge {
-        Judge { fails: 0, since: now }
-    }
-
-    /// Whether it can be reached, as far as is known; or why it is to end.
-    fn hears(&mut self, round: &Round, now: Time) -> Result<bool, String> {
-        match round {
-            Round::Open(why) => return Err(why.clone()),
-            Round::Failed(why) => {
-                self.fails = self.fails.saturating_add(1);
-                if self.fails >= FAILS.1 && now >= self.since + FAILS.0 {
-                    return Err(format!("it cannot be reached: {why}"));
-                }
-            }
-            Round::Reached(_) | Round::Unknown => *self = Judge::new(now),
-        }
-        Ok(self.fails == 0)
-    }
-}
 
 /// What is looked at, and what is known of it.
 struct Shared {
@@ -249,7 +208,7 @@ impl Shared {
             let round = self.round(if was_sound { count } else { 0 });
             count += 1;
             let now = crate::system::time();
-            let is_sound = judge.hears(&round, now).unwrap_or_else(|why| end(&why));
+            let is_sound = judge.hears(&round, now).unwrap_or_else(|why| system::end(&why));
             self.is_sound.store(is_sound, Ordering::Relaxed);
             match &round {
                 Round::Failed(why) if was_sound => fact!("reach", "{why}"),
@@ -357,101 +316,13 @@ impl Shared {
     }
 }
 
-/// Of what two looks came to, what counts.
-fn worse(one: Round, other: Round) -> Round {
-    let rank = |it: &Round| match it {
-        Round::Reached(true) => 0,
-        Round::Reached(false) => 1,
-        Round::Unknown => 2,
-        Round::Failed(_) => 3,
-        Round::Open(_) => 4,
-    };
-    if rank(&other) > rank(&one) {
-        other
-    } else {
-        one
-    }
-}
-
-/// Ends the process as a watchdog does, whatever the loop does meanwhile or whoever reads what it
-/// says.
-fn end(why: &str) -> ! {
-    let (to, said) = mpsc::channel();
-    let line = format!("rignoldad: {why}\n");
-    let say = move || {
-        crate::journal::flush();
-        let _ = std::io::stderr().write_all(line.as_bytes());
-        let _ = to.send(());
-    };
-    let _ = thread::Builder::new().stack_size(STACK_BYTES).spawn(say);
-    let _ = said.recv_timeout(TOLD);
-    std::process::abort()
-}
-
 #[cfg(test)]
 mod tests {
     use super::*;
     use rignolda_machine::net::wire::{self, Expect, Hello, Message};
-    use std::io::Read;
+    use std::io::{Read, Write};
     use std::net::TcpListener;
     use std::sync::atomic::AtomicU32;
-
-    fn failed() -> Round {
-        Round::Failed("nobody accepts".into())
-    }
-
-    #[test]
-    fn it_ends_after_a_minute_in_which_nothing_was_reached_and_at_once_where_anybody_is_answered() {
-        let begun = crate::system::time();
-        let at = |seconds| begun + Duration::from_secs(seconds);
-        // what each look comes to, when, and whether it can be reached then, or ends
-        let rows: [&[(Round, u64, Option<bool>)]; 4] = [
-            &[
-                (failed(), 15, Some(false)),
-                (failed(), 30, Some(false)),
-                (failed(), 45, Some(false)),
-                (failed(), 59, Some(false)),
-                (failed(), 60, None),
-            ],
-            // (a process that was stopped for long has not looked meanwhile)
-            &[
-                (failed(), 900, Some(false)),
-                (failed(), 901, Some(false)),
-                (failed(), 902, Some(false)),
-                (failed(), 903, None),
-            ],
-            &[
-                (failed(), 30, Some(false)),
-                (failed(), 40, Some(false)),
-                (failed(), 50, Some(false)),
-                (Round::Unknown, 59, Some(true)),
-                (failed(), 70, Some(false)),
-                (Round::Reached(false), 80, Some(true)),
-                (Round::Reached(true), 90, Some(true)),
-                (failed(), 140, Some(false)),
-                (failed(), 150, Some(false)),
-                (failed(), 151, Some(false)),
-                (failed(), 152, None),
-            ],
-            &[(Round::Reached(true), 10, Some(true)), (Round::Open("open".into()), 20, None)],
-        ];
-        for row in rows {
-            let mut judge = Judge::new(begun);
-            for (round, seconds, expected) in row {
-                let heard = judge.hears(round, at(*seconds));
-                assert_eq!(heard.as_ref().ok(), expected.as_ref(), "{round:?} at {seconds}");
-                let is_open = matches!(round, Round::Open(_));
-                assert!(heard.is_ok() || is_open || heard.unwrap_err().ends_with("nobody accepts"));
-            }
-        }
-        let all = [Round::Reached(true), Round::Reached(false), Round::Unknown, failed()];
-        for (at, one) in all.iter().enumerate() {
-            for other in &all[..=at] {
-                assert_eq!(worse(one.clone(), other.clone()), *one);
-                assert_eq!(worse(other.clone(), one.clone()), *one);
-            }
-        }
-    }
 
     /// Answers each look at it with a way of this cost; and how often.
     fn parent(cost: u16, name: &'static str) -> (Address, Arc<AtomicU32>) {

@@ -81,7 +81,7 @@ impl Folders {
     fn role(&self) -> (Role, u64, Option<Fact>) {
         let is_there = |name: &str| fs::symlink_metadata(self.root.join(name)).ok();
         let (root, path) = (is_there(ROOT), self.root.join(ROOT));
-        let fact = |words: &str| Some(("root", format!("{} {words}", path.display())));
+        let fact = |words| Some(Fact::Mark(path.display().to_string(), words));
         let others = "does not belong to the user of the agent alone: left out";
         match root {
             _ if is_there(STANDS_BY).is_some() => (Role::StandsBy, 0, None),

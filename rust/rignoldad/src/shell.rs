@@ -15,7 +15,7 @@ use crate::system::{self, notify, Signals};
 use crate::threads::Threads;
 use rignolda_machine::came::Trace;
 use rignolda_machine::machine::{Act, Input, Machine, Now};
-use rignolda_machine::Time;
+use rignolda_machine::{Fact, Time};
 use rignolda_tls::Own;
 use rignoldactl::{at, ErrorAt};
 use std::io::{self, Read};
@@ -90,8 +90,8 @@ pub fn run(path: &Path, config: Config) -> Result<(), ErrorAt> {
 }
 
 /// Writes a line at once, for trials.
-fn writes(fact: &'static str, words: &str) {
-    journal::lines(fact, [words.to_string()]);
+fn writes(fact: &Fact) {
+    journal::lines(fact.kind(), [fact.to_string()]);
     journal::flush();
 }
 
@@ -221,7 +221,7 @@ impl Shell {
         match act {
             Act::Send(id, chunk) => self.lines.send(id, chunk),
             Act::Close(id) => self.lines.close(id),
-            Act::Fact(fact, words) => journal::lines(fact, [words]),
+            Act::Fact(fact) => journal::lines(fact.kind(), [fact.to_string()]),
             Act::Answer(ticket, response) => {
                 let response = self.labels.response(response);
                 self.sockets.answer(ticket, &response);

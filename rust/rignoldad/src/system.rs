@@ -5,11 +5,13 @@ use nix::time::{clock_gettime, ClockId};
 use rignolda_machine::machine::{Host, Now};
 use rignolda_machine::Time;
 use rignoldactl::{at, sha256, ErrorAt};
-use std::io::{self, Read};
+use std::io::{self, Read, Write};
 use std::os::unix::net::{UnixDatagram, UnixStream};
 use std::os::unix::process::CommandExt;
 use std::path::{Path, PathBuf};
 use std::process::Command;
+use std::sync::mpsc;
+use std::thread;
 use std::time::{Duration, SystemTime, UNIX_EPOCH};
 
 /// The signals that an agent takes, each as an end that can be read once it came.
@@ -100,4 +102,19 @@ pub fn random() -> io::Result<u64> {
     let mut bytes = [0; 8];
     std::fs::File::open("/dev/urandom")?.read_exact(&mut bytes)?;
     Ok(u64::from_ne_bytes(bytes))
+}
+
+/// Ends the process as a watchdog does, whatever the loop does meanwhile or whoever reads what it
+/// says.
+pub fn end(why: &str) -> ! {
+    let (to, said) = mpsc::channel();
+    let line = format!("rignoldad: {why}\n");
+    let say = move || {
+        journal::flush();
+        let _ = io::stderr().write_all(line.as_bytes());
+        let _ = to.send(());
+    };
+    let _ = thread::Builder::new().spawn(say);
+    let _ = said.recv_timeout(Duration::from_secs(3));
+    std::process::abort()
 }

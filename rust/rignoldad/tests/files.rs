@@ -1,6 +1,7 @@
 //! Files of settings: each is whole, as it was or as it is now.
 use rignoldad::batch::Batch;
-use rignoldad::folder::{remove, Folder};
+use rignoldad::folder::Folder;
+use rignoldad::place::remove;
 use std::fs::{self, File, Permissions};
 use std::io::Read;
 use std::os::unix::fs::{symlink, PermissionsExt};

@@ -13,7 +13,7 @@ fn what_is_wrong_with_the_mark_of_a_root_is_said_at_a_start() {
     let mark = root.join(".root");
     let begun = |words: &str| {
         let begun = folders.begun();
-        let said = begun.fact.map(|(fact, words)| format!("{fact} {words}"));
+        let said = begun.fact.map(|it| format!("{} {it}", it.kind()));
         assert_eq!(said, Some(format!("root {} {words}", mark.display())));
         (begun.role, begun.rank)
     };

@@ -40,7 +40,7 @@ fn config() -> Config {
 
 /// The lines of the journal.
 fn lines(facts: Vec<Fact>) -> Vec<String> {
-    facts.iter().map(|(fact, words)| format!("{fact} {words}")).collect()
+    facts.iter().map(|it| format!("{} {it}", it.kind())).collect()
 }
 
 fn values(all: &[(&str, &str)]) -> BTreeMap<String, Vec<u8>> {
@@ -285,7 +285,7 @@ fn a_root_that_sees_one_of_a_higher_rank_twice_stands_by() {
 
 #[test]
 fn what_its_folder_says_at_a_start_is_said_once() {
-    let fact = Some(("root", "/settings/.root has no number".to_string()));
+    let fact = Some(Fact::Mark("/settings/.root".into(), "has no number"));
     let begun = Begun { role: Role::Below, rank: 0, noted: None, may: None, fact };
     let mut standby = Standby::<()>::new(NAMES, begun, BTreeMap::new(), rignoldad::system::time());
     let said = vec!["root /settings/.root has no number".to_string()];

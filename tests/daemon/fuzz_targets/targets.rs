@@ -388,7 +388,7 @@ fn acts(peers: &mut Peers<&'static str>, below: &mut Below, now: Time) {
                 below.heard(&child, &report, now);
             }
             Output::Gone(child) => below.forget(&child),
-            Output::Fact(_, words) => assert!(!words.is_empty()),
+            Output::Fact(fact) => assert!(!fact.to_string().is_empty()),
             _ => (),
         }
     }

@@ -5,7 +5,7 @@ use super::{LISTS, MARKER};
 use crate::config::Apply;
 use crate::prelude::*;
 use crate::settings::{is_key, Change, Waiting};
-use crate::Time;
+use crate::{Fact, Time};
 use core::mem::take;
 use core::time::Duration;
 
@@ -126,11 +126,8 @@ impl Applier {
         }
         self.facts.extend(facts);
         self.mended += turn.mended.len() as u64;
-        let first = turn.mended.first();
-        self.facts.extend(first.map(|first| {
-            let count = turn.mended.len();
-            ("mended", format!("{count} files were not as they were put, as {first}"))
-        }));
+        let first = turn.mended.first().cloned();
+        self.facts.extend(first.map(|first| Fact::Mended(turn.mended.len(), first)));
         self.runs.values_mut().for_each(Runs::changed);
         if self.taken != is {
             // (what was put before that is gone)

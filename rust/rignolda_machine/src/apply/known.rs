@@ -4,7 +4,7 @@ use super::{Applied, Applier, HOOKS};
 use crate::config::Apply;
 use crate::prelude::*;
 use crate::settings::{older, Waiting};
-use crate::Fact;
+use crate::{first_of, Fact};
 use core::array;
 use core::mem::take;
 
@@ -83,11 +83,10 @@ impl Applier {
         // (hooks are told of changes alone: for a whole table there, everybody would wait for ever)
         let mut waits = self.runs.values().flat_map(|it| [&it.waiting, &it.changing]);
         let is_whole = self.hooks.is_whole() || waits.any(Waiting::is_whole);
-        match () {
-            () if !is_same => Some("what is applied is configured otherwise"),
-            () if is_whole => Some("a whole table waits for hooks"),
-            () => None,
-        }
+        first_of([
+            (!is_same, "what is applied is configured otherwise"),
+            (is_whole, "a whole table waits for hooks"),
+        ])
     }
 
     /// The groups whose values count here.

@@ -3,7 +3,7 @@ use crate::config::Config;
 use crate::control::{Request, Response};
 use crate::net::{Address, Call, Chunk, End, Turn};
 use crate::prelude::*;
-use crate::{apply, root, standby, Sha256, Ticket, Time};
+use crate::{apply, root, standby, Fact, Sha256, Ticket, Time};
 use core::time::Duration;
 
 /// When it is: by a clock that only goes on, and by that of the machine, since 1970.
@@ -75,7 +75,7 @@ pub enum Act {
     /// An operator is answered, or is shown what was asked for.
     Answer(Ticket, Response),
     /// A line for the journal: what happened, and its words.
-    Fact(&'static str, String),
+    Fact(Fact),
     /// All connections are new ones from now on: what belongs to the old ones is left.
     Anew,
     /// The shell looks at what it has itself: each second or two.

@@ -1,7 +1,7 @@
 //! The connections of an agent: who connects to whom, what is said first, and who is waited for.
-use super::origin::{one_too_many, Known};
+use super::origin::Known;
 use super::parents::{Parents, Way, BEAT, NONE, SILENCE};
-use super::{Body, Origin, Refusal, Relay};
+use super::{Body, Refusal, Relay};
 use crate::prelude::*;
 use crate::{Sha256, Time};
 use alloc::collections::{BTreeMap, BTreeSet, VecDeque};
@@ -11,8 +11,6 @@ use connection::{travels, Conn, State};
 use core::time::Duration;
 use core::{fmt, mem};
 use dials::Dial;
-use hellos::count;
-use output::fact;
 use still::Still;
 
 mod budget;
@@ -21,11 +19,14 @@ mod connection;
 mod dials;
 mod fault;
 mod hellos;
+mod lines;
 mod messages;
 mod output;
+mod seen;
 mod setup;
 mod shown;
 mod still;
+mod ways;
 mod words;
 
 pub use connection::{Chunk, End};
@@ -36,9 +37,6 @@ pub use setup::{Call, ChildError, Children, Parent, ReportKind, Setup, Whom};
 /// What is done, or why a connection is left for it, in words of a journal.
 type Result<T = (), E = String> = core::result::Result<T, E>;
 
-/// How many connections there are at most whose hello has not come, besides one for each child that
-/// is away: these may come all at once, and must not drive each other out.
-const GREETING: usize = 64;
 /// How often at most somebody is given twice the time, since it was late.
 const LATER: u32 = 5;
 /// How long a connection has to stand to count as one that did, and how often a refusal is said.
@@ -344,285 +342,6 @@ impl<A: Clone + PartialEq + fmt::Display> Peers<A> {
             self.leave_line(id, why);
         }
         self.leave_words(&child);
-    }
-
-    // ---- What is to be seen
-
-    /// The links, to be read.
-    pub fn relay(&self) -> &Relay {
-        &self.relay
-    }
-
-    /// The same, so that a trial may set what an agent remembers to anything.
-    #[doc(hidden)]
-    pub fn relay_mut(&mut self) -> &mut Relay {
-        &mut self.relay
-    }
-
-    /// The parents that there may be, for such a trial.
-    #[doc(hidden)]
-    pub fn parents_mut(&mut self) -> &mut Parents {
-        &mut self.parents
-    }
-
-    /// The parent that it is connected to, and since when.
-    pub fn parent(&self) -> Option<(&Parent<A>, Time)> {
-        let since = match self.above {
-            Some(id) => self.conns.get(&id)?.greeted(),
-            None => self.words.get(&Whom::Parent)?.since,
-        };
-        Some((self.candidate(self.parents.at())?, since?))
-    }
-
-    /// The way from a root to the agent, as it says it itself.
-    pub fn way(&self) -> &Way {
-        self.parents.says()
-    }
-
-    /// The agent's own name.
-    pub fn name(&self) -> &str {
-        &self.setup.name
-    }
-
-    /// The number that the process drew when it began.
-    pub fn life(&self) -> u64 {
-        self.life
-    }
-
-    /// How often it was connected to a parent.
-    pub fn reconnects(&self) -> u64 {
-        self.reconnects
-    }
-
-    /// How many connections were refused.
-    pub fn refused(&self) -> u64 {
-        self.refused
-    }
-
-    /// Who was refused last, and why; empty where nobody was.
-    pub fn last_refused(&self) -> &str {
-        &self.last_refused
-    }
-
-    /// Why no parent could be connected to last; empty where that is not known.
-    pub fn no_parent(&self) -> &str {
-        self.dials.get(&Whom::Parent).map_or("", |dial| &*dial.why)
-    }
-
-    /// The parents that refuse this agent, and why.
-    pub fn refusals(&self) -> impl Iterator<Item = (&Parent<A>, Refusal)> {
-        let all = self.refusals.iter();
-        all.filter_map(|(at, (why, _))| Some((self.candidate(*at)?, *why)))
-    }
-
-    /// Since when connections have ended before the other end's hello came, where it has come by
-    /// none since then.
-    pub fn fails_since(&self) -> Option<Time> {
-        self.fails
-    }
-
-    /// How often an end that was called as a parent has said its hello.
-    pub fn looks_answered(&self) -> u64 {
-        self.answers
-    }
-
-    /// Whether a child or a parent connected from there last that proved its name by a certificate.
-    pub fn knows(&self, origin: &Origin) -> bool {
-        self.known.has(origin)
-    }
-
-    /// How often something came of a line that is none, and was ignored.
-    pub fn strange(&self) -> u64 {
-        self.strange
-    }
-
-    /// The numbers of all lines.
-    pub fn lines(&self) -> impl Iterator<Item = u64> + '_ {
-        self.conns.keys().copied()
-    }
-
-    /// Whether there is a line of this number.
-    pub fn has_line(&self, id: u64) -> bool {
-        self.conns.contains_key(&id)
-    }
-
-    /// Whether something is sent on this line that the system does not have yet.
-    pub fn sends(&self, id: u64) -> bool {
-        self.conns.get(&id).is_some_and(Conn::has_output)
-    }
-
-    /// Whether nobody knows yet whose this line is. (Others come first.)
-    pub fn is_greeting(&self, id: u64) -> bool {
-        self.conns.get(&id).is_some_and(Conn::is_greeting)
-    }
-
-    /// The numbers of all connections of which this holds.
-    fn all_that(&self, holds: impl Fn(&Conn) -> bool) -> Vec<u64> {
-        let all = self.conns.iter().filter(|(_, conn)| holds(conn));
-        all.map(|(id, _)| *id).collect()
-    }
-
-    /// When there may be something to do although nothing comes.
-    pub fn deadline(&self) -> Option<Time> {
-        let beat = (!self.children.is_empty()).then_some(self.beat);
-        let evicts = self.relay.evicts_at(self.setup.evict);
-        let dials = self.dials.iter();
-        let dials = dials.filter(|(whom, dial)| self.is_idle(whom, dial));
-        let conns = self.conns.values().filter_map(|conn| conn.until);
-        let all = conns.chain(dials.map(|(_, dial)| dial.next.unwrap_or(self.now)));
-        all.chain(beat).chain(evicts).chain(self.turn_due()).min()
-    }
-
-    // ---- Connections
-
-    /// At most so many connections wait for a hello from now on, as few descriptors are there, say.
-    pub fn bound_waiting(&mut self, most: usize) {
-        (self.waiting, self.not_waiting) = (most, !most);
-    }
-
-    /// Takes a line that was accepted. Of those whose hello has not come, one too many drives out
-    /// the oldest of those of one [origin](End::origin) of which there are the most; and if there
-    /// are as many of others, of those that are not [known](Peers::knows).
-    pub fn accept(&mut self, id: u64, end: End, now: Time) {
-        self.now = now;
-        let until = self.greets_until();
-        self.open(id, end, State::Accepted, until);
-        let greeting = self.all_that(Conn::is_greeting);
-        let children = || self.relay.children().map(|(_, link)| link);
-        let away = || children().filter(|link| !link.is_connected()).count();
-        let most = self.waiting.min(GREETING);
-        if greeting.len() > most && greeting.len() > self.waiting.min(GREETING + away()) {
-            let all = greeting.iter().filter_map(|id| Some((*id, self.conns.get(id)?)));
-            let shown = |it: &Conn| (self.knows(&it.end.origin), it.end.shown, it.has_said);
-            let all = all.map(|(id, it)| (id, it.end.origin, shown(it)));
-            if let Some(id) = one_too_many(all) {
-                self.leave_line(id, "too many say no hello");
-            }
-        }
-    }
-
-    /// Until when an end that connects itself may say its hello.
-    fn greets_until(&self) -> Time {
-        self.now + self.setup.ack_timeout.saturating_mul(1 << self.late)
-    }
-
-    /// There is this line from now on. (That of a number which another one has is none.)
-    fn open(&mut self, id: u64, end: End, state: State, until: Time) {
-        self.made = self.made.wrapping_add(1);
-        let conn = Conn::new(end, state, self.now, until);
-        self.conns.entry(id).or_insert(conn);
-    }
-
-    /// Something comes of this line: whether there is one.
-    fn comes_of(&mut self, id: u64, now: Time) -> bool {
-        self.now = now;
-        let is_there = self.has_line(id);
-        self.strange = self.strange.wrapping_add(u64::from(!is_there));
-        is_there
-    }
-
-    fn conn_with(&mut self, id: u64, change: impl FnOnce(&mut Conn)) {
-        if let Some(conn) = self.conns.get_mut(&id) {
-            change(conn);
-        }
-    }
-
-    /// Closes a connection: its end of the link leaves it.
-    pub fn close(&mut self, id: u64, why: &str, now: Time) {
-        if self.comes_of(id, now) {
-            self.leave_line(id, why);
-        }
-    }
-
-    fn leave_line(&mut self, id: u64, why: &str) {
-        let conn = match self.conns.remove(&id) {
-            Some(conn) => conn,
-            None => return,
-        };
-        self.outputs.push_back(Output::Close(id));
-        let place = conn.end.place.clone();
-        let is_own = conn.end.origin == Origin::Own;
-        if !conn.has_said && !is_own {
-            self.fails.get_or_insert(self.now);
-        }
-        match &conn.state {
-            State::Answered => (),
-            State::Accepted | State::Comes(..) if is_own => (),
-            State::Accepted | State::Comes(..) => {
-                self.refused += 1;
-                self.last_refused = format!("{place}{}: {why}", conn.says);
-                // (whoever can connect must not fill the journal)
-                if self.said_refused.is_none_or(|at| self.now >= at + SHORT) {
-                    self.said_refused = Some(self.now);
-                    let (last, all) = (&self.last_refused, self.refused);
-                    fact!(self, "refused", "{last} ({all} in all)");
-                }
-            }
-            State::Looks(whom, at, _) => {
-                self.was_refused(*at, conn.refused());
-                // (who answered was not late: the next look gets its time by how long this one
-                // took)
-                if conn.has_said && *whom != Whom::Parent {
-                    let took = self.now - conn.since;
-                    self.dial_with(whom, |dial| (dial.failed, dial.took) = (0, took));
-                }
-                self.look_ended(whom, conn.is_mute, why);
-            }
-            State::Link(whom, number, greeted) => {
-                if greeted.is_some() {
-                    fact!(self, "closed", "{whom}: {why}, at {place}");
-                }
-                if let Whom::Child(name) = whom {
-                    self.relay.child_ended(name, *number, self.now);
-                    if self.children.get(name) == Some(&id) {
-                        self.children.remove(name);
-                    }
-                } else {
-                    if greeted.is_none() {
-                        self.was_refused(self.parents.at(), conn.refused());
-                    }
-                    self.relay.ended(*number);
-                    // (else another one is taken already)
-                    if self.above != Some(id) {
-                        return;
-                    }
-                    self.above = None;
-                    self.parents.tries(self.parents.at());
-                }
-                // (a parent's hello of version 2 was not heard, or it was tried to speak version 1)
-                let is_mute = conn.is_mute && !conn.is_old() && matches!(whom, Whom::Child(_));
-                let mute = self.dials.get(whom).map_or(0, |dial| dial.mute);
-                let mute = if is_mute { mute.saturating_add(1) } else { 0 };
-                self.redial(whom, *greeted, why);
-                self.dial_with(whom, |dial| dial.mute = mute);
-            }
-        }
-    }
-
-    /// Closes what waited too long, and drops the backlog of who is away too long.
-    pub fn tick(&mut self, now: Time) {
-        self.now = now;
-        for id in self.all_that(|conn| conn.until.is_some_and(|at| now >= at)) {
-            match self.conns.get(&id).map(|conn| &conn.state) {
-                Some(State::Link(Whom::Child(name), _, Some(_))) => self.relay.was_late(name),
-                Some(State::Link(..) | State::Looks(..)) | None => (),
-                Some(_) => self.late = (self.late + 1).min(LATER),
-            }
-            self.leave_line(id, "nothing came in time");
-        }
-        for name in self.relay.evict(self.setup.evict, now) {
-            fact!(self, "evicted", "{name}");
-            self.forget_any(&name);
-        }
-        self.tell();
-    }
-
-    /// Where any child may connect, one that is gone is a child no longer.
-    fn forget_any(&mut self, name: &str) {
-        if self.setup.children == Children::Any {
-            self.relay.remove(name);
-            self.outputs.push_back(Output::Gone(name.into()));
-        }
     }
 }
 

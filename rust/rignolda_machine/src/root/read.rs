@@ -3,7 +3,7 @@ use super::{hold, Empty, Kept, Record, Root};
 use crate::net::BODY_BYTES;
 use crate::prelude::*;
 use crate::settings::{differences, Found, Publisher};
-use crate::Time;
+use crate::{Fact, Time};
 
 impl<W> Root<W> {
     /// What may go but a part of is looked at before it counts.
@@ -79,7 +79,7 @@ impl<W> Root<W> {
             }
         }
         let new = faults.texts.difference(&self.faults.texts).cloned();
-        self.facts.extend(new.map(|why| ("settings", why)));
+        self.facts.extend(new.map(Fact::Settings));
         self.faults = faults;
         self.disk_answered(now);
     }

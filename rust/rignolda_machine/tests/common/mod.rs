@@ -50,7 +50,7 @@ impl Told for Said {
                 Some(format!("report of {child} {}", String::from_utf8_lossy(&report)))
             }
             Output::Gone(child) => Some(format!("gone {child}")),
-            Output::Fact(fact, words) => Some(format!("{fact} {words}")),
+            Output::Fact(fact) => Some(format!("{} {fact}", fact.kind())),
             _ => None,
         });
     }

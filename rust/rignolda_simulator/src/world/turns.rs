@@ -216,11 +216,11 @@ impl World {
             }
             Act::Close(id) => drop(self.agents[it].lines.remove(&id)),
             Act::Call(call) => self.call(it, call),
-            Act::Fact(fact, words) => {
+            Act::Fact(fact) => {
                 if self.talks {
-                    eprintln!("{:>9} n{it} {fact} {words}", self.clock.now());
+                    eprintln!("{:>9} n{it} {} {fact}", self.clock.now(), fact.kind());
                 }
-                self.judge.fact(fact);
+                self.judge.fact(fact.kind());
             }
             Act::Fail(why) => self.agents[it].failed = Some(why.into()),
             Act::Restart => self.agents[it].failed = Some(String::new()),

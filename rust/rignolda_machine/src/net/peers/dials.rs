@@ -1,10 +1,10 @@
 //! Whom an agent calls, and when again.
 use super::connection::{End, State};
-use super::{fact, Call, Children, Output, Parent, Peers, Whom, BEAT, SHORT};
+use super::{Call, Children, Output, Parent, Peers, Whom, BEAT, SHORT};
 use crate::net::wire::{self, FIRST, OLD};
 use crate::net::Refusal;
 use crate::prelude::*;
-use crate::Time;
+use crate::{Fact, Time};
 use core::time::Duration;
 use core::{fmt, mem};
 
@@ -180,14 +180,14 @@ impl<A: Clone + PartialEq + fmt::Display> Peers<A> {
             Some((it, was_said)) if it.to_string() == why => Some(mem::replace(was_said, true)),
             _ => None,
         };
-        match (whom, self.setup.parents.get(place), refusal) {
-            (Whom::Child(name), ..) if is_news => fact!(self, "child", "{name}: {why}"),
-            (Whom::Parent, Some(it), None) if is_news => fact!(self, "parent", "{}: {why}", at(it)),
-            (Whom::Parent | Whom::Candidate(_), Some(it), Some(false)) => {
-                fact!(self, "parent", "{}: {why}", at(it));
-            }
-            _ => (),
-        }
+        let no_parent = |it: &Parent<A>| Some(Fact::NoParent(at(it).to_string(), why.into()));
+        let fact = match (whom, self.setup.parents.get(place), refusal) {
+            (Whom::Child(name), ..) if is_news => Some(Fact::NoChild(name.clone(), why.into())),
+            (Whom::Parent, Some(it), None) if is_news => no_parent(it),
+            (Whom::Parent | Whom::Candidate(_), Some(it), Some(false)) => no_parent(it),
+            _ => None,
+        };
+        self.outputs.extend(fact.map(Output::Fact));
         if refusal.is_none() && !matches!(whom, Whom::Child(_)) {
             self.refusals.remove(&place);
         }

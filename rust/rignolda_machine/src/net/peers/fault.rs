@@ -4,12 +4,10 @@
 //! What has a bound is brought back to it. A link on which nothing is taken begins anew, so nobody
 //! has to know what is wrong with its records. What two places have to say alike, and do not,
 //! nothing mends but a new process.
-use super::{
-    fact, travels, Children, Conn, Output, Parent, Peers, Setup, State, Whom, BEAT, LATER, SILENCE,
-};
+use super::{travels, Children, Conn, Parent, Peers, Setup, State, Whom, BEAT, LATER, SILENCE};
 use crate::net::{Link, BODY_BYTES};
 use crate::prelude::*;
-use crate::Time;
+use crate::{first_of, Fact, Time};
 use alloc::collections::BTreeSet;
 use core::error::Error;
 use core::fmt;
@@ -129,7 +127,7 @@ impl<A: Clone + PartialEq + fmt::Display> Peers<A> {
         let stale = idle.filter(is_stale);
         for name in stale.map(|(name, _)| name.clone()).collect::<Vec<_>>() {
             let why = "it takes nothing";
-            fact!(self, "left-behind", "{name}: {why}");
+            self.tells(Fact::LeftBehind(name.clone(), Some(why)));
             self.leave_links(&name, why);
             self.relay.begin_anew(&name, self.now);
         }
@@ -140,9 +138,8 @@ impl<A: Clone + PartialEq + fmt::Display> Peers<A> {
         let (has_root, is_root) = (self.parents.has_root(), self.setup.is_root());
         if self.still.passes(has_root && !is_root, self.now) {
             let idle = self.still.idle().as_secs();
-            if let Some((parent, _)) = self.parent() {
-                fact!(self, "parent", "{parent} brought no whole table for {idle} s");
-            }
+            let parent = self.parent().map(|it| it.0.to_string());
+            parent.into_iter().for_each(|it| self.tells(Fact::Idle(it, idle)));
         }
     }
 
@@ -184,18 +181,17 @@ impl<A: Clone + PartialEq + fmt::Display> Peers<A> {
         };
         let are_theirs = self.children.iter().all(has_one);
         let has_above = self.above.is_none_or(|id| self.conns.contains_key(&id));
-        match () {
-            () if is_root != self.relay.is_root() => Some("it is the root, and is not"),
-            () if !is_set_up => Some("its children are other ones"),
-            () if self.waiting != !self.not_waiting => Some("other ones may wait"),
-            () if !self.parents.are(name, self.setup.prices()) => {
-                Some("its parents are other ones")
-            }
-            () if self.dials.len() != calls || !self.dials.keys().all(is_called) => {
-                Some("it calls other ones")
-            }
-            () if !are_known || !are_theirs || !has_above => Some("a connection is not found"),
-            () => self.relay.fault(),
-        }
+        let calls_others = self.dials.len() != calls || !self.dials.keys().all(is_called);
+        let is_found = are_known && are_theirs && has_above;
+        let has_others = !self.parents.are(name, self.setup.prices());
+        let why = first_of([
+            (is_root != self.relay.is_root(), "it is the root, and is not"),
+            (!is_set_up, "its children are other ones"),
+            (self.waiting != !self.not_waiting, "other ones may wait"),
+            (has_others, "its parents are other ones"),
+            (calls_others, "it calls other ones"),
+            (!is_found, "a connection is not found"),
+        ]);
+        why.or_else(|| self.relay.fault())
     }
 }

@@ -1,9 +1,10 @@
 //! What each end says first, and of its way: who it is, and whether it is taken.
 use super::connection::{Chunk, Conn, State};
-use super::{fact, Children, Output, Parent, Peers, Result, Whom, BEAT, NONE};
+use super::{Children, Parent, Peers, Result, Whom, BEAT, NONE};
 use crate::net::wire::{self, Expect, Hello, FIRST, OLD, VERSION};
-use crate::net::{Origin, Refusal, Relay, Shown, Way};
+use crate::net::{Origin, Refusal, Relay, Shown};
 use crate::prelude::*;
+use crate::Fact;
 use core::fmt;
 use rignolda::Connection;
 
@@ -216,67 +217,6 @@ impl<A: Clone + PartialEq + fmt::Display> Peers<A> {
         self.conn_with(id, |it| (it.state, it.until) = (State::Answered, until));
     }
 
-    /// A candidate says its way. It becomes the parent, or not.
-    pub(super) fn way_came(&mut self, id: u64, way: Way) -> Result {
-        let conn = self.conns.get(&id).ok_or("it is gone")?;
-        let since = conn.since;
-        match conn.state.clone() {
-            State::Looks(whom, at, Some(rank)) if self.setup.is_root() => {
-                self.outputs.push_back(Output::Looked(at, Some((way, rank))));
-                self.has_looked(id, &whom);
-            }
-            State::Looks(whom, at, Some(_)) => {
-                self.looked(at, &way)?;
-                self.leave(at);
-                if whom != Whom::Parent {
-                    self.look_ended(&whom, false, "");
-                }
-                self.parents.took(at, way);
-                let number = self.relay.made().ok_or("no number is left")?;
-                // (the hello takes as long as the look did)
-                let mut took = self.now - since;
-                self.dial_with(&Whom::Parent, |dial| {
-                    dial.under_way = true;
-                    took = took.max(dial.took);
-                });
-                let until = Some(self.now + self.later(took, 0));
-                let state = State::Link(Whom::Parent, number, None);
-                self.conn_with(id, |conn| (conn.state, conn.until) = (state, until));
-                self.above = Some(id);
-                let name = self.name_of(&Whom::Parent, at).cloned();
-                self.say(id, name.unwrap_or_default());
-            }
-            State::Comes(at, hello) => match self.looked(at, &way) {
-                Ok(()) => {
-                    self.leave(at);
-                    self.parents.took(at, way);
-                    self.parent_greets(id, &hello)?;
-                }
-                Err(why) if hello.version == OLD => return Err(why),
-                Err(_) => {
-                    // (it is to connect again later, and no other life is told)
-                    self.say(id, hello.from);
-                    self.answered(id);
-                }
-            },
-            _ => return Err("it is no message".into()),
-        }
-        Ok(())
-    }
-
-    /// Whether a candidate that says this is to be taken now; else why not.
-    pub(super) fn looked(&mut self, at: usize, way: &Way) -> Result {
-        let is_other = self.parents.has_root() && at != self.parents.at();
-        if is_other && self.still.is_barred(at) {
-            return Err("it brought no table for long".into());
-        }
-        let looked = match is_other && self.still.is() {
-            true => self.parents.replaces(at, way),
-            false => self.parents.looked(at, way),
-        };
-        looked.map_err(|why| why.to_string())
-    }
-
     /// Who an agent of this name is, where it connects itself; of a parent, which one. It may be
     /// known that it looks for a parent.
     fn caller(&self, from: &str, is_child: bool) -> Result<(Whom, usize), Refusal> {
@@ -315,7 +255,7 @@ impl<A: Clone + PartialEq + fmt::Display> Peers<A> {
         Some(self.conns.get(&id)?.link()?.1)
     }
 
-    fn parent_greets(&mut self, id: u64, hello: &Hello) -> Result {
+    pub(super) fn parent_greets(&mut self, id: u64, hello: &Hello) -> Result {
         let made = self.number(id);
         let number = made.or_else(|| self.relay.accepted());
         let number = number.ok_or("no number is left")?;
@@ -334,7 +274,7 @@ impl<A: Clone + PartialEq + fmt::Display> Peers<A> {
         self.still.takes(self.parents.at(), self.now);
         let anew = self.above_life.replace(*life) != Some(*life);
         self.reconnects += 1;
-        fact!(self, "connected", "the parent {from}{}", count(anew));
+        self.tells(Fact::Connected { whom: format!("the parent {from}"), anew });
     }
 
     fn child_greets(&mut self, id: u64, hello: &Hello) -> Result {
@@ -348,9 +288,9 @@ impl<A: Clone + PartialEq + fmt::Display> Peers<A> {
         let Hello { life, label, .. } = *hello;
         let greeted = self.relay.greeted(name, life, label, made, self.now);
         let (number, anew) = greeted.ok_or("no number is left")?;
-        fact!(self, "connected", "{name}{}", count(anew));
+        self.tells(Fact::Connected { whom: name.into(), anew });
         if before == 0 && clashes(&self.relay) > 0 {
-            fact!(self, "clash", "{name}: two processes have this name");
+            self.tells(Fact::Clash(name.into()));
         }
         self.children.insert(name.into(), id);
         self.begins(id, Whom::Child(name.into()), number);
@@ -400,13 +340,5 @@ impl<A: Clone + PartialEq + fmt::Display> Peers<A> {
             }
             conn.state = State::Link(whom, number, Some(now));
         }
-    }
-}
-
-/// What is said of a link that begins anew, or goes on.
-pub(super) fn count(anew: bool) -> &'static str {
-    match anew {
-        true => ", a new count",
-        false => "",
     }
 }

@@ -1,12 +1,12 @@
 //! What travels over links: frames, acknowledgements, reports and ways.
 use super::connection::{travels, Chunk, Conn, State};
-use super::{fact, Output, Peers, ReportKind, Result, Whom, LATER};
+use super::{Output, Peers, ReportKind, Result, Whom, LATER};
 use crate::net::relay::{Came, Polled};
 use crate::net::wire::{self, Message, Reference, CHANGES, HEAD_BYTES, OLD, REFERS};
 use crate::net::{Body, Refusal};
 use crate::prelude::*;
 use crate::settings::table_of;
-use crate::Time;
+use crate::{Fact, Time};
 use alloc::sync::Arc;
 use core::time::Duration;
 use core::{fmt, mem};
@@ -137,7 +137,7 @@ impl<A: Clone + PartialEq + fmt::Display> Peers<A> {
     /// A frame came from above, and brought an item or not; and who was left behind for it.
     pub(super) fn came(&mut self, came: Came, body: &Arc<Body>) {
         for name in came.left_behind {
-            fact!(self, "left-behind", "{name}");
+            self.tells(Fact::LeftBehind(name.clone(), None));
             if let Some(id) = self.children.get(&name) {
                 self.leave_line(*id, "it is too far behind");
             }

@@ -1,7 +1,9 @@
 //! What comes out of connections: what is to be done, and what follows from what came.
 use super::connection::Chunk;
+use super::Peers;
 use crate::net::{Body, Way};
 use crate::prelude::*;
+use crate::Fact;
 use alloc::sync::Arc;
 
 /// What is to be done about lines, and what an agent is told.
@@ -30,17 +32,12 @@ pub enum Output {
     /// says this way, and, if it is a root itself, its rank; or nothing if it could not be looked
     /// at.
     Looked(usize, Option<(Way, u64)>),
-    /// A fact for a journal: `connected`, `closed`, `refused`, `left-behind`, `evicted`, or
-    /// `parent` and `child` if one cannot be connected to, and `clash` if two processes have the
-    /// name of one child, which is said once; and its words.
-    Fact(&'static str, String),
+    /// A fact for a journal.
+    Fact(Fact),
 }
 
-/// Tells a fact.
-macro_rules! fact {
-    ($peers:expr, $fact:literal, $($words:tt)*) => {{
-        let words = format!($($words)*);
-        $peers.outputs.push_back(Output::Fact($fact, words));
-    }};
+impl<A> Peers<A> {
+    pub(super) fn tells(&mut self, fact: Fact) {
+        self.outputs.push_back(Output::Fact(fact));
+    }
 }
-pub(super) use fact;

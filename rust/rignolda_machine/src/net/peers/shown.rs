@@ -1,9 +1,9 @@
 //! What the words of links in a store show, and what follows from it.
 use super::words::Words;
-use super::{count, fact, Output, Peers, Whom};
+use super::{Output, Peers, Whom};
 use crate::net::wire::{self, Expect, Hello, Message};
 use crate::prelude::*;
-use crate::Time;
+use crate::{Fact, Time};
 use core::time::Duration;
 use core::{fmt, mem};
 
@@ -55,7 +55,7 @@ impl<A: Clone + PartialEq + fmt::Display> Peers<A> {
     /// A link that was there since then, or is not there yet, is to be called again.
     fn lost(&mut self, whom: &Whom, since: Option<Time>, why: &str) {
         if since.is_some() {
-            fact!(self, "closed", "{whom}: {why}");
+            self.tells(Fact::Closed { whom: whom.to_string(), why: why.into(), place: None });
         }
         self.redial(whom, since, why);
     }
@@ -176,7 +176,7 @@ impl<A: Clone + PartialEq + fmt::Display> Peers<A> {
             let anew = self.relay.word_seen(name, life, label, self.now)?;
             words.since = Some(self.now);
             words.waits = words.waits.filter(|_| !anew);
-            fact!(self, "connected", "{name}{}", count(anew));
+            self.tells(Fact::Connected { whom: name.into(), anew });
         }
         // (a look that would change nothing is none)
         if words.waits != Some(label) && !changed {
@@ -199,7 +199,8 @@ impl<A: Clone + PartialEq + fmt::Display> Peers<A> {
             self.relay.word_away(name, self.now);
             self.relay.was_late(name);
             if words.since.take().is_some() {
-                fact!(self, "closed", "{whom}: nothing came in time");
+                let (whom, why) = (whom.to_string(), "nothing came in time".into());
+                self.tells(Fact::Closed { whom, why, place: None });
             }
         } else {
             self.lost(whom, None, "its word is not there");

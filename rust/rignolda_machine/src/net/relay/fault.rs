@@ -1,7 +1,7 @@
 //! What holds of a relay's state whatever it is given, as [`Peers::check`](super::super::Peers)
 //! looks at it.
 use super::{Above, Link, Params, Relay, LABELS};
-use crate::Time;
+use crate::{first_of, Time};
 use core::time::Duration;
 use rignolda::Connection;
 
@@ -64,18 +64,15 @@ impl Relay {
         let is_spent = node.length() == u64::MAX
             || children.any(|link| link.session.is_spent())
             || matches!(&self.above, Above::Below(session) if session.is_spent());
-        match () {
-            () if Params::new(1, LABELS) != Ok(self.params) => Some("it counts other labels"),
-            () if node.room() as u64 != self.room => Some("its list has other room"),
-            () if node.length().checked_sub(node.forgotten()) != Some(kept) => {
-                Some("its list is another one")
-            }
-            () if kept > self.room || lengths.sum::<usize>() != self.bytes => {
-                Some("it keeps other bodies")
-            }
-            () if node.ack().is_none() => Some("the link above is closed"),
-            () if is_spent => Some("no number is left"),
-            () => None,
-        }
+        let is_listed = node.length().checked_sub(node.forgotten()) == Some(kept);
+        let has_others = kept > self.room || lengths.sum::<usize>() != self.bytes;
+        first_of([
+            (Params::new(1, LABELS) != Ok(self.params), "it counts other labels"),
+            (node.room() as u64 != self.room, "its list has other room"),
+            (!is_listed, "its list is another one"),
+            (has_others, "it keeps other bodies"),
+            (node.ack().is_none(), "the link above is closed"),
+            (is_spent, "no number is left"),
+        ])
     }
 }
