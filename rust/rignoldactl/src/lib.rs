@@ -13,6 +13,8 @@ mod error;
 pub mod files;
 pub mod probe;
 pub mod source;
+pub mod text;
+pub mod tree;
 
 pub use error::{at, ErrorAt};
 pub use rignolda_machine::control::*;

@@ -1,11 +1,10 @@
 //! Asks a running agent, over its control socket.
 #![forbid(unsafe_code)]
-use clap::{Parser, Subcommand};
+use clap::Parser;
 use rignolda_machine::settings::{is_newer, VALUE_BYTES};
 use rignoldactl::ask::{self, Agent};
 use rignoldactl::files::{self, File};
-use rignoldactl::probe::Probe;
-use rignoldactl::{is_sha256, milliseconds, Request, Response, Seen, Status};
+use rignoldactl::{text, tree, Request, Response, Seen, Status};
 use serde::Serialize;
 use serde_json::json;
 use std::io::{ErrorKind, IsTerminal, Read, Write};
@@ -13,137 +12,14 @@ use std::path::PathBuf;
 use std::process::ExitCode;
 use std::time::{Duration, Instant};
 
+mod arguments;
+
+use arguments::{Arguments, Child, Command};
+
 /// How often a command that waits asks.
 const PAUSE: Duration = Duration::from_millis(50);
 /// How long the table of a round is waited for.
 const ROUND: Duration = Duration::from_secs(30);
-
-/// Asks a running agent of rignoldad, over its control socket.
-///
-/// It ends with 0 where it was done, 1 where it was refused or its time was up, 2 where it was
-/// called wrongly, 3 where no agent answers, and 4 where the agent is not what `status` asks for.
-#[derive(Parser)]
-#[command(name = "rignoldactl", version)]
-struct Arguments {
-    /// The agent's control socket.
-    #[arg(long, env = "RIGNOLDA_CONTROL", default_value = "/run/rignolda/control", global = true)]
-    socket: PathBuf,
-    /// Prints JSON.
-    #[arg(long, global = true)]
-    json: bool,
-    #[command(subcommand)]
-    command: Command,
-}
-
-#[derive(Subcommand)]
-enum Command {
-    /// At the root: makes a setting, and prints the sequence number of the change.
-    Publish {
-        /// KEY, or KEY@GROUP: it counts for the agents of that group alone.
-        key: String,
-        /// The value; `-` or nothing: it is read from the standard input.
-        #[arg(allow_hyphen_values = true)]
-        value: Option<String>,
-    },
-    /// At the root: removes a setting, and prints the sequence number of the change.
-    Unset { key: String },
-    /// At the root: makes the value of KEY@GROUP that of KEY, by one change.
-    PromoteValue {
-        #[arg(value_name = "KEY@GROUP")]
-        key: String,
-    },
-    /// At the root: publishes a round now, and prints the sequence number of its table: whoever
-    /// has applied that has looked at all its files.
-    Round,
-    /// Shows this agent. Where it is not what one of these options says, it ends with 4.
-    Status {
-        #[command(flatten)]
-        probe: Probe,
-    },
-    /// Shows this agent and all below it.
-    Tree,
-    /// Shows the settings in this agent's files: their keys, lengths and digests.
-    List,
-    /// Shows the value of a setting in this agent's file.
-    Get {
-        key: String,
-        /// At the root: shows the digest of the value that each agent has instead.
-        #[arg(long)]
-        everywhere: bool,
-    },
-    /// Waits until all up to a sequence number is applied, its hooks included.
-    Wait {
-        /// Without it: the last one that this agent has. The root looks at its folder first, and
-        /// publishes what it finds; where it cannot, the command says why, and ends with 1.
-        #[arg(allow_negative_numbers = true, value_parser = number)]
-        sequence: Option<u64>,
-        /// At the root: has each agent look at its files first, so that they are right now.
-        #[arg(long, conflicts_with = "sequence")]
-        now: bool,
-        /// Waits for every agent of the tree, and not for this one alone.
-        #[arg(long)]
-        everywhere: bool,
-        /// Waits for every agent of the tree that is of this group.
-        #[arg(long, conflicts_with = "everywhere")]
-        group: Option<String>,
-        #[arg(long, default_value = "30s", value_parser = time)]
-        timeout: Duration,
-    },
-    /// Makes an agent with `standby` the root: it publishes what it has applied.
-    Promote {
-        /// It publishes what lies in its root's folder, as it is.
-        #[arg(long)]
-        as_is: bool,
-    },
-    /// Makes it an agent as any other again.
-    Demote,
-    /// At the root: publishes nothing more, and waits until all backlogs are empty.
-    Drain {
-        #[arg(long, default_value = "30s", value_parser = time)]
-        timeout: Duration,
-    },
-    /// At the root: ends `drain`.
-    Resume,
-    /// At the root: shows what of the settings' folder is not published.
-    Diff,
-    /// At the root: publishes a change of the folder that is held, and prints its sequence number.
-    Confirm {
-        /// The digest that `diff` shows: then nothing else is published.
-        #[arg(value_parser = digest)]
-        digest: Option<String>,
-    },
-    /// Adds or removes a child, until the agent ends or reads its configuration again.
-    Child {
-        #[command(subcommand)]
-        what: Child,
-    },
-    /// Leaves an agent that is gone for good, and who was below it, out of the tree that this agent
-    /// knows, until it is back.
-    Forget { name: String },
-    /// Shows the bounds of each agent, seen from the root.
-    Bounds,
-}
-
-#[derive(Subcommand)]
-enum Child {
-    Add { name: String },
-    Remove { name: String },
-}
-
-fn number(text: &str) -> Result<u64, String> {
-    let error = |_| "a sequence number is expected, as `publish` prints it".to_string();
-    text.parse().map_err(error)
-}
-
-fn time(text: &str) -> Result<Duration, String> {
-    let error = || "a time is expected, as 500ms, 2s or 10m".to_string();
-    milliseconds(text).map(Duration::from_millis).ok_or_else(error)
-}
-
-fn digest(text: &str) -> Result<String, String> {
-    let error = || "64 hexadecimal digits are expected, as `diff` shows them".to_string();
-    is_sha256(text).then(|| text.to_ascii_lowercase()).ok_or_else(error)
-}
 
 /// Why a command was not done, and the status to end with.
 struct Failed(u8, String);
@@ -158,7 +34,7 @@ fn main() -> ExitCode {
     let arguments = Arguments::parse();
     let done = run(&arguments).map(|text| {
         // (a reader that went away is no fault of the command)
-        let _ = std::io::stdout().write_all(ask::plain(&text).as_bytes());
+        let _ = std::io::stdout().write_all(text::plain(&text).as_bytes());
     });
     match done {
         Ok(()) => ExitCode::SUCCESS,
@@ -167,7 +43,7 @@ fn main() -> ExitCode {
                 let _ = writeln!(std::io::stdout(), "{}", json!({ "error": error }));
             }
             if !error.is_empty() {
-                let _ = writeln!(std::io::stderr(), "rignoldactl: {}", ask::plain(&error));
+                let _ = writeln!(std::io::stderr(), "rignoldactl: {}", text::plain(&error));
             }
             ExitCode::from(status)
         }
@@ -204,28 +80,28 @@ fn run(arguments: &Arguments) -> Result<String, Failed> {
         }
         Command::Status { probe } => {
             let status = status(agent)?;
-            let text = shown(is_json, &status, ask::status_text);
+            let text = shown(is_json, &status, text::status_text);
             let Some(why) = probe.fails(&status) else { return Ok(text) };
-            let _ = std::io::stdout().write_all(ask::plain(&text).as_bytes());
-            let _ = writeln!(std::io::stderr(), "rignoldactl: {}", ask::plain(&why));
+            let _ = std::io::stdout().write_all(text::plain(&text).as_bytes());
+            let _ = writeln!(std::io::stderr(), "rignoldactl: {}", text::plain(&why));
             return Err(Failed(4, String::new()));
         }
         Command::Tree => {
             let is_root = status(agent)?.is_root;
             let list = tree(agent)?;
-            if let Some(warning) = ask::too_few_harmless(&list).filter(|_| is_root) {
+            if let Some(warning) = tree::too_few_harmless(&list).filter(|_| is_root) {
                 eprintln!("rignoldactl: {warning}");
             }
-            return Ok(shown(is_json, &list, |list| ask::tree_text(list)));
+            return Ok(shown(is_json, &list, |list| text::tree_text(list)));
         }
         Command::List => {
             let folder = folder(agent)?;
             let (files, faults) = files::list(&folder)
                 .map_err(|e| Failed(1, format!("{}: {e}", folder.display())))?;
             for fault in faults {
-                let _ = writeln!(std::io::stderr(), "rignoldactl: {}", ask::plain(&fault));
+                let _ = writeln!(std::io::stderr(), "rignoldactl: {}", text::plain(&fault));
             }
-            return Ok(shown(is_json, &files, |files| ask::list_text(files)));
+            return Ok(shown(is_json, &files, |files| text::list_text(files)));
         }
         Command::Get { key, everywhere: false } => {
             let (value, file) = files::get(&folder(agent)?, key).map_err(|why| Failed(1, why))?;
@@ -239,13 +115,13 @@ fn run(arguments: &Arguments) -> Result<String, Failed> {
             // (who may read the value here is shown its digest; of others there are labels)
             let own = folder(agent).ok().and_then(|it| files::get(&it, key).ok());
             files::name(&mut holders, own.map(|(_, file)| file));
-            return Ok(shown(is_json, &holders, |holders| ask::holders_text(holders)));
+            return Ok(shown(is_json, &holders, |holders| text::holders_text(holders)));
         }
         Command::Diff => {
             let Response::Diff(diff) = asked(agent, &Request::Diff)? else {
                 return something_else();
             };
-            return Ok(shown(is_json, &diff, ask::diff_text));
+            return Ok(shown(is_json, &diff, text::diff_text));
         }
         Command::Bounds => {
             if !status(agent)?.is_root {
@@ -253,7 +129,7 @@ fn run(arguments: &Arguments) -> Result<String, Failed> {
                 return Err(Failed(1, why.into()));
             }
             let list = tree(agent)?;
-            return Ok(shown(is_json, &ask::bounds(&list), |_| ask::bounds_text(&list)));
+            return Ok(shown(is_json, &tree::bounds(&list), |_| text::bounds_text(&list)));
         }
         Command::Wait { sequence, now, everywhere, group, timeout } => {
             let begun = Instant::now();
@@ -289,7 +165,7 @@ fn run(arguments: &Arguments) -> Result<String, Failed> {
             shown(is_json, &json!({ "sequence": sequence }), |_| numbered(sequence))
         }
         Response::Said(words) => {
-            let _ = writeln!(std::io::stderr(), "rignoldactl: {}", ask::plain(&words));
+            let _ = writeln!(std::io::stderr(), "rignoldactl: {}", text::plain(&words));
             shown(is_json, &json!({ "done": true, "said": words }), nothing)
         }
         _ => shown(is_json, &json!({ "done": true }), nothing),
@@ -455,20 +331,20 @@ fn wait(agent: &mut Agent, sequence: u64, whom: Whom, timeout: Duration) -> Resu
         match whom {
             Whom::This => list.truncate(1),
             Whom::All => (),
-            Whom::Group(group) => list.retain(|it| ask::is_of(it, group) != Some(false) || it.cut),
+            Whom::Group(group) => list.retain(|it| tree::is_of(it, group) != Some(false) || it.cut),
         }
         if let (Whom::Group(group), []) = (whom, &list[..]) {
             return Some(format!("no agent is known that is of `{group}`"));
         }
         let lacks = |seen: &Seen| match whom {
-            Whom::Group(group) => ask::lacks_of(seen, group, sequence),
-            _ => ask::lacks(seen, sequence),
+            Whom::Group(group) => tree::lacks_of(seen, group, sequence),
+            _ => tree::lacks(seen, sequence),
         };
         let lacking = list.iter().filter_map(|seen| Some((seen, lacks(seen)?)));
         let lacking: Vec<String> =
             lacking.map(|(seen, why)| format!("{} {why}", seen.name)).collect();
         if shows {
-            show(&ask::progress(list.len(), &lacking));
+            show(&text::progress(list.len(), &lacking));
         }
         (!lacking.is_empty() || list.is_empty()).then(|| lacking.join(", "))
     });
@@ -480,7 +356,7 @@ fn wait(agent: &mut Agent, sequence: u64, whom: Whom, timeout: Duration) -> Resu
 
 /// Shows a line on the terminal in the place of the one before.
 fn show(line: &str) {
-    let _ = write!(std::io::stderr(), "\r\x1b[K{}", ask::plain(line));
+    let _ = write!(std::io::stderr(), "\r\x1b[K{}", text::plain(line));
 }
 
 /// Waits until each agent that is connected has what its parent has, and no backlog, and that twice
@@ -502,7 +378,7 @@ fn drained(agent: &mut Agent, timeout: Duration) -> Result<(), Failed> {
         (!twice).then(|| format!("not drained at {}", full.join(", ")))
     })?;
     if !away.is_empty() {
-        let _ = writeln!(std::io::stderr(), "rignoldactl: not connected: {}", ask::plain(&away));
+        let _ = writeln!(std::io::stderr(), "rignoldactl: not connected: {}", text::plain(&away));
     }
     Ok(())
 }

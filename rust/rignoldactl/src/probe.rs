@@ -1,5 +1,5 @@
 //! What a probe asks of an agent: whether it is well.
-use crate::ask::age;
+use crate::text::age;
 use crate::{milliseconds, Standby, Status};
 use rignolda_machine::first_of;
 use std::time::Duration;

@@ -1,5 +1,5 @@
 //! What is said to an agent, and how it is written.
-use rignoldactl::ask::{plain, status_text};
+use rignoldactl::text::{plain, status_text};
 use rignoldactl::{milliseconds, report, Key, Keys, Request, Response, Seen, Status};
 
 #[test]

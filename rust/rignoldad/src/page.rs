@@ -1,6 +1,6 @@
 //! The tree below an agent as a page for people. It has no script, and nothing on it is fetched.
 use rignolda_machine::settings::is_newer;
-use rignoldactl::ask::age;
+use rignoldactl::text::age;
 use rignoldactl::{dotted, unix_now, Compared, Seen};
 use std::collections::BTreeMap;
 use std::fmt::Write;

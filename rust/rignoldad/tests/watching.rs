@@ -2,12 +2,12 @@
 use rignolda_machine::below::Below;
 use rignolda_machine::net::wire::REPORT_BYTES;
 use rignolda_machine::Time;
-use rignoldactl::ask::{
-    bounds, depths, harmless_needed, lacks, lacks_of, progress, too_few_harmless, tree_text,
-    Bounds, CUT, NOT_HEARD,
-};
 use rignoldactl::probe::Probe;
 use rignoldactl::sha256;
+use rignoldactl::text::{progress, tree_text};
+use rignoldactl::tree::{
+    bounds, depths, harmless_needed, lacks, lacks_of, too_few_harmless, Bounds, CUT, NOT_HEARD,
+};
 use rignoldactl::{ChildStatus, Compared, Seen, Status};
 use std::time::Duration;
 
@@ -576,6 +576,6 @@ fn why_something_fails_stays_on_its_line() {
     let failures = vec!["y".repeat(500), "z".into()];
     let status = Status { failing: 2, failures, faults: vec!["a\nb".into()], ..status("a", &[]) };
     assert_eq!(status.seen().why, "y".repeat(rignoldactl::WHY));
-    let text = rignoldactl::ask::status_text(&status);
+    let text = rignoldactl::text::status_text(&status);
     assert!(text.contains("not published  a\\nb\n"), "{text}");
 }

@@ -8,7 +8,7 @@ use rignolda_machine::net::{
 };
 use rignolda_machine::settings::{Meaning, Table};
 use rignolda_machine::{Ticket, Time};
-use rignoldactl::ask::{bounds_text, tree_text};
+use rignoldactl::text::{bounds_text, tree_text};
 use rignoldactl::{sha256, ChildStatus, Request, Response, Status};
 use rignoldad::config::Config;
 use rignoldad::control::{self, Asked, Server};
