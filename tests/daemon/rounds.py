@@ -21,6 +21,8 @@ LAST = ("3e41939f23d676da77edb332d6bf757c95fc7404",
         "6c4ff3723fcad4f52d7e57fe2a9e75f459f9ef8a7d48ab3219be2b037cfd0d90")
 # What somebody makes of a marker: by how much it is moved, or what it has; or it is gone.
 MOVED = (10**6, 2**40, 2**62, 2**63 - 1, 2**63, 2**63 + 1, "0", "1", str(2**64 - 1), "spoilt", None)
+# What an agent says that finds a later one than it remembers.
+OLDER = "and its memory is older"
 
 
 @functools.cache
@@ -145,15 +147,17 @@ def colour(agent, value):
          agent.name, "has not", value, "but", agent.files().get("colour"))
 
 
-def two_rounds(tree):
+def two_rounds(tree, is_seen):
     """They come, and all agents have the root's settings and numbers. The second one comes once the
-    files of the first one are kept, since a round is to be longer than that takes."""
+    disks have done what the first one asks of them, since a round is to be longer than that takes:
+    surely once what was changed is seen."""
     def are_kept():
         return all(it["applied"] == it["sequence"] for it in (agent.status() for agent in tree))
 
-    for _ in range(2):
-        tree.rounds()
-        until(are_kept, 0.5)
+    tree.rounds()
+    sure(until(is_seen), "what was changed is not seen")
+    until(are_kept, 0.5)
+    tree.rounds()
     rests(tree)
     sure(not tree.wrong(), tree.wrong())
 
@@ -162,14 +166,13 @@ def two_rounds(tree):
 def a_marker_that_is_changed_while_an_agent_runs_is_healed_by_two_rounds():
     with begun({"middle": "root", "leaf": "middle"}) as tree:
         for agent, by in itertools.product(tree, MOVED):
-            marker = agent.settings / ".rignolda"
-            if by is None:
-                marker.unlink()
-            else:
-                there = int(marker.read_text())
-                marker.write_text(by if isinstance(by, str) else str((there + by) % 2**64))
+            marker, said = agent.settings / ".rignolda", agent.said(OLDER)
+            there = int(marker.read_text())
+            text = by if isinstance(by, str) else str((there + (by or 0)) % 2**64)
+            marker.unlink() if by is None else marker.write_text(text)
             tree.write("colour", int(tree.truth()["colour"]) + 1)
-            two_rounds(tree)
+            two_rounds(tree, lambda: agent.said(OLDER) > said
+                       or marker.exists() and marker.read_text() != text)
             becomes(lambda: int(marker.read_text()), number(agent), agent.name, by)
 
 
