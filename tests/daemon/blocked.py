@@ -5,11 +5,9 @@ import signal
 import socket
 import subprocess
 import threading
-import time
 
-from daemons import PATIENCE, USUAL, Tree, becomes, during, of_tree, patient, took, until
-from protocol import Parent, body
-from runner import sure, test
+from daemons import PATIENCE, becomes, during, of_tree, patient, took, until
+from runner import sure
 
 # Calls of the system that do something else while there is a file that is named for them: most of
 # them wait, and say so by another file.
@@ -208,30 +206,23 @@ def a_name_that_is_looked_up_for_long_is_looked_up_once(tree, root, left):
 
 @of_tree({}, runs=False)
 def what_lies_where_a_socket_is_to_be_is_moved_aside_and_kept(tree, root):
-    """At a start, in a folder of the agent's own. Where others may write it is left, and said."""
-    for kind, make in (("file", lambda path: path.write_text("mine")),
-                       ("link", lambda path: path.symlink_to("elsewhere")),
-                       ("pipe", os.mkfifo), ("folder", lambda path: (path / "full").mkdir(
-                           parents=True))):
-        for is_own in False, True:
-            around = tree.home / f"{kind}{is_own}"
-            around.mkdir(mode=0o755)
-            around.chmod(0o755 if is_own else 0o777)
-            root.socket = around / "control"
-            make(root.socket)
-            was = os.lstat(root.socket)
-            root.start()
-            kept = around / ("control.aside1" if is_own else "control")
-            if is_own:
-                sure(until(root.status), kind, root.text())
-            else:
-                sure(until(lambda: not root.alive()), kind, "it runs")
-                sure(root.process.returncode == 1, kind, root.process.returncode)
-            # (the journal is written beside the answers)
-            sure(until(lambda: root.said(str(kept)) == 1), kind, root.text())
-            root.kill()
-            sure(os.path.samestat(os.lstat(kept), was), kind, "is another one")
-    sure((tree.home / "fileTrue/control.aside1").read_text() == "mine")
+    """At a start, in a folder of the agent's own. If others may write to it, it is left, and said.
+    (What may lie there is in listener.rs.)"""
+    around = tree.home / "around"
+    around.mkdir()
+    root.socket = around / "control"
+    for mode, kept in (0o777, root.socket), (0o755, around / "control.aside1"):
+        around.chmod(mode)
+        root.socket.write_text("mine")
+        root.start()
+        # (the journal is written beside the answers)
+        root.says(str(kept))
+        if kept == root.socket:
+            sure(until(lambda: not root.alive()) and root.process.returncode == 1, "it runs")
+        else:
+            sure(until(root.status), root.text())
+        root.kill()
+        sure(kept.read_text() == "mine", "it is another one")
 
 
 @of_tree({"left": "root"})
@@ -283,35 +274,3 @@ def a_hooks_mark_that_cannot_go_yet_stops_nobody(tree, root, left):
     tree.wait()
     said = (left.home / "said").read_text()
     sure(said.count(" -> ") == 4 and "socket:" not in said, said)
-
-
-@test
-def an_agent_that_ends_while_it_is_waited_for_does_not_answer():
-    """Then the command ends with 3, and says nothing of a time that is up."""
-    with Tree({}) as tree, socket.socket(socket.AF_UNIX) as server:
-        server.bind(str(tree.root.socket))
-        server.listen(1)
-        wait = subprocess.Popen(tree.root.command("wait"), stderr=subprocess.PIPE)
-        for answer in (b'{"status": {"is_root": true}}\n', b""):
-            client = server.accept()[0]
-            with client, client.makefile("rb") as lines:
-                lines.readline()
-                client.sendall(answer)
-        said = wait.communicate(timeout=USUAL)[1]
-        sure(wait.returncode == 3 and b"time is up" not in said, wait.returncode, said)
-
-
-@of_tree({"left": "root"}, runs=False)
-def what_a_peer_does_at_any_rate_is_said_once_in_a_second(tree, root, left):
-    left.env = {}
-    parent = Parent(left)
-    begun = time.monotonic()
-    for number in range(1, 301):
-        # (a body without a meaning, and then one that is older than the one before)
-        parent.send(body(b"?", number))
-        parent.send(body(b"H", 1_000 - number))
-    seconds = time.monotonic() - begun
-    left.becomes(garbage=300, strays=299)
-    lines = left.said("garbage ") + left.said("stray ")
-    sure(1 <= lines <= seconds + 2, lines, "lines in", seconds, "s")
-    parent.close()

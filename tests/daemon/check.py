@@ -103,23 +103,21 @@ def a_dead_leaf_harms_nobody_and_is_served_when_it_is_back(tree):
 # ---- Security
 
 def others_certificates(tree):
-    """Agents have a certificate of another authority, of another name, or none."""
+    """Agents have a certificate of another name, or none."""
     by_tls(tree)
-    tree["strange"].tables["tls"] = {**certify(tree.home / "other", "strange", authority="other"),
-                                     "authority": str(tree.home / "ca.crt")}
     tree["liar"].tables["tls"] = certify(tree.home, "inner2")
     del tree["plain"].tables["tls"]
 
 
-@of_tree({"inner": "root", "leaf": "inner", "strange": "root", "liar": "root", "plain": "root"},
-         others_certificates, without=["strange", "liar", "plain"], begins=True)
-def only_the_right_certificate_is_let_in(tree, root, false, leaf, strange, liar, plain):
-    good, bad = [root, false, leaf], [strange, liar, plain]
+@of_tree({"inner": "root", "leaf": "inner", "liar": "root", "plain": "root"},
+         others_certificates, without=["liar", "plain"], begins=True)
+def only_the_right_certificate_is_let_in(tree, root, false, leaf, liar, plain):
+    """(Of another authority operating.py has what is said, and line.rs that it is no line.)"""
+    good, bad = [root, false, leaf], [liar, plain]
     tree.start(bad)
     # (each says why it has no parent when it was refused first)
     for agent in bad:
         agent.says("parent 127.0.0.1")
-    sure(until(lambda: root.status()["refused"] >= 3), root.status())
     liar.says("certificate no DNS name of its SAN is `liar`")
     why = "which calls itself liar: its certificate has another name"
     root.says(f"by its certificate inner2, {why}")
@@ -318,10 +316,7 @@ def a_reload_that_is_not_taken_is_shown(tree, root):
     root.file.write_text(good.replace("metrics =", "#metrics ="))
     sure(not reload()[0])
     sure(until(lambda: shows("from a start alone: metrics")), root.status())
-    # a table that went, and is in use
-    root.file.write_text(re.sub(r"(?m)^\[apply\]\n(?:[^\[\n].*\n)*", "", good))
-    sure(not reload()[0] and until(lambda: shows("[apply] is gone")), root.status())
-    sure(root.status()["folder"] == str(root.settings), root.status())
+    # (of a table that went config.rs has what is said)
     root.file.write_text(good)
     sure(not reload()[0] and until(lambda: shows("")), root.status())
 

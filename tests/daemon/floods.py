@@ -11,20 +11,20 @@ import ssl
 import struct
 import time
 
-from daemons import (PATIENCE, USUAL, bounded, by_tls, certify, during, of_tree, openssl, patient,
-                     tls, until, used, very_patient)
+from daemons import (PATIENCE, USUAL, bounded, by_tls, certify, during, of_tree, patient, tls,
+                     until, used, very_patient)
 from protocol import hello
 from runner import sure
 
-# More than anything but a handshake with a large group, or hundreds of certificates, costs the
-# agent in seconds of its processor, on a slow machine too.
+# More than anything but a handshake with a large group costs the agent in seconds of its processor,
+# on a slow machine too.
 CHEAP = 0.03
 # The most memory that connections without a hello may cost an agent, in MiB: four times the 60 KiB
 # of each of the 64, and one for each child that is away.
 WAITING = 16
 # By whose certificate each flood is.
 KINDS = {"keys": "stranger", "keys of a child": "evil", "records of a byte": "evil",
-         "sessions": "stranger", "chains": "many"}
+         "sessions": "stranger"}
 # A prime one less than which is divisible by 2 to the power of 600: a square root modulo it costs
 # most of a second.
 PRIME = ((1 << 60) + 45 << 600) + 1
@@ -113,8 +113,6 @@ def connected(kind, sock):
         # (a whole handshake of TLS 1.2, with another one begun on its connection)
         OPENSSL.SSL_renegotiate(inner)
         return sock.do_handshake()
-    if kind == "chains":
-        return sock.recv(1)
     sock.settimeout(None)
     sock.setsockopt(socket.IPPROTO_TCP, socket.TCP_NODELAY, 1)
     if kind != "keys":
@@ -187,23 +185,6 @@ def flooding(kind, tree):
     finally:
         process.kill()
         process.join()
-
-
-def many_certificates(home):
-    """Certificates by the name of `many`: 330, any of which could have issued the others."""
-    openssl(home, "genpkey", "-algorithm", "ed25519", "-out", "many.key")
-    for name in ("one", "two"):
-        request = ["req", "-new", "-key", "many.key", "-subj", f"/CN={name}", "-addext",
-                   "basicConstraints=critical,CA:TRUE"]
-        openssl(home, *request, "-out", f"{name}.csr")
-        openssl(home, *request, "-x509", "-out", f"{name}.crt")
-    (home / "many").mkdir()
-    for name, other in (("one", "two"), ("two", "one")):
-        openssl(home, "ca", "-batch", "-config", "ca.cnf", "-cert", f"{other}.crt", "-keyfile",
-                "many.key", "-outdir", "many", "-days", "2", "-notext", "-infiles",
-                *[f"{name}.csr"] * 165)
-    texts = [path.read_text() for path in (home / "many").iterdir()]
-    (home / "many.crt").write_text((home / "one.crt").read_text() + "".join(texts))
 
 
 def secure(tree):
@@ -286,19 +267,6 @@ def a_hello_without_a_certificate_costs_little(tree):
         seconds = (used(tree.root) - spent) / 30
         sure(kinds == {kind} and seconds < CHEAP, group, kinds, seconds)
     tree.reaches("left")
-
-
-@of_tree({"left": "root"}, secure)
-def hundreds_of_certificates_are_refused_before_they_are_looked_at(tree):
-    refused = lambda: tree.root.status()["refused"]
-    many_certificates(tree.home)
-    before, spent = refused(), used(tree.root)
-    with flooding("chains", tree):
-        sure(until(lambda: refused() >= before + 20), "they are not refused")
-        seconds = (used(tree.root) - spent) / (refused() - before)
-        sure(seconds < CHEAP, seconds)
-        tree.reaches("left")
-    tree.root.says("it sends too much")
 
 
 @of_tree({"left": "root"}, secure)

@@ -92,33 +92,16 @@ def what_a_child_reports_of_others_harms_nobody(tree, root, left, right, evil):
 
 @of_tree({"left": "root", "evil": "left", "leaf": "left"}, patient, without=["evil"])
 def a_number_that_nobody_has_any_more_counts_no_more(tree, root, left):
-    """A root that publishes nothing goes above none, so each stays ahead as long as it counts."""
+    """A root that publishes nothing goes above none, so each stays ahead as long as it counts.
+    (Which numbers do is in remembered.rs.)"""
     root.ask("drain")
     number = left.status()["sequence"]
-    far = number + (1 << 40)
-
-    def says(child, number):
-        child.send(report([{"name": "evil", "connected": True, "sequence": number}]))
-
-    def counts(number):
+    child, far = Child(left, "evil"), number + (1 << 40)
+    child.send(report([{"name": "evil", "connected": True, "sequence": far}]))
+    for counts in far, number:
         for agent in left, root:
-            agent.becomes(ahead=number)
-    child = Child(left, "evil")
-    says(child, far)
-    counts(far)
-    says(child, number)
-    counts(number)
-    says(child, far)
-    counts(far)
-    child.close()
-    counts(number)
-    # (nor does that of an agent below it that is connected elsewhere, or nowhere)
-    child = Child(left, "evil")
-    child.send(report([{"name": "evil", "connected": True, "sequence": number},
-                       {"name": "far", "parent": "evil", "sequence": far, "ahead": far}]))
-    sure(until(lambda: any(it["name"] == "far" for it in root.ask("tree"))), root.ask("tree"))
-    counts(number)
-    child.close()
+            agent.becomes(ahead=counts)
+        child.close()
     root.ask("resume")
     tree.reaches("leaf")
 
@@ -160,7 +143,7 @@ def a_hello_of_garbage_is_refused(tree, root):
                 sock.sendall(text)
             sure(closed(sock), "it was kept:", greeting[:40], text[:10])
 
-    # (peers.rs and wire.rs have those of strangers, and other names)
+    # (peers.rs and wire.rs have those of strangers, other names, and those that are slow)
     for greeting in [
             hello("left", "root", version=3), b"RGND" + b"\xff" * 300, b"\x16\x03\x01\x02\x00",
             *(draw.randbytes(draw.randrange(1, 2_000)) for _ in range(40))]:
@@ -177,14 +160,7 @@ def a_hello_of_garbage_is_refused(tree, root):
         sure(second.recv(4) and closed(first), "a connection that was left is kept")
     # (for that, and not since it answered to nothing for a while)
     root.says("closed evil: it connected anew")
-    # a slow one is dropped, and so are too many
-    slow = [connect() for _ in range(150)]
-    for sock in slow:
-        with contextlib.suppress(OSError):
-            sock.sendall(b"RGN")
     tree.reaches("left")
-    sure(all(closed(sock) for sock in slow), "a slow hello was kept")
-    sure(root.status()["refused"] >= 150, root.status())
     grew = memory(root, "VmRSS") - before
     sure(grew < 7.8, "its memory grew by", grew, "MiB")
     # (nor do many that stay, each after its answer: those that are spoilt or say anything are in

@@ -16,16 +16,6 @@ def hasty(tree):
     patient(tree, ack_timeout="500ms", evict="2s")
 
 
-def rests(agents):
-    """Asserts that agents stay where they are for 3 s, and say nothing."""
-    moves = lambda: [agent.status()["reconnects"] for agent in agents]
-    lines = lambda: sum(agent.text().count("\n") for agent in agents)
-    before, length = moves(), lines()
-    time.sleep(3)
-    # (somebody may say late what was so before)
-    sure(moves() == before and lines() - length < 4, [agent.text()[-500:] for agent in agents])
-
-
 @of_tree({"rack0": "root", "rack1": "root", "rack2": "root", "leaf": "rack0"}, hasty,
          also("rack0", "rack1"), also("rack1", "rack2"), also("rack2", "rack0"),
          also("leaf", "rack1"), begins=True)
@@ -48,26 +38,14 @@ def agents_without_a_root_rest_and_come_back_to_it(tree):
     root.kill()
     lost = lambda: all(agent.status()["cost"] >= 128 for agent in below)
     sure(until(lost, pause=0.1), [agent.status()["way"] for agent in below])
-    rests(below)
+    # (they stay where they are for 3 s, but somebody may say late what was so before)
+    moves = lambda: [agent.status()["reconnects"] for agent in below]
+    lines = lambda: sum(agent.text().count("\n") for agent in below)
+    before, length = moves(), lines()
+    time.sleep(3)
+    sure(moves() == before and lines() - length < 4, [agent.text()[-500:] for agent in below])
     come_back()
     # (it takes the first one that has the root, and then comes back to its own first one)
     leaf.becomes(way=["root", "rack0", "leaf"])
     strays = [agent.status()["strays"] for agent in tree]
     sure(sum(strays) < 50, "items went round:", strays)
-    # of a ring of single parents one says why it has none
-    root.kill()
-    for agent in ring:
-        agent.kill()
-        del agent.top["parents"][0]
-    tree.start(ring)
-    heads = lambda: [agent for agent in ring if agent.status().get("parent") is None]
-    broken = lambda: len(heads()) == 1 and heads()[0].said("its way leads over this agent")
-    sure(until(broken, pause=0.1), [agent.text()[-500:] for agent in ring])
-    rests(ring)
-    sure(broken(), [agent.text()[-500:] for agent in ring])
-    head = heads()[0]
-    head.top["parents"] = [root.at()]
-    root.start()
-    head.reload()
-    tree.write("mended", "1")
-    tree.settles()

@@ -1,6 +1,10 @@
 //! Which bodies an agent applies.
+use rignolda_machine::came::Came;
 use rignolda_machine::net::{Body, BODY_BYTES};
 use rignolda_machine::settings::{Entry, Meaning, Table, SETTINGS, VALUE_BYTES};
+use rignolda_machine::Time;
+use std::sync::Arc;
+use std::time::Duration;
 
 const CHANGE: Meaning<'_> = Meaning::Changes(Vec::new());
 const TABLE: Meaning<'_> = Meaning::Table(Vec::new());
@@ -139,4 +143,20 @@ fn a_table_that_makes_up_for_something_is_known() {
     // (after a gap; and where it was away, so that a table comes with a later number)
     fills(12, &CHANGE);
     assert!(fills(13, &TABLE) && !fills(14, &TABLE) && fills(16, &TABLE));
+}
+
+/// (each is counted)
+#[test]
+fn what_a_peer_does_at_any_rate_is_said_once_in_a_second() {
+    let begun = Time::after(Duration::from_secs(3_600));
+    let mut came = Came::new(None, None, 0, |_| [0; 32], begun);
+    for at in 1..=300_u64 {
+        let now = begun + Duration::from_millis(10 * at);
+        // (a body without a meaning, and then one that is older than the one before)
+        came.item(&Arc::new(Body::of(vec![b'?'; 3])), now);
+        came.item(&Body::new(1_000 - at, &Meaning::Harmless), now);
+    }
+    assert_eq!((came.received, came.garbage, came.table.strays), (600, 300, 299));
+    let said: Vec<&str> = came.facts.iter().map(|it| it.0).collect();
+    assert_eq!(said, ["garbage"; 3]);
 }

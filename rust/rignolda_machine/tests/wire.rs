@@ -6,7 +6,7 @@ use rignolda_machine::net::wire::{
     WireError, FIRST, GOODBYE, OLD, REPORT_BYTES, REPORT_REQUEST, WAY_BYTES,
 };
 use rignolda_machine::net::{Body, Way, BODY_BYTES};
-use rignolda_machine::settings::{entry_bytes, is_key, Meaning, VALUE_BYTES};
+use rignolda_machine::settings::{entry_bytes, is_key, published_by, Meaning, VALUE_BYTES};
 
 mod common;
 use common::Random;
@@ -250,4 +250,10 @@ fn keys_are_names_of_plain_files() {
     for bad in ["", ".", "..", ".new", "a/b", "-r", "a b", "a\n", "ä", "a\0", &"k".repeat(129)] {
         assert!(!is_key(bad), "{bad:?}");
     }
+    // (and of one for a group both parts are)
+    for bad in ["a@b@c", "a..b", "a@.b", "@b", "a@", "a@b..c", &format!("a@{}", "b".repeat(126))] {
+        assert_eq!(published_by(bad), None, "{bad:?}");
+    }
+    let long = format!("a@{}", "b".repeat(125));
+    assert_eq!(published_by(&long), Some(long.replace('@', "..")));
 }

@@ -1,6 +1,10 @@
 //! What is said to an agent, and how it is written.
 use rignoldactl::text::{plain, status_text};
-use rignoldactl::{milliseconds, report, Key, Keys, Request, Response, Seen, Status};
+use rignoldactl::files::holders;
+use rignoldactl::{milliseconds, report, Compared, Key, Keys, Request, Response, Seen, Status};
+use std::io::{BufRead, BufReader, Write};
+use std::os::unix::net::UnixListener;
+use std::process::{Command, Stdio};
 
 #[test]
 fn requests_and_answers_are_json() {
@@ -92,4 +96,56 @@ fn a_status_has_no_line_that_others_wrote() {
     let text = plain(&status_text(&status));
     assert!(!text.lines().any(|line| line.starts_with("parent         evil")), "{text}");
     assert_eq!(text.matches("\\nparent         evil\\u001b").count(), 9, "{text}");
+}
+
+/// Then the command ends with 3, and says nothing of a time that is up.
+#[test]
+fn an_agent_that_ends_while_it_is_waited_for_does_not_answer() {
+    let path = std::env::temp_dir().join(format!("rignoldactl-ends-{}", std::process::id()));
+    let _ = std::fs::remove_file(&path);
+    let server = UnixListener::bind(&path).unwrap();
+    let mut wait = Command::new(env!("CARGO_BIN_EXE_rignoldactl"));
+    let wait = wait.arg("--socket").arg(&path).arg("wait").stderr(Stdio::piped()).spawn().unwrap();
+    for answer in ["{\"status\": {\"is_root\": true}}\n", ""] {
+        let (mut client, _) = server.accept().unwrap();
+        BufReader::new(&client).read_line(&mut String::new()).unwrap();
+        client.write_all(answer.as_bytes()).unwrap();
+    }
+    let done = wait.wait_with_output().unwrap();
+    let said = String::from_utf8(done.stderr).unwrap();
+    assert!(done.status.code() == Some(3) && !said.contains("time is up"), "{said}");
+    std::fs::remove_file(path).unwrap();
+}
+
+#[test]
+fn of_a_holder_is_said_what_is_known_of_its_files() {
+    let keys = |digest| {
+        let all = Key { digest, number: 20, old: 1, old_number: 10 };
+        Keys { all, ..Keys::default() }
+    };
+    let seen = |files| {
+        let (connected, sequence, compared) = (true, 30, Compared::Same);
+        Seen { connected, sequence, compared, files, ..Seen::default() }
+    };
+    let away = |seen| Seen { connected: false, ..seen };
+    let is = |compared| Seen { compared, ..seen(25) };
+    let new = Seen { sequence: 0, ..seen(0) };
+    for (now, seen, digest, note) in [
+        (2, seen(25), "0000000000000002", ""),
+        (2, seen(20), "0000000000000002", ""),
+        (2, seen(19), "0000000000000001", "older"),
+        (2, away(seen(10)), "0000000000000001", "older, away"),
+        (2, seen(9), "", "not known: it has older files"),
+        (2, away(seen(9)), "", "not known: it has older files, away"),
+        (0, seen(20), "", "unset"),
+        (0, seen(19), "0000000000000001", "older"),
+        (2, is(Compared::Nothing), "", "keeps no files"),
+        (2, is(Compared::NotKnown), "", "not known"),
+        (2, is(Compared::Differs), "", "not known: its files differ"),
+        (2, new.clone(), "", "not known: it has said nothing yet"),
+        (2, away(new), "", "never heard of"),
+    ] {
+        let it = &holders(&[seen], &keys(now))[0];
+        assert_eq!((&*it.digest, &*it.note), (digest, note));
+    }
 }
