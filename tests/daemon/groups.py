@@ -1,6 +1,6 @@
 """Settings that have another value for some groups of agents, and how that becomes all's: what an
 operator asks and is told. (Which value counts is in waiting.rs, publisher.rs and digest.rs, what is
-a name in wire.rs, and who is waited for in watching.rs.)"""
+a name in wire.rs, who is waited for in watching.rs, and what is not promoted in steps.rs.)"""
 from daemons import of_tree, patient, read, root_has
 from runner import sure
 
@@ -47,8 +47,6 @@ def a_group_has_its_own_value_until_it_is_that_of_all(tree, root, left, leaf, ri
     here(tree, "promote-value", "colour@canary")
     sure(tree.truth() == {"colour": b"blue", "colour@us": b"pink", "size@eu": b"1",
                           "size@us": b"2", "other": b"3"}, tree.truth())
-    for name, why in (("colour", "is for no group"), ("colour@none", "is not set")):
-        root.refuses(why, "promote-value", name)
     # what is no name of one is refused, and named
     root.refuses("`a..b` is no key", "publish", "a..b", "1")
     tree.write("a..b", 1)

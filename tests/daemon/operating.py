@@ -14,7 +14,6 @@ from daemons import (becomes, by_tls, certify, counted, of_tree, patient, root_h
                      very_patient)
 from parents import also
 from programs import ran
-from protocol import Child, report
 from runner import sure
 
 
@@ -262,37 +261,25 @@ def who_has_what_is_shown(tree, root, left, leaf, relay):
 
 @of_tree({"left": "root", "leaf": "left"}, counted)
 def what_somebody_else_did_to_files_is_counted_and_named(tree, root, _, leaf):
-    mended = lambda: [agent.status()["mended"] for agent in tree]
-
-    def stays(*counts):
-        """Asserts that these are the counts, after two whole rounds at the leaf."""
-        for _ in range(2):
-            last = leaf.status()["round"]
-            sure(until(lambda: leaf.status()["round"] > last))
-        leaf.ask("wait")
-        sure(mended() == [*counts], mended())
-
-    # what was published is none: a change, an unset one, one that was never there
+    """(That what is published is none is in apply.rs.)"""
     tree.publish("key1", "new")
-    root.ask("unset", "key2")
-    tree.wait()
-    stays(0, 0, 0)
     (leaf.settings / "key1").write_text("drifted")
     (leaf.settings / "key3").unlink()
     (leaf.settings / "stranger").write_text("1")
     leaf.becomes(mended=3)
     tree.settles()
-    sure(until(lambda: leaf.said("mended ")), leaf.text()[-500:])
-    stays(0, 0, 3)
-    sure("\nrignolda_mended_total 3\n" in leaf.counts(), leaf.counts())
-    becomes(lambda: [it["mended"] for it in root.ask("tree")], [0, 0, 3])
-    text = [line.split() for line in root.run("tree").stdout.splitlines()]
-    sure([line[text[0].index("mended")] for line in text[1:]] == ["0", "0", "3"], text)
+    leaf.says("mended ")
     # (another mode is what the agent itself is told)
     leaf.tables["apply"]["mode"] = "0600"
     leaf.reload()
     becomes(lambda: (leaf.settings / "key1").stat().st_mode & 0o777, 0o600)
-    stays(0, 0, 3)
+    for _ in range(2):
+        last = leaf.status()["round"]
+        sure(until(lambda: leaf.status()["round"] > last))
+    becomes(lambda: [it["mended"] for it in root.ask("tree")], [0, 0, 3])
+    sure("\nrignolda_mended_total 3\n" in leaf.counts(), leaf.counts())
+    text = [line.split() for line in root.run("tree").stdout.splitlines()]
+    sure([line[text[0].index("mended")] for line in text[1:]] == ["0", "0", "3"], text)
 
 
 def mount(tree, files):
@@ -462,90 +449,23 @@ def a_terminal_sees_who_is_missing(tree, root, _, leaf):
 
 # ---- The page at the address of the metrics, which says what `rignoldactl tree` says
 
-def agents_of(text):
-    """The agents of a page: each with its parent, its groups and what is said of it."""
-    agents, above, last = {}, [], ""
-    one = r"<li[^>]*>([^<]+?) ?(?=<)(?:<i>(.*?)</i> ?)?(?:<b>(.*?)</b>)?"
-    for end, begin, name, groups, notes in re.findall(f"(</ul>)|(<ul[^>]*>)|{one}", text):
-        if end:
-            last = above.pop()
-        elif begin:
-            above.append(last)
-        else:
-            sure(name not in agents, name, "is there twice")
-            agents[name], last = (above[-1], groups, notes.split(", ")), name
-    return agents
-
-
-def counts(list):
-    """What a page has to count, by what `rignoldactl tree` says."""
-    up = [it for it in list if it["connected"]]
-    newest = list[0]["changed"]
-    return {"agents": len(list), "up": len(up), "away": len(list) - len(up),
-            "behind": sum(it["whole"] and it["applied"] < newest for it in up),
-            "waiting": sum(not it["whole"] for it in up),
-            "differing": sum(it["compared"] == "differs" for it in up),
-            "failing": sum(it["failing"] > 0 for it in up),
-            "moved": sum(it["place"] > 0 for it in up),
-            "expiring": sum(it.get("expires", 0) > 0 for it in up)}
-
-
-def many(root, count):
-    """What a child says of so many agents below it."""
-    number = root.status()["changed"]
-    said = [{"name": "rack", "connected": True, "whole": True, "sequence": number,
-             "applied": number, "version": "0.6.0"}]
-    for at in range(count):
-        said.append({
-            "name": f"host-{at:04}", "parent": "rack" if at < 14 else f"host-{at % 14:04}",
-            "connected": at % 31 > 0, "whole": at % 37 > 0, "sequence": number,
-            "applied": number - (at % 13 == 1) * (1 + at % 3), "failing": int(at % 41 == 3),
-            "place": int(at % 17 == 2), "version": "0.6.0"})
-        if at % 11 == 6:
-            said[-1]["groups"] = ["canary", "eu"]
-        if at % 29 == 4:
-            said[-1].update(applies=True, files=number, digest="00000000000000a1")
-        if at % 43 == 5:
-            said[-1]["expires"] = 1 << 31
-    return said
-
-
-def also_below(tree):
-    tree["leaf"].below(tree["right"])
-    tree["left"].top["groups"] = ["canary"]
-
-
-@of_tree({"left": "root", "right": "root", "leaf": "left", "rack": "root"}, very_patient, counted,
-         root_has(round="1h"), also_below, without=["rack", "left"])
+@of_tree({"left": "root", "right": "root", "leaf": "left"}, very_patient, counted,
+         root_has(round="1h"), also("leaf", "right"), without=["left"])
 def the_page_says_what_the_tree_is(tree, root, left, right, leaf):
+    """(What it says of each agent is in page.rs.)"""
     leaf.becomes(place=1)
     last = root.ask("publish", "last", "1")["sequence"]
     have = lambda: {it["name"] for it in root.ask("tree") if it["applied"] >= last}
     becomes(have, {"root", "right", "leaf"})
-    tree.settles(root, tree["right"], leaf)
-    child = Child(root, "rack")
-    child.send(report(many(root, 296)))
-    list = lambda: root.ask("tree")
-    sure(until(lambda: any(it["name"] == "host-0295" for it in list())))
-    counted_there = lambda: {name: int(count) for name, count in re.findall(
-        r"<dd id=(\w+)[^>]*>(\d+)", root.page("/")[2])}
-    becomes(lambda: counts(list())["moved"] > 1 and counted_there() == counts(list()), True,
-            counted_there(), counts(list()))
+    counts = lambda: {name: int(count) for name, count in re.findall(
+        r"<dd id=(\w+)[^>]*>(\d+)", root.page("/")[2]) if int(count)}
+    becomes(counts, {"agents": 4, "up": 3, "away": 1, "moved": 1})
     status, headers, text = root.page("/")
-    agents = agents_of(text)
-    sure(status == 200 and len(text) <= 40_000 and len(agents) == 301, len(text), len(agents))
     policy = headers["Content-Security-Policy"]
-    sure(policy.startswith("default-src 'none';"), policy)
+    sure(status == 200 and policy.startswith("default-src 'none';"), policy)
     tags = set(re.findall(r"<(\w+)", text))
     sure(not tags & {"script", "img", "link", "iframe", "a", "form"}, tags)
     sure("http" not in text.replace("http-equiv", "") and "url(" not in text)
-    said = {it["name"]: (it["parent"], " ".join(it["groups"])) for it in list()}
-    sure({name: it[:2] for name, it in agents.items()} == said, agents)
-    notes = lambda name: agents[name][2]
-    sure("never heard of" in notes("left") and "parent 2" in notes("leaf"), notes("leaf"))
-    sure("files differ" in notes("host-0004") and "1 failing" in notes("host-0003"))
-    sure(notes("right") == [""] and notes("host-0014") != [""], notes("right"), notes("host-0014"))
-    sure(any(it.startswith("away ") for it in notes("host-0031")), notes("host-0031"))
+    sure("<li class=r>left <b>never heard of" in text and ">leaf <b>parent 2</b>" in text, text)
     # (what is asked for otherwise is none of it)
     sure(root.counts().startswith("# HELP") and root.page("/x")[0] == 404)
-    child.close()

@@ -572,12 +572,17 @@ fn says_what_does_not_fit_in_a_tree() {
             &[(0, (0, "parents", "has a parent", false)), (0, (5, "rot", "no such key", false))],
         ),
     ];
-    let folder = Folder::new("tree");
+    fit("tree", &ALL, cases);
+}
+
+/// Tries these cases of files: of each what is said of all files together.
+fn fit(name: &str, all: &[&str], cases: &[TreeCase]) {
+    let folder = Folder::new(name);
     let paths: Vec<PathBuf> =
-        (0..ALL.len()).map(|at| folder.0.join(format!("{at}.toml"))).collect();
+        (0..all.len()).map(|at| folder.0.join(format!("{at}.toml"))).collect();
     let mut wrong = Vec::new();
     for (name, edits, said) in cases {
-        let mut texts = ALL.map(String::from);
+        let mut texts: Vec<String> = all.iter().map(|it| it.to_string()).collect();
         for (at, old, new) in *edits {
             assert!(texts[*at].contains(old), "{name}: {old}");
             texts[*at] = texts[*at].replacen(old, new, 1);
@@ -588,6 +593,68 @@ fn says_what_does_not_fit_in_a_tree() {
         wrong.extend(found(&paths, said).err().map(|faults| format!("{name}: {faults}")));
     }
     assert!(wrong.is_empty(), "{}", wrong.join("\n"));
+}
+
+/// Two agents of which either may be the root, and one below both.
+#[test]
+fn says_what_does_not_fit_of_two_roots() {
+    const ONE: &str = "name = \"one\"\nlisten = \"0.0.0.0:1\"\nparents = \"two@10.0.0.2:2\"\n\
+                       children = [\"two\", \"h\"]\ncontrol = \"/r/c\"\ninsecure = true\n\
+                       [apply]\nfolder = \"/a/b\"\n[root]\nsettings = \"/s\"\nstandby = true\n\
+                       harmless = 7\n";
+    const TWO: &str = "name = \"two\"\nlisten = \"0.0.0.0:2\"\nparents = \"one@10.0.0.1:1\"\n\
+                       children = [\"one\", \"h\"]\ncontrol = \"/r/c\"\ninsecure = true\n\
+                       [apply]\nfolder = \"/a/b\"\n[root]\nsettings = \"/s\"\nstandby = true\n\
+                       harmless = 7\n";
+    const H: &str = "name = \"h\"\nparents = [\"one@10.0.0.1:1\", \"two@10.0.0.2:2\"]\n\
+                     insecure = true\n";
+    let of_two = |line, key, text| (1, (line, key, text, false));
+    let cases: &[TreeCase] = &[
+        ("either may be the root", &[], &[]),
+        (
+            "one of them is no standby",
+            &[(1, "standby = true\n", "")],
+            &[of_two(4, "children", "is a parent"), of_two(9, "root", "unless it has `standby`")],
+        ),
+        (
+            "one has no parents",
+            &[(1, "parents = \"one@10.0.0.1:1\"\n", "")],
+            &[of_two(0, "parents", "has parents until it is promoted")],
+        ),
+        (
+            "one is to look into a store",
+            &[(1, "10.0.0.1:1", "redis://10.0.0.1:1/t")],
+            &[of_two(3, "parents", "in no store")],
+        ),
+        (
+            "one does not look at the other",
+            &[(1, "one@10.0.0.1:1", "x@10.0.0.9:9")],
+            &[
+                of_two(3, "parents", "no file has `x"),
+                of_two(3, "parents", "`one` is missing: two roots look at each other"),
+                of_two(3, "parents", "no way leads to the root `one`: two"),
+                (0, (4, "children", "`two` has not", true)),
+            ],
+        ),
+        (
+            "one begins rounds with too few harmless items",
+            &[(1, "harmless = 7", "harmless = 6")],
+            &[of_two(12, "root.harmless", "at least 7")],
+        ),
+        (
+            "one applies nothing",
+            &[(1, "[apply]\nfolder = \"/a/b\"\n", "")],
+            &[of_two(9, "root.standby", "[apply] is missing")],
+        ),
+    ];
+    fit("roots", &[ONE, TWO, H], cases);
+    // (what is no folder of its own is seen on its machine alone)
+    let folder = Folder::new("no-folder");
+    let (path, dir) = (folder.0.join("agent.toml"), folder.0.to_str().unwrap());
+    let text = ONE.replace("/a/b", &format!("{dir}/applied")).replace("/r/c", &format!("{dir}/c"));
+    let own = format!("\"{}\"", path.display());
+    fs::write(&path, text.replace("\"/s\"", &own)).unwrap();
+    found(&[path], &[(0, (10, "root.settings", "`promote` is refused", false))]).unwrap();
 }
 
 /// (a way costs at most 127, and each link 1)

@@ -1,6 +1,7 @@
 //! The page of a tree: what an agent says is text on it, and it is never too long.
-use rignoldactl::Seen;
+use rignoldactl::{Compared, Seen};
 use rignoldad::page::page;
+use std::collections::BTreeMap;
 
 fn up(name: &str, parent: &str) -> Seen {
     Seen {
@@ -72,4 +73,89 @@ fn a_page_of_300_agents_has_all_and_one_of_very_many_is_no_longer() {
     (1..400).for_each(|at| chain.push(up(&format!("n{at}"), &format!("n{}", at - 1))));
     let text = page(&chain, 0);
     assert!(text.matches("<li").count() > 30 && text.len() <= 40_000);
+}
+
+/// The agents of a page: of each its parent, its groups and what is said of it.
+fn agents_of(page: &str) -> BTreeMap<String, (String, String, Vec<String>)> {
+    let (mut agents, mut above, mut last) = (BTreeMap::new(), Vec::new(), String::new());
+    for piece in page.split('<').skip(1) {
+        let (tag, text) = piece.split_once('>').unwrap();
+        match tag.split(' ').next() {
+            Some("ul") => above.push(last.clone()),
+            Some("/ul") => last = above.pop().unwrap(),
+            Some("li") => {
+                last = text.trim().into();
+                let agent = (above.last().unwrap().clone(), String::new(), Vec::new());
+                assert!(agents.insert(last.clone(), agent).is_none(), "{last} is there twice");
+            }
+            Some("i") => agents.get_mut(&last).unwrap().1 = text.into(),
+            Some("b") => {
+                agents.get_mut(&last).unwrap().2 = text.split(", ").map(String::from).collect()
+            }
+            _ => (),
+        }
+    }
+    agents
+}
+
+#[test]
+fn it_counts_and_says_what_is_so_of_each_agent() {
+    let mut list = vec![up("hub", ""), up("rack", "hub")];
+    for at in 0..296 {
+        let rack = || format!("host-{:04}", at % 14);
+        let parent = if at < 14 { "rack".into() } else { rack() };
+        let mut seen = up(&format!("host-{at:04}"), &parent);
+        (seen.connected, seen.whole) = (at % 31 > 0, at % 37 > 0);
+        seen.applied -= u64::from(at % 13 == 1) * (1 + at % 3);
+        (seen.failing, seen.place) = ((at % 41 == 3).into(), (at % 17 == 2).into());
+        if at % 11 == 6 {
+            seen.groups = vec!["canary".into(), "eu".into()];
+        }
+        if at % 29 == 4 {
+            seen.compared = Compared::Differs;
+        }
+        if at % 43 == 5 {
+            seen.expires = 86_400 * 9;
+        }
+        list.push(seen);
+    }
+    let (name, parent) = ("new".into(), "rack".into());
+    list.push(Seen { name, parent, ..Seen::default() });
+    let text = page(&list, 0);
+    let up = || list.iter().filter(|it| it.connected);
+    let count = |is: fn(&&Seen) -> bool| up().filter(is).count();
+    for (what, expected) in [
+        ("agents", list.len()),
+        ("up", count(|_| true)),
+        ("away", list.len() - count(|_| true)),
+        ("behind", count(|it| it.whole && it.applied < 7)),
+        ("waiting", count(|it| !it.whole)),
+        ("differing", count(|it| it.compared == Compared::Differs)),
+        ("failing", count(|it| it.failing > 0)),
+        ("moved", count(|it| it.place > 0)),
+        ("expiring", count(|it| it.expires > 0)),
+    ] {
+        let is_said = |class| text.contains(&format!("<dd id={what}{class}>{expected}</div>"));
+        let is_there = ["", " class=y", " class=r"].iter().any(is_said);
+        assert!(expected > 1 && is_there, "{expected} {what}");
+    }
+    let agents = agents_of(&text);
+    assert_eq!(agents.len(), list.len());
+    for seen in &list {
+        let (parent, groups, _) = &agents[&seen.name];
+        assert_eq!((parent, groups), (&seen.parent, &seen.groups.join(" ")), "{}", seen.name);
+    }
+    for (name, notes) in [
+        ("host-0002", "parent 2"),
+        ("host-0003", "1 failing"),
+        ("host-0004", "files differ"),
+        ("host-0005", "certificate 9 d"),
+        ("host-0014", "3 behind"),
+        ("host-0031", "away 0.0 s"),
+        ("host-0037", "waits for a table"),
+        ("new", "never heard of"),
+    ] {
+        assert_eq!(agents[name].2, [notes], "{name}");
+    }
+    assert!(agents["host-0007"].2.is_empty());
 }

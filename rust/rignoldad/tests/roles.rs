@@ -28,5 +28,14 @@ fn what_is_wrong_with_the_mark_of_a_root_is_said_at_a_start() {
     fs::write(&mark, "7\n").unwrap();
     let begun = folders.begun();
     assert_eq!((begun.role, begun.rank, begun.fact), (Role::Looks, 7, None));
+    // (what it may have published is above that, or not known)
+    let published = root.join(".published");
+    for (text, may) in [("9\n", Some(9)), ("6\n", None), ("9 x\n", None), ("", None)] {
+        fs::write(&published, text).unwrap();
+        assert_eq!(folders.begun().may, may, "{text}");
+    }
+    fs::remove_file(&published).unwrap();
+    fs::create_dir(&published).unwrap();
+    assert_eq!(folders.begun().may, None);
     fs::remove_dir_all(root).unwrap();
 }

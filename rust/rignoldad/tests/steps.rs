@@ -212,6 +212,10 @@ fn a_value_that_is_promoted_is_two_changes_and_one_answer() {
     root.done(written(vec![(change("a..eu", Some("5")), Ok(()))]), now);
     assert_eq!((next(&mut root, now), root.answers()), (Some(('C', 504)), vec![("one", Ok(()))]));
     root.jobs();
+    for (name, why) in [("a", "`a` is for no group"), ("a@us", "`a@us` is not set")] {
+        let refused = root.promote(name, "one").unwrap_err().to_string();
+        assert!(refused.starts_with(why), "{refused}");
+    }
     // (what fails is answered, and the next one is begun)
     let promote = || root::Job::Promote("a..eu".into());
     root.promote("a@eu", "two").unwrap();
