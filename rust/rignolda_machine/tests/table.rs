@@ -157,6 +157,6 @@ fn what_a_peer_does_at_any_rate_is_said_once_in_a_second() {
         came.item(&Body::new(1_000 - at, &Meaning::Harmless), now);
     }
     assert_eq!((came.received, came.garbage, came.table.strays), (600, 300, 299));
-    let said: Vec<&str> = came.facts.iter().map(|it| it.0).collect();
+    let said: Vec<&str> = came.facts.iter().map(|it| it.kind()).collect();
     assert_eq!(said, ["garbage"; 3]);
 }

@@ -1,6 +1,6 @@
 //! What is said to an agent, and how it is written.
-use rignoldactl::text::{plain, status_text};
 use rignoldactl::files::holders;
+use rignoldactl::text::{plain, status_text};
 use rignoldactl::{milliseconds, report, Compared, Key, Keys, Request, Response, Seen, Status};
 use std::io::{BufRead, BufReader, Write};
 use std::os::unix::net::UnixListener;
