@@ -40,9 +40,9 @@ pub struct Judge {
     holds: bool,
     /// Values that a fault put somewhere.
     forged: BTreeSet<Vec<u8>>,
-    /// Whether memory was spoilt, or the root's clock set back: then numbers say nothing about what
-    /// is older, until [all is right once](Judge::is_right). And whether by that anything may have
-    /// been published.
+    /// Whether memory was spoilt, or the root's clock set back, or a root that holds changes back
+    /// ended before what it published was kept: then numbers say nothing about what is older, until
+    /// [all is right once](Judge::is_right). And whether by that anything may have been published.
     is_spoilt: bool,
     is_forged: bool,
     /// Whether that of each agent was spoilt since its process began.

@@ -241,6 +241,7 @@ impl Run {
         let rounds = self.world.rounds();
         while self.world.rounds() == rounds {
             self.world.run(self.now() + LOOKS)?;
+            self.world.start_some();
         }
         self.faults.change(&mut self.world);
         // (what is held waits for an operator, too)
@@ -249,6 +250,7 @@ impl Run {
         let (until, moves) = (self.now() + time, self.world.moves());
         while self.now() < until {
             self.world.run(self.now() + LOOKS)?;
+            self.world.start_some();
             self.looks()?;
             if self.world.wrong().is_empty() {
                 return Ok(());

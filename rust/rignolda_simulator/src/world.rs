@@ -186,6 +186,10 @@ impl World {
     pub fn end(&mut self, it: usize, power: bool, starts: u64) {
         let now = self.clock.now();
         let agent = &mut self.agents[it];
+        let root = agent.machine.as_ref().and_then(|it| it.came.root.as_ref());
+        if self.drawn.holds && root.is_some_and(|it| !it.is_kept()) {
+            self.judge.is_set_back = true;
+        }
         if power {
             agent.lines.values().for_each(|it| it.end.is_cut_off());
         }
