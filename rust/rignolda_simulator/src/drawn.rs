@@ -1,6 +1,6 @@
 //! What a run is of, as its seed draws it: the shape of a tree, its links, groups and times.
 use crate::random::Random;
-use rignolda_machine::config::{Apply, Config, Root};
+use rignolda_machine::config::{Apply, Config, Root as RootConfig};
 use rignolda_machine::net::{wire, Address, Children, Parent, Setup};
 use std::collections::BTreeMap;
 use std::time::Duration;
@@ -13,6 +13,8 @@ const DEEPEST: usize = 10;
 /// What is drawn for a run.
 pub struct Drawn {
     pub configs: Vec<Config>,
+    /// How many of them may be the root: the first one, or the first two.
+    pub roots: usize,
     /// By how many milliseconds lines are slow at most; and files, of each agent.
     pub slow: u64,
     pub files: Vec<u64>,
@@ -86,6 +88,11 @@ impl Drawn {
             root.hold = more.once_in(2);
             root.unsets = more.of(&[None, Some(2)]);
         }
+        let mut two = Random::new(seed, "two roots", 0);
+        let roots = if !holds && two.once_in(5) { 2 } else { 1 };
+        if roots == 2 {
+            has_two_roots(&mut configs);
+        }
         if more.once_in(2) {
             configs.iter_mut().filter_map(|it| it.apply.as_mut()).for_each(|apply| {
                 let groups: &[&str] =
@@ -102,6 +109,7 @@ impl Drawn {
             .map(|_| Some(10_000 + more.below(100_000)).filter(|_| do_restart && more.once_in(2)));
         let restarts = restarts.collect();
         Drawn {
+            roots,
             speaks,
             restarts,
             holds,
@@ -112,6 +120,37 @@ impl Drawn {
             span: 20_000 + random.below(100_000),
             pause: random.of(&[200, 1_000, 5_000]),
             changes: random.of(&[300, 3_000, 20_000]),
+        }
+    }
+}
+
+/// The second agent may be the root, too: each of the two is the other's first parent and child, and
+/// who is below the first one may have both as parents.
+fn has_two_roots(configs: &mut [Config]) {
+    let parent = |it| Parent { name: Some(name(it)), address: Some(address(it)), price: None };
+    let is_second = |it: &Parent<Address>| it.name.as_deref() == Some("n1");
+    for it in 0..configs.len() {
+        let peers = &mut configs[it].peers;
+        let first = peers.parents.iter().position(|it| it.name.as_deref() == Some("n0"));
+        if let (Some(at), false) = (first, it == 1 || peers.parents.iter().any(is_second)) {
+            peers.parents.insert(at + 1, parent(1));
+            if let Children::Named(all) = &mut configs[1].peers.children {
+                all.insert(name(it), None);
+            }
+        }
+    }
+    let root = configs[0].root.clone().map(|it| RootConfig { standby: true, ..it });
+    for it in 0..configs.len() {
+        if let Children::Named(all) = &mut configs[it].peers.children {
+            all.remove("n1");
+            if it < 2 {
+                all.insert(name(1 - it), None);
+            }
+        }
+        if it < 2 {
+            configs[it].peers.parents = vec![parent(1 - it)];
+            configs[it].root.clone_from(&root);
+            configs[it].apply.iter_mut().for_each(|it| it.may_be_root = true);
         }
     }
 }
@@ -159,7 +198,7 @@ fn config(it: usize, times: (u64, u64), round: u64, random: &mut Random) -> Conf
         },
         listens: true,
         backlog: ROOM,
-        root: (it == 0).then(|| Root {
+        root: (it == 0).then(|| RootConfig {
             settings: "/root".into(),
             standby: false,
             round: Duration::from_millis(round),

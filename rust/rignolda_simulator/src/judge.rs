@@ -38,6 +38,11 @@ pub struct Judge {
     /// Values of the root's folder that nobody has confirmed, if each is held until then.
     unconfirmed: BTreeSet<Vec<u8>>,
     holds: bool,
+    /// Whose folder that is: the root. Whether there may be what another one published, as while
+    /// there are two, and what values that has.
+    pub root: usize,
+    pub is_split: bool,
+    others: BTreeSet<Vec<u8>>,
     /// Values that a fault put somewhere.
     forged: BTreeSet<Vec<u8>>,
     /// Whether memory was spoilt, or the root's clock set back, or a root that holds changes back
@@ -82,6 +87,9 @@ impl Judge {
             groups,
             unconfirmed: BTreeSet::new(),
             holds: drawn.configs[0].root.as_ref().is_some_and(|it| it.hold),
+            root: 0,
+            is_split: false,
+            others: BTreeSet::new(),
             forged: BTreeSet::new(),
             is_spoilt: false,
             are_spoilt: vec![false; drawn.configs.len()],
@@ -99,9 +107,12 @@ impl Judge {
         }
     }
 
-    /// The root's folder is this from now on.
-    pub fn changed(&mut self, folder: &Settings) {
-        if self.folder == *folder {
+    /// The folder of this root is so from now on.
+    pub fn changed(&mut self, it: usize, folder: &Settings) {
+        if it != self.root {
+            self.others.extend(folder.values().cloned());
+        }
+        if it != self.root || self.folder == *folder {
             return;
         }
         for key in self.folder.keys().chain(folder.keys()).collect::<BTreeSet<_>>() {
@@ -164,6 +175,12 @@ impl Judge {
     pub fn is_right(&mut self) {
         (self.is_spoilt, self.is_forged, self.is_set_back) = (false, false, false);
         self.forged.clear();
+        self.is_settled();
+    }
+
+    /// Each file has the last value that there is, and no other root's is under way.
+    pub fn is_settled(&mut self) {
+        self.is_split = false;
         let last = self.histories.iter().map(|(key, all)| (key.clone(), all.len() - 1));
         let last: BTreeMap<_, _> = last.collect();
         self.places.iter_mut().for_each(|it| it.clone_from(&last));
@@ -222,7 +239,7 @@ impl Judge {
         }
         puts.into_iter().try_for_each(|put| self.put(it, put))?;
         let round = machine.came.table.round;
-        if it == 0 && round != self.round {
+        if it == self.root && round != self.round {
             (self.round, self.rounds) = (round, self.rounds + 1);
         }
         if std::mem::take(&mut self.answers_twice) && !self.is_spoilt {
@@ -297,12 +314,13 @@ impl Judge {
                 places.extend(found);
             }
         } else if !is_known() {
-            if self.is_forged {
+            let is_others = value.as_ref().is_some_and(|it| self.others.contains(it));
+            if self.is_forged || is_others && (self.is_split || self.is_set_back) {
                 return Ok(());
             }
             let text = value.as_deref().map(String::from_utf8_lossy);
             return Err(format!("UNKNOWN: n{it} puts {file} {text:?}, which nobody published"));
-        } else if !self.is_spoilt && !self.is_set_back {
+        } else if !self.is_spoilt && !self.is_set_back && !self.is_split {
             let text = value.as_deref().map(String::from_utf8_lossy);
             return Err(format!("OLDER: n{it} puts {file} {text:?} after something newer"));
         }

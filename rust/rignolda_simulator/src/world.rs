@@ -9,12 +9,14 @@ use rignolda_machine::machine::{Act, Host, Machine, Now};
 use rignolda_machine::net::{Address, Call};
 use rignolda_machine::{Ticket, Time};
 use rignoldactl::{sha256, Request};
+use roots::Roots;
 use shell::Shell;
 use std::cmp::Reverse;
 use std::collections::{BTreeMap, BTreeSet, BinaryHeap};
 use std::rc::Rc;
 use std::time::Duration;
 
+mod roots;
 mod shell;
 mod shown;
 mod turns;
@@ -77,8 +79,9 @@ pub struct World {
     pub agents: Vec<Agent>,
     /// Which agents cannot reach each other.
     pub apart: BTreeSet<[usize; 2]>,
-    /// The root's folder: the truth.
-    pub folder: Settings,
+    /// The root's folder, which is the truth, and that of a second root.
+    pub folders: Vec<Settings>,
+    roots: Roots,
     pub judge: Judge,
     pub turns: u64,
     /// Who asked an agent for something and was not answered yet, and when.
@@ -100,11 +103,15 @@ impl World {
     pub fn new(seed: u64, most: u64, talks: bool) -> World {
         let drawn = Drawn::new(seed, most);
         let count = drawn.configs.len();
+        let disk = |it: usize| {
+            let stands = (drawn.roots == 2 && it < 2).then(|| roots::begins(it));
+            Disk::new(Random::new(seed, "disk", it as u64), stands)
+        };
         let agents = (0..count).map(|it| Agent {
             machine: None,
             lines: BTreeMap::new(),
             made: 0,
-            disk: Disk::new(Random::new(seed, "disk", it as u64)),
+            disk: disk(it),
             failed: None,
             stopped: 0,
             refuses: 0,
@@ -126,7 +133,8 @@ impl World {
             drawn,
             clock: Rc::default(),
             apart: BTreeSet::new(),
-            folder: Settings::new(),
+            folders: vec![Settings::new(); count],
+            roots: Roots::default(),
             turns: 0,
             asked: Vec::new(),
             strangers: Vec::new(),
@@ -168,6 +176,7 @@ impl World {
         let config = self.drawn.configs[it].clone();
         let agent = &mut self.agents[it];
         (agent.starts, agent.lives) = (None, agent.lives + 1);
+        self.roots.begins(it, self.clock.now());
         self.judge.begins(it);
         agent.comes.clear();
         (agent.failed, agent.shell) = (None, Shell::default());
@@ -201,19 +210,20 @@ impl World {
             if let Comes::Works(act) = what {
                 // (each worker does one after the other)
                 if begun < agent.random.below(3) {
-                    agent.disk.ends_at(*act, &mut self.folder, now);
+                    agent.disk.ends_at(*act, &mut self.folders[it], now);
                 }
                 begun += 1;
             }
         }
         agent.starts = Some(now + starts);
-        self.judge.changed(&self.folder);
+        self.has_worked(it);
     }
 
-    /// The root's folder has changed.
-    pub fn changed(&mut self) {
-        if self.agents[0].machine.is_some() {
-            self.comes(0, 0, Comes::Changed);
+    /// The folder of a root has changed.
+    pub fn changed(&mut self, it: usize) {
+        self.judge.changed(it, &self.folders[it]);
+        if self.agents[it].machine.is_some() {
+            self.comes(it, 0, Comes::Changed);
         }
     }
 

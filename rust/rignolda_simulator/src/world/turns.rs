@@ -61,11 +61,11 @@ impl World {
                 Comes::Changed => self.step(it, Input::Changed),
                 Comes::Asked(ticket, request) => self.step(it, Input::Asked(ticket, request)),
                 Comes::Works(act) => {
-                    let is_root = matches!(*act, Act::Disk(_));
+                    let is_root = matches!(*act, Act::Disk(_) | Act::Stand(_));
                     let disk = &mut self.agents[it].disk;
-                    let done = disk.works(*act, &mut self.folder, clock);
+                    let done = disk.works(*act, &mut self.folders[it], clock);
                     if is_root {
-                        self.judge.changed(&self.folder);
+                        self.has_worked(it);
                     }
                     done.into_iter().for_each(|input| self.step(it, input));
                 }
@@ -81,6 +81,7 @@ impl World {
                 self.agents[it].failed.get_or_insert(why.into());
             }
         }
+        self.stands(it)?;
         let agent = &mut self.agents[it];
         if let Some(machine) = &agent.machine {
             self.judge.turn(it, machine, &mut agent.disk, clock)?;
@@ -234,8 +235,16 @@ impl World {
             }
             Act::Begins => self.agents[it].shell.has_disk = true,
             Act::Anew => {
-                self.agents[it].shell.has_disk = false;
-                self.agents[it].lines.clear();
+                let agent = &mut self.agents[it];
+                agent.shell.has_disk = false;
+                agent.lines.clear();
+                // (nobody hears any more of what its disk does)
+                let is_left = |it: &Comes| match it {
+                    Comes::Called(..) => true,
+                    Comes::Works(act) => matches!(**act, Act::Disk(_)),
+                    _ => false,
+                };
+                agent.comes.retain(|_, it| !is_left(it));
             }
             Act::Check => {
                 self.agents[it].checks = true;
@@ -265,6 +274,7 @@ impl World {
         let random = &mut self.agents[it].random;
         let most = random.of(&[1, 1, 1, 1, 1, 300, 8_000]);
         let after = random.below(most);
+        self.roots.is_looked_up([it, to], self.clock.now() + after);
         if !self.answers(it, to) {
             return self.comes(it, after, Comes::Called(Box::new(call), None));
         }
