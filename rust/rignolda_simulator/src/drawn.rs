@@ -7,6 +7,10 @@ use std::time::Duration;
 
 /// The room of an agent's list.
 pub const ROOM: u64 = 64;
+/// How long a round is where links lie in stores, and after how long an agent looks into one again
+/// that shows nothing new, in milliseconds.
+const IN_STORES: u64 = 20_000;
+const POLLS: u64 = 250;
 /// The deepest that an agent is drawn: the depth that a root counts on if it knows none.
 const DEEPEST: usize = 10;
 
@@ -15,6 +19,8 @@ pub struct Drawn {
     pub configs: Vec<Config>,
     /// How many of them may be the root: the first one, or the first two.
     pub roots: usize,
+    /// How many stores there are in which links lie.
+    pub stores: u64,
     /// By how many milliseconds lines are slow at most; and files, of each agent.
     pub slow: u64,
     pub files: Vec<u64>,
@@ -43,6 +49,11 @@ pub fn agent(name: &str) -> Option<usize> {
 
 fn address(agent: usize) -> Address {
     Address::Unix(format!("/{}", name(agent)))
+}
+
+/// The address of a store.
+pub fn store(at: u64) -> Address {
+    Address::Redis { server: format!("s{at}.example:6379"), prefix: "tree".into() }
 }
 
 /// Which agent listens at this address, if one does.
@@ -93,6 +104,14 @@ impl Drawn {
         if roots == 2 {
             has_two_roots(&mut configs);
         }
+        let mut lies = Random::new(seed, "stores", 0);
+        let stores = if lies.once_in(5) { 1 + lies.below(2) } else { 0 };
+        let round = if stores > 0 { IN_STORES } else { round };
+        if stores > 0 {
+            lie_in(stores, roots, &mut configs, &mut lies);
+            let roots = configs.iter_mut().filter_map(|it| it.root.as_mut());
+            roots.for_each(|it| it.round = Duration::from_millis(round));
+        }
         if more.once_in(2) {
             configs.iter_mut().filter_map(|it| it.apply.as_mut()).for_each(|apply| {
                 let groups: &[&str] =
@@ -110,6 +129,7 @@ impl Drawn {
         let restarts = restarts.collect();
         Drawn {
             roots,
+            stores,
             speaks,
             restarts,
             holds,
@@ -151,6 +171,26 @@ fn has_two_roots(configs: &mut [Config]) {
             configs[it].peers.parents = vec![parent(1 - it)];
             configs[it].root.clone_from(&root);
             configs[it].apply.iter_mut().for_each(|it| it.may_be_root = true);
+        }
+    }
+}
+
+/// Links lie in these stores: all of them, or some.
+fn lie_in(stores: u64, roots: usize, configs: &mut [Config], random: &mut Random) {
+    let are_all = random.once_in(3);
+    configs.iter_mut().for_each(|it| it.peers.poll = Duration::from_millis(POLLS));
+    // (two roots look at each other over lines)
+    for it in (0..configs.len()).filter(|it| roots == 1 || *it > 1) {
+        for at in 0..configs[it].peers.parents.len() {
+            let store = store(random.below(stores));
+            let parent = &mut configs[it].peers.parents[at];
+            let other = parent.name.as_deref().and_then(agent);
+            if let Some(other) = other.filter(|_| are_all || random.once_in(2)) {
+                parent.address = Some(store.clone());
+                if let Children::Named(all) = &mut configs[other].peers.children {
+                    all.insert(name(it), Some(store));
+                }
+            }
         }
     }
 }

@@ -11,6 +11,7 @@ use std::collections::BTreeMap;
 mod fields;
 mod memory;
 mod roots;
+mod stores;
 
 /// Of which kinds faults are.
 #[derive(Clone, Copy, Debug, PartialEq, Eq, PartialOrd, Ord)]
@@ -42,6 +43,8 @@ pub struct Faults {
     more: Random,
     /// The same for what operators do with two roots.
     roots: Random,
+    /// The same for what goes wrong with stores.
+    stores: Random,
     /// How many of each kind there were, and of each field.
     pub counts: BTreeMap<&'static str, u64>,
     pub struck: BTreeMap<String, u64>,
@@ -59,6 +62,7 @@ impl Faults {
             fields,
             more: Random::new(seed, "groups", 0),
             roots: Random::new(seed, "promotions", 0),
+            stores: Random::new(seed, "faults of stores", 0),
             counts: BTreeMap::new(),
             struck: BTreeMap::new(),
             older: (0..agents).map(|_| Vec::new()).collect(),
@@ -250,6 +254,8 @@ impl Faults {
         let (disk, places) = self.older[it].get(self.random.at(copies.max(1)))?.clone();
         let starts = self.random.below(3_000);
         world.end(it, false, starts);
+        // (where it holds a change, it may lack what agents of a group have)
+        world.judge.is_set_back |= it == world.root() && world.drawn.holds;
         world.agents[it].disk.goes_back(disk, world.drawn.holds);
         world.judge.goes_back(it, places);
         Some("older disk comes back")

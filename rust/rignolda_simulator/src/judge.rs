@@ -60,6 +60,8 @@ pub struct Judge {
     pub waits: u64,
     /// Whether somebody was answered who had not asked, or had an answer.
     pub answers_twice: bool,
+    /// Whether somebody set in a store what another agent says there.
+    sets_of_others: bool,
     /// How many tables of rounds the root has published, and the number of the last one.
     pub rounds: u64,
     round: u64,
@@ -99,6 +101,7 @@ impl Judge {
             rings: BTreeMap::new(),
             waits: 0,
             answers_twice: false,
+            sets_of_others: false,
             rounds: 0,
             round: 0,
             panics: BTreeMap::new(),
@@ -196,6 +199,19 @@ impl Judge {
         self.places[it].clone()
     }
 
+    /// An agent sets these keys of a store: each has one writer.
+    pub fn sets<'a>(&mut self, it: usize, keys: impl Iterator<Item = &'a str>) {
+        for key in keys {
+            let parts: Vec<&str> = key.split(':').collect();
+            let writer = match parts[..] {
+                [parent, _, "down" | "way"] => parent,
+                [_, child, "up" | "report"] => child,
+                _ => "",
+            };
+            self.sets_of_others |= drawn::agent(writer) != Some(it);
+        }
+    }
+
     /// An agent wrote a line.
     pub fn fact(&mut self, fact: &'static str) {
         *self.facts.entry(fact).or_default() += 1;
@@ -244,6 +260,9 @@ impl Judge {
         }
         if std::mem::take(&mut self.answers_twice) && !self.is_spoilt {
             return Err(format!("ANSWER: n{it} answers who has not asked"));
+        }
+        if std::mem::take(&mut self.sets_of_others) && !self.is_spoilt {
+            return Err(format!("STORE: n{it} sets what another agent says"));
         }
         let Some(much) = self.has_too_much(machine) else {
             self.above[it] = None;

@@ -112,6 +112,7 @@ impl Run {
         let pause = self.faults.pause(pause);
         let (mut fault, mut change, mut look) = (3_000, 0, 0);
         let mut roots = if self.world.drawn.roots == 2 { 3_000 } else { u64::MAX };
+        let mut stores = if self.world.stores.is_empty() { u64::MAX } else { 3_000 };
         while self.now() < span {
             self.world.start_some();
             self.world.strangers_leave(false);
@@ -124,6 +125,9 @@ impl Run {
             }
             if self.now() >= roots {
                 roots = self.now() + self.faults.of_roots(&mut self.world);
+            }
+            if self.now() >= stores {
+                stores = self.now() + self.faults.of_stores(&mut self.world);
             }
             if self.now() >= change {
                 match self.faults.time(4) {
@@ -138,7 +142,8 @@ impl Run {
                 look = self.now() + LOOKS;
             }
             let start = self.world.next_start().unwrap_or(u64::MAX);
-            let until = [fault, change, look, start, roots, span].into_iter().min().unwrap_or(span);
+            let until =
+                [fault, change, look, start, roots, stores, span].into_iter().min().unwrap_or(span);
             self.world.run(until.max(self.now() + 1))?;
         }
         Ok(())
@@ -170,6 +175,7 @@ impl Run {
         let world = &mut self.world;
         world.strangers_leave(true);
         world.apart.clear();
+        world.stores.iter_mut().for_each(|it| (it.away, it.fails) = (0, 0));
         for (it, agent) in world.agents.iter_mut().enumerate() {
             (agent.refuses, agent.stopped) = (0, 0);
             (agent.disk.fails, agent.disk.hooks_fail) = (0, 0);

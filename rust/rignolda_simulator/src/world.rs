@@ -15,10 +15,12 @@ use std::cmp::Reverse;
 use std::collections::{BTreeMap, BTreeSet, BinaryHeap};
 use std::rc::Rc;
 use std::time::Duration;
+use stores::{Got, Store};
 
 mod roots;
 mod shell;
 mod shown;
+mod stores;
 mod turns;
 mod visitors;
 
@@ -39,6 +41,8 @@ enum Comes {
     Works(Box<Act>),
     Asked(Ticket, Request),
     Changed,
+    /// What came of a turn of a store.
+    Turned(Address, Got),
 }
 
 /// An agent, its machine, and what that has.
@@ -82,6 +86,7 @@ pub struct World {
     /// The root's folder, which is the truth, and that of a second root.
     pub folders: Vec<Settings>,
     roots: Roots,
+    pub stores: Vec<Store>,
     pub judge: Judge,
     pub turns: u64,
     /// Who asked an agent for something and was not answered yet, and when.
@@ -102,7 +107,7 @@ pub struct World {
 impl World {
     pub fn new(seed: u64, most: u64, talks: bool) -> World {
         let drawn = Drawn::new(seed, most);
-        let count = drawn.configs.len();
+        let (count, stores) = (drawn.configs.len(), drawn.stores);
         let disk = |it: usize| {
             let stands = (drawn.roots == 2 && it < 2).then(|| roots::begins(it));
             Disk::new(Random::new(seed, "disk", it as u64), stands)
@@ -135,6 +140,7 @@ impl World {
             apart: BTreeSet::new(),
             folders: vec![Settings::new(); count],
             roots: Roots::default(),
+            stores: (0..stores).map(|it| Store::new(Random::new(seed, "store", it))).collect(),
             turns: 0,
             asked: Vec::new(),
             strangers: Vec::new(),
@@ -204,6 +210,7 @@ impl World {
         }
         agent.machine = None;
         agent.lines.clear();
+        self.stores.iter_mut().for_each(|store| store.is_left(it));
         self.asked.retain(|(to, ..)| *to != it);
         let mut begun = 0;
         for what in std::mem::take(&mut agent.comes).into_values() {
