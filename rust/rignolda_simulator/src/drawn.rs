@@ -123,7 +123,14 @@ impl Drawn {
         let speaks =
             (0..count)
                 .map(|_| if are_old { more.of(&[2, 3, wire::VERSION]) } else { wire::VERSION });
-        let speaks = speaks.collect();
+        let mut speaks: Vec<u8> = speaks.collect();
+        // (who speaks version 1 says no way: so there are no rings, and nobody chooses)
+        let mut oldest = Random::new(seed, "version 1", 0);
+        let choose = configs.iter().any(|it| it.peers.parents.len() > 1);
+        if !choose && roots == 1 && stores == 0 {
+            let old = speaks.iter_mut().filter(|it| **it == wire::FIRST);
+            old.filter(|_| oldest.once_in(2)).for_each(|it| *it = wire::OLD);
+        }
         let restarts = (0..count)
             .map(|_| Some(10_000 + more.below(100_000)).filter(|_| do_restart && more.once_in(2)));
         let restarts = restarts.collect();
