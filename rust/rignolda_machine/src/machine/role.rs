@@ -87,7 +87,9 @@ impl Machine {
             None => standby.is_some(),
         };
         let is_there = (standby == Some(true)) == self.came.standby.is_some();
-        is_there && self.came.root.is_some() == is_root
+        let looks = self.came.standby.as_ref().is_some_and(|it| it.role() == Role::Looks);
+        let takes_none = self.config.peers.is_root() == (is_root || looks);
+        is_there && takes_none && self.came.root.is_some() == is_root
     }
 
     /// Takes what may change of the configuration while it runs: the names of what does not.
@@ -166,6 +168,19 @@ mod tests {
         machine.step(NOW, Input::Stood(Done::Promoted(7, Ok(BTreeMap::new()))), &mut acts);
         let has = |is: fn(&Act) -> bool| acts.iter().any(is);
         [has(|it| matches!(it, Act::Anew)), has(|it| matches!(it, Act::Fail(_)))]
+    }
+
+    /// Who takes no parent, and publishes nothing, would be the end of all below it.
+    #[test]
+    fn an_agent_without_a_parent_that_is_no_root_is_seen() {
+        let mut machine = machine();
+        assert!(machine.is_what_it_is());
+        (machine.config.root, machine.came.standby) = (None, None);
+        assert!(machine.is_what_it_is());
+        machine.config.peers.rank = Some(7);
+        assert!(!machine.is_what_it_is());
+        (machine.config.peers.rank, machine.config.peers.parents) = (None, Vec::new());
+        assert!(!machine.is_what_it_is());
     }
 
     /// Else it would be in all places from then on, and no look at itself would find it.
