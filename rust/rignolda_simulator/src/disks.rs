@@ -34,7 +34,7 @@ pub struct Disk {
     pending: BTreeSet<String>,
     /// What a root has kept of what it published.
     record: Option<String>,
-    /// Of an agent that may be promoted, what it is; and whether it was promoted since it was asked.
+    /// What an agent is that may be promoted; and whether it was promoted since it was asked.
     pub stands: Option<Stands>,
     pub is_promoted: bool,
     /// What was put since it was judged.

@@ -151,7 +151,7 @@ impl Drawn {
     }
 }
 
-/// The second agent may be the root, too: each of the two is the other's first parent and child, and
+/// The second agent may be the root, too. Each of the two is the first parent and child of the other;
 /// who is below the first one may have both as parents.
 fn has_two_roots(configs: &mut [Config]) {
     let parent = |it| Parent { name: Some(name(it)), address: Some(address(it)), price: None };
@@ -167,17 +167,14 @@ fn has_two_roots(configs: &mut [Config]) {
         }
     }
     let root = configs[0].root.clone().map(|it| RootConfig { standby: true, ..it });
-    for it in 0..configs.len() {
-        if let Children::Named(all) = &mut configs[it].peers.children {
-            all.remove("n1");
-            if it < 2 {
-                all.insert(name(1 - it), None);
-            }
-        }
+    for (it, config) in configs.iter_mut().enumerate() {
+        let Children::Named(children) = &mut config.peers.children else { continue };
+        children.remove("n1");
         if it < 2 {
-            configs[it].peers.parents = vec![parent(1 - it)];
-            configs[it].root.clone_from(&root);
-            configs[it].apply.iter_mut().for_each(|it| it.may_be_root = true);
+            children.insert(name(1 - it), None);
+            config.peers.parents = vec![parent(1 - it)];
+            config.root.clone_from(&root);
+            config.apply.iter_mut().for_each(|it| it.may_be_root = true);
         }
     }
 }

@@ -9,6 +9,7 @@ use std::collections::{BTreeMap, BTreeSet};
 pub type Got = Result<Vec<Vec<u8>>, String>;
 
 type Keys = BTreeMap<String, Vec<u8>>;
+type Sets = Vec<(String, Vec<u8>)>;
 
 /// After how long a turn is given up, in milliseconds.
 const GIVES_UP: u64 = 5_000;
@@ -24,7 +25,7 @@ pub struct Store {
     /// Who has a connection to it; and what was set by earlier ones that were given up, which may
     /// still be done as long as their agent has no new one.
     connected: BTreeSet<usize>,
-    given_up: Vec<(usize, Vec<(String, Vec<u8>)>)>,
+    given_up: Vec<(usize, Sets)>,
     slow: u64,
     random: Random,
 }
