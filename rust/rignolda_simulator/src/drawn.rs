@@ -151,7 +151,7 @@ impl Drawn {
     }
 }
 
-/// The second agent may be the root, too. Each of the two is the first parent and child of the other;
+/// The second agent may be the root, too. Each of the two is first parent and child of the other;
 /// who is below the first one may have both as parents.
 fn has_two_roots(configs: &mut [Config]) {
     let parent = |it| Parent { name: Some(name(it)), address: Some(address(it)), price: None };
