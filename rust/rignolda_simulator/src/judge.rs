@@ -8,6 +8,8 @@ use rignolda_machine::settings::{is_newer, of_group, SETTINGS};
 use rignoldactl::{Compared, Seen};
 use std::collections::{BTreeMap, BTreeSet};
 
+mod work;
+
 /// For how long agents may be on a ring of parents, in milliseconds.
 const RING: u64 = 60_000;
 
@@ -62,6 +64,9 @@ pub struct Judge {
     pub answers_twice: bool,
     /// Whether somebody set in a store what another agent says there.
     sets_of_others: bool,
+    /// How many stores there are; and who asked for more in a step than it may.
+    stores: usize,
+    pub works: Option<Broken>,
     /// How many tables of rounds the root has published, and the number of the last one.
     pub rounds: u64,
     round: u64,
@@ -102,6 +107,8 @@ impl Judge {
             waits: 0,
             answers_twice: false,
             sets_of_others: false,
+            stores: drawn.stores as usize,
+            works: None,
             rounds: 0,
             round: 0,
             panics: BTreeMap::new(),
@@ -260,6 +267,9 @@ impl Judge {
         }
         if std::mem::take(&mut self.answers_twice) && !self.is_spoilt {
             return Err(format!("ANSWER: n{it} answers who has not asked"));
+        }
+        if let Some(why) = self.works.take() {
+            return Err(why);
         }
         if std::mem::take(&mut self.sets_of_others) && !self.is_spoilt {
             return Err(format!("STORE: n{it} sets what another agent says"));

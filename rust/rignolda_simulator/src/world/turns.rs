@@ -203,10 +203,18 @@ impl World {
 
     fn steps(&mut self, it: usize, input: Input<'_>) {
         let now = self.now(it);
+        let lines = self.agents[it].lines.len();
         let Some(machine) = &mut self.agents[it].machine else { return };
+        let before = self.acts.len();
         let acts = &mut self.acts;
         let steps = catch_unwind(AssertUnwindSafe(|| machine.step(now, input, acts)));
-        steps.unwrap_or_else(|why| self.panics(it, why));
+        match steps {
+            Ok(()) => {
+                let work = self.judge.work(it, machine, lines, &self.acts[before..]);
+                self.judge.works = self.judge.works.take().or(work.err());
+            }
+            Err(why) => self.panics(it, why),
+        }
     }
 
     /// What the machine asks for is done, and what follows from that.
