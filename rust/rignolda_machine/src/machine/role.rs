@@ -188,7 +188,7 @@ mod tests {
     fn what_is_spoilt_of_its_configuration_is_not_taken_along_by_a_promotion() {
         assert_eq!(promoted(machine()), [true, false]);
         let spoils: [fn(&mut Config); 3] = [
-            |it| it.backlog = u64::MAX >> 4,
+            |it| it.backlog = 4_096,
             |it| it.peers.parents.clear(),
             |it| it.peers.name = "another".into(),
         ];
