@@ -259,37 +259,63 @@ rignolda::spoils! { Applier {
 #[cfg(test)]
 mod tests {
     use super::*;
+    use crate::settings::Change;
+
+    /// Has it apply this, of which values for groups are kept so, by a worker that can do all else.
+    fn applies(applier: &mut Applier, number: u64, meaning: Meaning<'_>, grouped: &[Applied]) {
+        let is = Some(Identity([1; 4]));
+        let looks = matches!(meaning, Meaning::Table(_));
+        let heard = Heard { takes: true, applies: true, looks, ..Heard::default() };
+        assert!(applier.take(&Body::new(number, &meaning), &meaning, number, heard));
+        let keep = |part: Vec<(String, Change)>| {
+            let one = |(key, change)| Kept { key, change, put: true, differs: true, done: Ok(()) };
+            part.into_iter().map(one).collect()
+        };
+        let ended =
+            || Ended { is, sum: 7, whole: None, grouped: grouped.to_vec(), facts: Vec::new() };
+        while applier.applied(number) != number {
+            let (at, job) = applier.jobs(Time::default()).pop().expect("it is not applied");
+            let done = match job.what {
+                What::Mark(Mark { files, goes_on: true, .. }) => {
+                    Done::KeptAtOnce(is, keep(files.in_order()), ended())
+                }
+                What::Mark(mark) => Done::Marked(mark.files, is),
+                What::Keep(part, _) => Done::Kept(keep(part), Some(ended())),
+                what => panic!("{what:?}"),
+            };
+            applier.ended(at, done, Time::default());
+        }
+    }
 
     /// After a fault of the memory; else what fails is there.
     #[test]
     fn what_no_table_and_no_file_has_fails_no_more() {
-        let (mut applier, now) =
-            (Applier::new(&Apply::default(), BTreeSet::new()), Time::default());
-        applier.failing.insert("junk".into(), Outcome::File("it is spoilt".into()));
-        assert_eq!(applier.failing(), 1);
-        let heard = Heard { takes: true, applies: true, looks: true, ..Heard::default() };
-        let table = Meaning::Table(vec![("a", Some(b"1"))]);
-        assert!(applier.take(&Body::new(1, &table), &table, 1, heard));
-        while applier.applied(1) != 1 {
-            let (at, job) = applier.jobs(now).pop().expect("it is not applied");
-            let done = match job.what {
-                What::Mark(mark) => Done::Marked(mark.files, Some(Identity([1; 4]))),
-                What::Keep(part, _) => {
-                    let one = |(key, change)| Kept {
-                        key,
-                        change,
-                        put: true,
-                        differs: true,
-                        done: Ok(()),
-                    };
-                    let (is, grouped, facts) = (Some(Identity([1; 4])), Vec::new(), Vec::new());
-                    let ended = Ended { is, sum: 7, whole: None, grouped, facts };
-                    Done::Kept(part.into_iter().map(one).collect(), Some(ended))
-                }
-                what => panic!("{what:?}"),
-            };
-            applier.ended(at, done, now);
+        let mut applier = Applier::new(&Apply::default(), BTreeSet::new());
+        for junk in ["junk", "", "no/key"] {
+            applier.failing.insert(junk.into(), Outcome::File("it is spoilt".into()));
         }
+        assert_eq!(applier.failing(), 3);
+        applies(&mut applier, 1, Meaning::Table(vec![("a", Some(b"1"))]), &[]);
+        assert_eq!(applier.failing(), 0);
+    }
+
+    /// It was never put, so no later table finds its file there.
+    #[test]
+    fn a_value_for_a_group_that_could_not_be_kept_and_is_gone_fails_no_more() {
+        let mut applier = Applier::new(&Apply::default(), BTreeSet::new());
+        let fails = |key: &str| {
+            let status = Outcome::File("No space left on device".into());
+            Applied { key: key.into(), sequence: 1, status }
+        };
+        let table = || Meaning::Table(vec![("a", Some(&b"1"[..])), ("b", Some(b"2"))]);
+        applies(&mut applier, 1, table(), &[fails(".groups/a@eu"), fails(".groups/b@eu")]);
+        assert_eq!(applier.failing(), 2);
+        // (of a change alone, no more is said than it brings)
+        applies(&mut applier, 2, Meaning::Changes(vec![("c", Some(b"3"))]), &[]);
+        assert_eq!(applier.failing(), 2);
+        applies(&mut applier, 3, table(), &[fails(".groups/b@eu")]);
+        assert_eq!(applier.failing(), 1);
+        applies(&mut applier, 4, table(), &[]);
         assert_eq!(applier.failing(), 0);
     }
 }

@@ -177,6 +177,11 @@ impl<W> Root<W> {
         mem::take(&mut self.jobs)
     }
 
+    /// Whether what is published is on the disk, where one that begins looks for it.
+    pub fn is_kept(&self) -> bool {
+        self.keeps.is_none() && !self.keeping
+    }
+
     /// How many jobs have no answer yet.
     pub fn jobs_out(&self) -> u32 {
         self.reads + u32::from(!self.writing.is_empty()) + u32::from(self.keeping)
@@ -278,7 +283,7 @@ impl<W> Root<W> {
         self.mend(now);
         match done {
             Done::Recalled(record) => self.recalls(record, now),
-            Done::Kept(done) => self.take_kept(done),
+            Done::Kept(done) => self.take_kept(done, now),
             Done::Written { all, others } => self.take_written(all, others, now),
             Done::Keys(changes) => self.take_changes(changes, now),
             Done::Read(read) => self.take_read(read, now),
@@ -323,8 +328,12 @@ impl<W> Root<W> {
         }
     }
 
-    fn take_kept(&mut self, done: Result<(), String>) {
+    fn take_kept(&mut self, done: Result<(), String>, now: Time) {
         self.keeping = false;
+        if done.is_err() {
+            // (there may be room again before anything else is published)
+            self.keeps.get_or_insert(now + PATIENCE);
+        }
         let could_not = mem::replace(&mut self.cannot_keep, done.is_err());
         let is_not_kept = |why| {
             let folder = &self.config.settings;

@@ -10,6 +10,9 @@ use rignoldad::files;
 use std::collections::{BTreeMap, BTreeSet};
 
 mod root;
+mod standby;
+
+pub use standby::Stands;
 
 /// Settings by their keys.
 pub type Settings = BTreeMap<String, Vec<u8>>;
@@ -31,16 +34,20 @@ pub struct Disk {
     pending: BTreeSet<String>,
     /// What a root has kept of what it published.
     record: Option<String>,
+    /// What an agent is that may be promoted; and whether it was promoted since it was asked.
+    pub stands: Option<Stands>,
+    pub is_promoted: bool,
     /// What was put since it was judged.
     pub puts: Vec<Put>,
     /// Until when whatever is written fails, and hooks do.
     pub fails: u64,
     pub hooks_fail: u64,
     /// Until when each of its workers is busy.
-    busy: [u64; 6],
+    busy: [u64; 7],
     /// What the worker of files knows: what it put last, and the digest of files.
     known: Settings,
     digest: Digest,
+    of_grouped: Option<Digest>,
     looks: bool,
     all: Waiting,
     life: u64,
@@ -51,8 +58,8 @@ pub struct Disk {
 }
 
 impl Disk {
-    /// An empty one.
-    pub fn new(random: Random) -> Disk {
+    /// An empty one, but for what says what an agent is that may be promoted.
+    pub fn new(random: Random, stands: Option<Stands>) -> Disk {
         Disk {
             marker: 0,
             files: Settings::new(),
@@ -60,12 +67,15 @@ impl Disk {
             grouped: Settings::new(),
             pending: BTreeSet::new(),
             record: None,
+            stands,
+            is_promoted: false,
             puts: Vec::new(),
             fails: 0,
             hooks_fail: 0,
-            busy: [0; 6],
+            busy: [0; 7],
             known: Settings::new(),
             digest: Digest::default(),
+            of_grouped: None,
             looks: false,
             all: Waiting::default(),
             life: 0,
@@ -77,25 +87,20 @@ impl Disk {
 
     /// What a process finds that begins.
     pub fn begins(&mut self) -> Found {
-        (self.known, self.digest, self.busy) = (Settings::new(), Digest::default(), [0; 6]);
-        (self.was_read, self.changed) = (false, None);
-        let mut settings = Settings::new();
-        if self.marker != 0 {
-            settings = self.files.clone();
-            self.grouped.keys().for_each(|key| drop(settings.remove(parts(key).0)));
-            settings.extend(self.grouped.clone());
-        }
+        (self.known, self.digest, self.busy) = (Settings::new(), Digest::default(), [0; 7]);
+        (self.was_read, self.changed, self.of_grouped) = (false, None, None);
+        let settings = if self.marker != 0 { self.published() } else { Settings::new() };
         let applied = apply::Found { floor: self.marker, settings, due: self.pending.clone() };
-        Found { applied: Some(applied), standby: None }
+        Found { applied: Some(applied), standby: self.stands.as_ref().map(Stands::begun) }
     }
 
     /// The disk of another time comes in the place of this one. (A root that holds changes back
     /// knows by its record alone what it has published: where that is older, so is what it goes on
     /// with.)
     pub fn goes_back(&mut self, to: Disk, holds: bool) {
-        let random = self.random.clone();
+        let (random, stands) = (self.random.clone(), self.stands.clone());
         let record = if holds { self.record.take() } else { to.record.clone() };
-        *self = Disk { random, record, life: self.life + 1, puts: Vec::new(), ..to };
+        *self = Disk { random, record, stands, life: self.life + 1, puts: Vec::new(), ..to };
     }
 
     /// When a job that is begun now is done, which takes up to so long: one of a worker comes after
@@ -103,6 +108,7 @@ impl Disk {
     pub fn takes(&mut self, act: &Act, most: u64, now: u64) -> u64 {
         let (worker, most) = match act {
             Act::Apply(at, _) => (*at, 2 * most),
+            Act::Stand(_) => (6, most),
             _ => (5, most),
         };
         let busy = &mut self.busy[worker];
@@ -122,6 +128,7 @@ impl Disk {
     pub fn works(&mut self, act: Act, folder: &mut Settings, now: u64) -> Option<Input<'static>> {
         Some(match act {
             Act::Disk(job) => Input::Disk(self.root_works(job, folder, now)),
+            Act::Stand(job) => Input::Stood(self.stands_work(job, folder, now)),
             Act::Apply(at, job) => Input::Applied(at, self.applies(job, now)),
             _ => return None,
         })
@@ -174,6 +181,7 @@ impl Disk {
         let forgets = mark.forgets || taken != is;
         if forgets {
             self.known.clear();
+            self.of_grouped = None;
         }
         self.looks = mark.looks || forgets;
         let mut files;
@@ -222,6 +230,7 @@ impl Disk {
 
     fn ends(&mut self, now: u64) -> Ended {
         let (mut grouped, mut all) = (Vec::new(), std::mem::take(&mut self.all));
+        let mut is_known = self.of_grouped.is_some() || all.is_whole() && self.looks;
         if all.is_whole() {
             all.unset_others(self.grouped.keys().cloned());
         }
@@ -232,11 +241,14 @@ impl Disk {
             if done.is_ok() {
                 set(&mut self.grouped, &key, value);
             }
+            is_known &= done.is_ok();
             let status = done.map_or_else(Outcome::File, |()| Outcome::Done);
             grouped.push(Applied { key: files::beside(&key), sequence: change.last, status });
         }
         let is = Some(Identity([self.life; 4]));
-        Ended { is, sum: self.digest.sum, whole: None, grouped, facts: Vec::new() }
+        self.of_grouped = (is_known && self.stands.is_some()).then(|| self.of_groups());
+        let whole = self.of_grouped.as_ref().map(|it| self.digest.whole(it));
+        Ended { is, sum: self.digest.sum, whole, grouped, facts: Vec::new() }
     }
 }
 

@@ -10,6 +10,8 @@ use std::collections::BTreeMap;
 
 mod fields;
 mod memory;
+mod roots;
+mod stores;
 
 /// Of which kinds faults are.
 #[derive(Clone, Copy, Debug, PartialEq, Eq, PartialOrd, Ord)]
@@ -39,6 +41,10 @@ pub struct Faults {
     forges: bool,
     /// The same for groups.
     more: Random,
+    /// The same for what operators do with two roots.
+    roots: Random,
+    /// The same for what goes wrong with stores.
+    stores: Random,
     /// How many of each kind there were, and of each field.
     pub counts: BTreeMap<&'static str, u64>,
     pub struck: BTreeMap<String, u64>,
@@ -55,6 +61,8 @@ impl Faults {
             forges: fields.once_in(2),
             fields,
             more: Random::new(seed, "groups", 0),
+            roots: Random::new(seed, "promotions", 0),
+            stores: Random::new(seed, "faults of stores", 0),
             counts: BTreeMap::new(),
             struck: BTreeMap::new(),
             older: (0..agents).map(|_| Vec::new()).collect(),
@@ -77,23 +85,23 @@ impl Faults {
 
     /// Operators ask for something, and mostly for what changes settings.
     pub fn ask(&mut self, world: &mut World) {
-        let it = self.random.at(world.agents.len());
+        let (it, root) = (self.random.at(world.agents.len()), world.root());
         let (key, group) = (self.random.below(12), self.random.of(&["", "", "@canary"]));
         let of_other = !group.is_empty() && self.more.once_in(2);
         let key = format!("k{key}{}", if of_other { "@eu" } else { group });
         self.values += 1;
         let value = format!("{} asked for", self.values).into_bytes();
         let (it, request) = match self.random.below(12) {
-            0..=3 => (0, Request::Publish { key, value }),
-            4 | 5 => (0, Request::Unset { key }),
+            0..=3 => (root, Request::Publish { key, value }),
+            4 | 5 => (root, Request::Unset { key }),
             6 => {
                 world.judge.names(&key);
-                (0, Request::PromoteValue { key })
+                (root, Request::PromoteValue { key })
             }
-            7 => (0, Request::Round),
-            8 => (0, Request::Look),
-            9 if self.random.once_in(2) => (0, Request::Drain),
-            9 => (0, Request::Resume),
+            7 => (root, Request::Round),
+            8 => (root, Request::Look),
+            9 if self.random.once_in(2) => (root, Request::Drain),
+            9 => (root, Request::Resume),
             10 => (it, Request::Status),
             _ => (it, Request::Tree),
         };
@@ -102,6 +110,11 @@ impl Faults {
 
     /// The root's folder changes.
     pub fn change(&mut self, world: &mut World) {
+        self.changes(world, world.root());
+    }
+
+    /// That of this agent does.
+    fn changes(&mut self, world: &mut World, it: usize) {
         for _ in 0..1 + self.random.below(3) {
             let mut group = self.random.of(&["", "", "", "..canary"]);
             if !group.is_empty() && self.more.once_in(2) {
@@ -117,11 +130,12 @@ impl Faults {
             if world.drawn.holds {
                 world.judge.waits_for(value.as_deref());
             }
-            set(&mut world.folder, &key, value);
-            world.agents[0].disk.changed.iter_mut().for_each(|it| it.extend([key.clone()]));
-            world.judge.changed(&world.folder);
+            set(&mut world.folders[it], &key, value);
+            let changed = world.agents[it].disk.changed.iter_mut();
+            changed.for_each(|it| it.extend([key.clone()]));
+            world.judge.changed(it, &world.folders[it]);
         }
-        world.changed();
+        world.changed(it);
     }
 
     /// Something goes wrong.
@@ -129,6 +143,7 @@ impl Faults {
         if self.class == Class::Fields && !self.fields.once_in(OTHERS) {
             return self.strike_a_field(world);
         }
+        world.is_struck();
         let it = self.random.at(world.agents.len());
         let kinds = match self.class {
             Class::World | Class::Fields => 21,
@@ -228,7 +243,8 @@ impl Faults {
     fn crash(&mut self, world: &mut World, it: usize) -> Option<&'static str> {
         world.agents[it].machine.as_ref()?;
         let (power, most) = (self.random.once_in(3), self.random.of(&[1_000, 6_000, 90_000]));
-        let starts = self.time(if it == 0 { most.min(6_000) } else { most });
+        let is_only = it == 0 && world.drawn.roots == 1;
+        let starts = self.time(if is_only { most.min(6_000) } else { most });
         world.end(it, power, starts);
         Some(if power { "machine loses power" } else { "agent crashes" })
     }
@@ -238,6 +254,8 @@ impl Faults {
         let (disk, places) = self.older[it].get(self.random.at(copies.max(1)))?.clone();
         let starts = self.random.below(3_000);
         world.end(it, false, starts);
+        // (where it holds a change, it may lack what agents of a group have)
+        world.judge.is_set_back |= it == world.root() && world.drawn.holds;
         world.agents[it].disk.goes_back(disk, world.drawn.holds);
         world.judge.goes_back(it, places);
         Some("older disk comes back")
@@ -247,10 +265,11 @@ impl Faults {
         if !self.random.once_in(3) {
             return None;
         }
-        world.agents[0].ahead -= self.time(7_200_000) as i64;
+        let root = world.root();
+        world.agents[root].ahead -= self.time(7_200_000) as i64;
         world.judge.is_set_back = true;
         let starts = self.time(2_000);
-        world.end(0, false, starts);
+        world.end(root, false, starts);
         Some("root's clock is set back")
     }
 

@@ -8,6 +8,8 @@ use rignolda_machine::settings::{is_newer, of_group, SETTINGS};
 use rignoldactl::{Compared, Seen};
 use std::collections::{BTreeMap, BTreeSet};
 
+mod work;
+
 /// For how long agents may be on a ring of parents, in milliseconds.
 const RING: u64 = 60_000;
 
@@ -38,11 +40,16 @@ pub struct Judge {
     /// Values of the root's folder that nobody has confirmed, if each is held until then.
     unconfirmed: BTreeSet<Vec<u8>>,
     holds: bool,
+    /// Whose folder that is: the root. Whether there may be what another one published, as while
+    /// there are two, and what values that has.
+    pub root: usize,
+    pub is_split: bool,
+    others: BTreeSet<Vec<u8>>,
     /// Values that a fault put somewhere.
     forged: BTreeSet<Vec<u8>>,
-    /// Whether memory was spoilt, or the root's clock set back: then numbers say nothing about what
-    /// is older, until [all is right once](Judge::is_right). And whether by that anything may have
-    /// been published.
+    /// Whether memory was spoilt, or the root's clock set back, or a root that holds changes back
+    /// ended before what it published was kept: then numbers say nothing about what is older, until
+    /// [all is right once](Judge::is_right). And whether by that anything may have been published.
     is_spoilt: bool,
     is_forged: bool,
     /// Whether that of each agent was spoilt since its process began.
@@ -55,6 +62,11 @@ pub struct Judge {
     pub waits: u64,
     /// Whether somebody was answered who had not asked, or had an answer.
     pub answers_twice: bool,
+    /// Whether somebody set in a store what another agent says there.
+    sets_of_others: bool,
+    /// How many stores there are; and who asked for more in a step than it may.
+    stores: usize,
+    pub works: Option<Broken>,
     /// How many tables of rounds the root has published, and the number of the last one.
     pub rounds: u64,
     round: u64,
@@ -82,6 +94,9 @@ impl Judge {
             groups,
             unconfirmed: BTreeSet::new(),
             holds: drawn.configs[0].root.as_ref().is_some_and(|it| it.hold),
+            root: 0,
+            is_split: false,
+            others: BTreeSet::new(),
             forged: BTreeSet::new(),
             is_spoilt: false,
             are_spoilt: vec![false; drawn.configs.len()],
@@ -91,6 +106,9 @@ impl Judge {
             rings: BTreeMap::new(),
             waits: 0,
             answers_twice: false,
+            sets_of_others: false,
+            stores: drawn.stores as usize,
+            works: None,
             rounds: 0,
             round: 0,
             panics: BTreeMap::new(),
@@ -99,9 +117,12 @@ impl Judge {
         }
     }
 
-    /// The root's folder is this from now on.
-    pub fn changed(&mut self, folder: &Settings) {
-        if self.folder == *folder {
+    /// The folder of this root is so from now on.
+    pub fn changed(&mut self, it: usize, folder: &Settings) {
+        if it != self.root {
+            self.others.extend(folder.values().cloned());
+        }
+        if it != self.root || self.folder == *folder {
             return;
         }
         for key in self.folder.keys().chain(folder.keys()).collect::<BTreeSet<_>>() {
@@ -164,6 +185,12 @@ impl Judge {
     pub fn is_right(&mut self) {
         (self.is_spoilt, self.is_forged, self.is_set_back) = (false, false, false);
         self.forged.clear();
+        self.is_settled();
+    }
+
+    /// Each file has the last value that there is, and no other root's is under way.
+    pub fn is_settled(&mut self) {
+        self.is_split = false;
         let last = self.histories.iter().map(|(key, all)| (key.clone(), all.len() - 1));
         let last: BTreeMap<_, _> = last.collect();
         self.places.iter_mut().for_each(|it| it.clone_from(&last));
@@ -177,6 +204,19 @@ impl Judge {
     /// What an agent has put last, by key: as places in the history.
     pub fn places(&self, it: usize) -> BTreeMap<String, usize> {
         self.places[it].clone()
+    }
+
+    /// An agent sets these keys of a store: each has one writer.
+    pub fn sets<'a>(&mut self, it: usize, keys: impl Iterator<Item = &'a str>) {
+        for key in keys {
+            let parts: Vec<&str> = key.split(':').collect();
+            let writer = match parts[..] {
+                [parent, _, "down" | "way"] => parent,
+                [_, child, "up" | "report"] => child,
+                _ => "",
+            };
+            self.sets_of_others |= drawn::agent(writer) != Some(it);
+        }
     }
 
     /// An agent wrote a line.
@@ -222,11 +262,17 @@ impl Judge {
         }
         puts.into_iter().try_for_each(|put| self.put(it, put))?;
         let round = machine.came.table.round;
-        if it == 0 && round != self.round {
+        if it == self.root && round != self.round {
             (self.round, self.rounds) = (round, self.rounds + 1);
         }
         if std::mem::take(&mut self.answers_twice) && !self.is_spoilt {
             return Err(format!("ANSWER: n{it} answers who has not asked"));
+        }
+        if let Some(why) = self.works.take() {
+            return Err(why);
+        }
+        if std::mem::take(&mut self.sets_of_others) && !self.is_spoilt {
+            return Err(format!("STORE: n{it} sets what another agent says"));
         }
         let Some(much) = self.has_too_much(machine) else {
             self.above[it] = None;
@@ -297,12 +343,13 @@ impl Judge {
                 places.extend(found);
             }
         } else if !is_known() {
-            if self.is_forged {
+            let is_others = value.as_ref().is_some_and(|it| self.others.contains(it));
+            if self.is_forged || is_others && (self.is_split || self.is_set_back) {
                 return Ok(());
             }
             let text = value.as_deref().map(String::from_utf8_lossy);
             return Err(format!("UNKNOWN: n{it} puts {file} {text:?}, which nobody published"));
-        } else if !self.is_spoilt && !self.is_set_back {
+        } else if !self.is_spoilt && !self.is_set_back && !self.is_split {
             let text = value.as_deref().map(String::from_utf8_lossy);
             return Err(format!("OLDER: n{it} puts {file} {text:?} after something newer"));
         }

@@ -1,12 +1,15 @@
 //! Lines in memory. What is written comes in drawn pieces after drawn times; a line fills up, falls
 //! silent, or breaks and loses what is under way.
 use crate::random::Random;
+use rignolda_machine::net::wire::OLD;
 use rignolda_machine::net::Chunk;
 use std::cell::{Cell, RefCell};
 use std::collections::VecDeque;
 use std::io::{self, ErrorKind, Read, Write};
 use std::rc::Rc;
 
+/// How a look begins.
+const LOOK: &[u8] = b"RGNL";
 /// How many bytes a line takes before somebody reads, by how it was drawn; and the least that one
 /// takes which is slow, so that it carries what a line has to carry.
 const ROOMS: [usize; 4] = [100, 1_000, 16_000, 200_000];
@@ -158,6 +161,17 @@ impl End {
         }
     }
 
+    /// The other end leaves without a word, whatever it is told.
+    fn is_left(&self) {
+        self.falls_silent(true);
+        for pipe in [&self.from, &self.to] {
+            let mut pipe = pipe.borrow_mut();
+            let at = self.clock.now() + pipe.delay;
+            pipe.end = Some(at);
+            self.clock.wake(at, pipe.reader);
+        }
+    }
+
     /// Nothing comes by it any more; and nothing goes either, if both directions are meant.
     pub fn falls_silent(&self, both: bool) {
         self.from.borrow_mut().is_silent = true;
@@ -275,6 +289,11 @@ impl Held {
     /// This is to be written behind what is to be written already.
     pub fn says(&mut self, mut chunk: Chunk) {
         if let (Some(version), Chunk::Bytes(bytes)) = (self.speaks.take(), &mut chunk) {
+            if version == OLD && (bytes.starts_with(LOOK) || bytes.get(4) != Some(&OLD)) {
+                // (such an end leaves without a word who says anything newer)
+                self.end.is_left();
+                bytes.clear();
+            }
             says_at_most(version, bytes);
         }
         self.chunks.push_back(chunk);

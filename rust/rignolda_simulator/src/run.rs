@@ -111,6 +111,8 @@ impl Run {
             (self.world.drawn.span, self.world.drawn.pause, self.world.drawn.changes);
         let pause = self.faults.pause(pause);
         let (mut fault, mut change, mut look) = (3_000, 0, 0);
+        let mut roots = if self.world.drawn.roots == 2 { 3_000 } else { u64::MAX };
+        let mut stores = if self.world.stores.is_empty() { u64::MAX } else { 3_000 };
         while self.now() < span {
             self.world.start_some();
             self.world.strangers_leave(false);
@@ -120,6 +122,12 @@ impl Run {
                     self.faults.strike(&mut self.world);
                 }
                 fault = self.now() + self.faults.time(2 * pause);
+            }
+            if self.now() >= roots {
+                roots = self.now() + self.faults.of_roots(&mut self.world);
+            }
+            if self.now() >= stores {
+                stores = self.now() + self.faults.of_stores(&mut self.world);
             }
             if self.now() >= change {
                 match self.faults.time(4) {
@@ -134,7 +142,8 @@ impl Run {
                 look = self.now() + LOOKS;
             }
             let start = self.world.next_start().unwrap_or(u64::MAX);
-            let until = [fault, change, look, start, span].into_iter().min().unwrap_or(span);
+            let until =
+                [fault, change, look, start, roots, stores, span].into_iter().min().unwrap_or(span);
             self.world.run(until.max(self.now() + 1))?;
         }
         Ok(())
@@ -155,6 +164,7 @@ impl Run {
         }
         let rings = self.world.tree().1;
         self.world.judge.rings(&rings, now)?;
+        self.world.settles()?;
         self.world.wait()
     }
 
@@ -165,6 +175,7 @@ impl Run {
         let world = &mut self.world;
         world.strangers_leave(true);
         world.apart.clear();
+        world.stores.iter_mut().for_each(|it| (it.away, it.fails) = (0, 0));
         for (it, agent) in world.agents.iter_mut().enumerate() {
             (agent.refuses, agent.stopped) = (0, 0);
             (agent.disk.fails, agent.disk.hooks_fail) = (0, 0);
@@ -175,7 +186,7 @@ impl Run {
         }
         world.start_some();
         // (else nothing is published any more)
-        world.ask(0, Request::Resume);
+        world.ask(world.root(), Request::Resume);
         self.faults.change(world);
     }
 
@@ -188,6 +199,7 @@ impl Run {
             self.world.run(now + LOOKS)?;
             self.world.start_some();
             self.looks()?;
+            self.world.is_without_root();
             let (is_whole, moved) = (self.world.tree().0, self.world.moves());
             if !is_whole || moved != moves {
                 let most = if self.plan.class == Class::Fields { TREE_OF_FIELDS } else { TREE };
@@ -241,6 +253,7 @@ impl Run {
         let rounds = self.world.rounds();
         while self.world.rounds() == rounds {
             self.world.run(self.now() + LOOKS)?;
+            self.world.start_some();
         }
         self.faults.change(&mut self.world);
         // (what is held waits for an operator, too)
@@ -249,6 +262,7 @@ impl Run {
         let (until, moves) = (self.now() + time, self.world.moves());
         while self.now() < until {
             self.world.run(self.now() + LOOKS)?;
+            self.world.start_some();
             self.looks()?;
             if self.world.wrong().is_empty() {
                 return Ok(());

@@ -9,14 +9,18 @@ use rignolda_machine::machine::{Act, Host, Machine, Now};
 use rignolda_machine::net::{Address, Call};
 use rignolda_machine::{Ticket, Time};
 use rignoldactl::{sha256, Request};
+use roots::Roots;
 use shell::Shell;
 use std::cmp::Reverse;
 use std::collections::{BTreeMap, BTreeSet, BinaryHeap};
 use std::rc::Rc;
 use std::time::Duration;
+use stores::{Got, Store};
 
+mod roots;
 mod shell;
 mod shown;
+mod stores;
 mod turns;
 mod visitors;
 
@@ -37,6 +41,8 @@ enum Comes {
     Works(Box<Act>),
     Asked(Ticket, Request),
     Changed,
+    /// What came of a turn of a store.
+    Turned(Address, Got),
 }
 
 /// An agent, its machine, and what that has.
@@ -77,8 +83,10 @@ pub struct World {
     pub agents: Vec<Agent>,
     /// Which agents cannot reach each other.
     pub apart: BTreeSet<[usize; 2]>,
-    /// The root's folder: the truth.
-    pub folder: Settings,
+    /// The root's folder, which is the truth, and that of a second root.
+    pub folders: Vec<Settings>,
+    roots: Roots,
+    pub stores: Vec<Store>,
     pub judge: Judge,
     pub turns: u64,
     /// Who asked an agent for something and was not answered yet, and when.
@@ -99,12 +107,16 @@ pub struct World {
 impl World {
     pub fn new(seed: u64, most: u64, talks: bool) -> World {
         let drawn = Drawn::new(seed, most);
-        let count = drawn.configs.len();
+        let (count, stores) = (drawn.configs.len(), drawn.stores);
+        let disk = |it: usize| {
+            let stands = (drawn.roots == 2 && it < 2).then(|| roots::begins(it));
+            Disk::new(Random::new(seed, "disk", it as u64), stands)
+        };
         let agents = (0..count).map(|it| Agent {
             machine: None,
             lines: BTreeMap::new(),
             made: 0,
-            disk: Disk::new(Random::new(seed, "disk", it as u64)),
+            disk: disk(it),
             failed: None,
             stopped: 0,
             refuses: 0,
@@ -126,7 +138,9 @@ impl World {
             drawn,
             clock: Rc::default(),
             apart: BTreeSet::new(),
-            folder: Settings::new(),
+            folders: vec![Settings::new(); count],
+            roots: Roots::default(),
+            stores: (0..stores).map(|it| Store::new(Random::new(seed, "store", it))).collect(),
             turns: 0,
             asked: Vec::new(),
             strangers: Vec::new(),
@@ -168,6 +182,7 @@ impl World {
         let config = self.drawn.configs[it].clone();
         let agent = &mut self.agents[it];
         (agent.starts, agent.lives) = (None, agent.lives + 1);
+        self.roots.begins(it, self.clock.now());
         self.judge.begins(it);
         agent.comes.clear();
         (agent.failed, agent.shell) = (None, Shell::default());
@@ -186,30 +201,36 @@ impl World {
     pub fn end(&mut self, it: usize, power: bool, starts: u64) {
         let now = self.clock.now();
         let agent = &mut self.agents[it];
+        let root = agent.machine.as_ref().and_then(|it| it.came.root.as_ref());
+        if self.drawn.holds && root.is_some_and(|it| !it.is_kept()) {
+            self.judge.is_set_back = true;
+        }
         if power {
             agent.lines.values().for_each(|it| it.end.is_cut_off());
         }
         agent.machine = None;
         agent.lines.clear();
+        self.stores.iter_mut().for_each(|store| store.is_left(it));
         self.asked.retain(|(to, ..)| *to != it);
         let mut begun = 0;
         for what in std::mem::take(&mut agent.comes).into_values() {
             if let Comes::Works(act) = what {
                 // (each worker does one after the other)
                 if begun < agent.random.below(3) {
-                    agent.disk.ends_at(*act, &mut self.folder, now);
+                    agent.disk.ends_at(*act, &mut self.folders[it], now);
                 }
                 begun += 1;
             }
         }
         agent.starts = Some(now + starts);
-        self.judge.changed(&self.folder);
+        self.has_worked(it);
     }
 
-    /// The root's folder has changed.
-    pub fn changed(&mut self) {
-        if self.agents[0].machine.is_some() {
-            self.comes(0, 0, Comes::Changed);
+    /// The folder of a root has changed.
+    pub fn changed(&mut self, it: usize) {
+        self.judge.changed(it, &self.folders[it]);
+        if self.agents[it].machine.is_some() {
+            self.comes(it, 0, Comes::Changed);
         }
     }
 

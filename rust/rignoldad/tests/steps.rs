@@ -137,6 +137,23 @@ fn where_the_disk_is_late_a_round_is_of_what_is_known() {
     assert_eq!((next(&mut root, late), root.faults().count), (Some(('C', 506)), 0));
 }
 
+/// Also if nothing else is published meanwhile: a root that begins knows no more than that.
+#[test]
+fn what_could_not_be_kept_is_kept_once_there_is_room() {
+    let now = rignoldad::system::time();
+    let (mut root, later) = (root(now), now + PATIENCE);
+    let keeps = |root: &mut Root<&str>, at| {
+        root.tick(at, || 1);
+        acts(root).0.iter().filter(|job| matches!(job, root::Job::Keep(_))).count()
+    };
+    assert_eq!((keeps(&mut root, later), root.is_kept()), (1, false));
+    root.done(root::Done::Kept(Err("no space".into())), later);
+    assert_eq!((keeps(&mut root, later), root.is_kept()), (0, false));
+    assert_eq!(keeps(&mut root, later + PATIENCE), 1);
+    root.done(root::Done::Kept(Ok(())), later + PATIENCE);
+    assert_eq!((keeps(&mut root, later + PATIENCE * 2), root.is_kept()), (0, true));
+}
+
 #[test]
 fn what_is_held_is_published_once_it_is_confirmed() {
     let now = rignoldad::system::time();

@@ -1,7 +1,7 @@
 //! Keeps files: what of them the worker is to do next, and what came of that.
 use super::running::Step;
 use super::{Applied, Applier, Ended, Hook, Identity, Kept, Mark, Outcome, Runs, What};
-use super::{LISTS, MARKER};
+use super::{GROUPS, LISTS, MARKER};
 use crate::config::Apply;
 use crate::prelude::*;
 use crate::settings::{is_key, Change, Waiting};
@@ -21,6 +21,8 @@ pub(super) struct Turn {
     pub(super) first: u64,
     pub(super) config: Arc<Apply>,
     pub(super) looks: bool,
+    /// Whether they are those of a whole table.
+    pub(super) is_whole: bool,
     /// Those that are left; and until when they wait for marks that are going.
     pub(super) left: VecDeque<(String, Change)>,
     pub(super) waits: Option<Time>,
@@ -64,6 +66,7 @@ impl Applier {
             first: files.first().unwrap_or(0),
             config: self.config.clone(),
             looks,
+            is_whole: files.is_whole(),
             left: VecDeque::new(),
             waits: None,
             mended: Vec::new(),
@@ -90,7 +93,10 @@ impl Applier {
             files.unset_others(due.flatten().cloned());
             if turn.looks {
                 // (of what no table and no file has nothing fails any more)
-                self.failing.retain(|name, _| !is_key(name) || files.has(name));
+                let is_hook = |name: &str| turn.config.hooks.iter().any(|it| it.name() == name);
+                self.failing.retain(|name, _| {
+                    files.has(name) || name.starts_with(GROUPS) || !is_key(name) && is_hook(name)
+                });
                 self.is_again = self.is_known && self.mode == turn.config.mode;
                 self.mode = turn.config.mode;
                 // (else what it says was of the files of others)
@@ -118,6 +124,11 @@ impl Applier {
             self.turn = Some(turn);
             return;
         };
+        if turn.is_whole {
+            // (nor does a value for a group that no table and no file has)
+            let named: BTreeSet<&str> = grouped.iter().map(|it| &*it.key).collect();
+            self.failing.retain(|name, _| !name.starts_with(GROUPS) || named.contains(&**name));
+        }
         for Applied { key, sequence, status } in grouped {
             match status {
                 Outcome::Done => drop(self.failing.remove(&key)),
@@ -180,4 +191,4 @@ impl Applier {
     }
 }
 
-rignolda::spoils! { Turn { first, config, looks, left, waits, mended } }
+rignolda::spoils! { Turn { first, config, looks, is_whole, left, waits, mended } }

@@ -10,7 +10,7 @@ use std::sync::Arc;
 impl Faults {
     /// A number, near those that there are or not.
     pub(super) fn number(&mut self, world: &World) -> u64 {
-        let root = world.agents[0].machine.as_ref();
+        let root = world.agents[world.root()].machine.as_ref();
         let near = root.map_or(7, |it| it.came.table.taker.number);
         match self.random.below(5) {
             0 => self.random.number(),
@@ -57,6 +57,7 @@ impl Faults {
         let count = world.agents.len();
         let names = (0..self.random.below(6)).map(|_| drawn::name(self.random.at(count))).collect();
         let machine = world.agents[it].machine.as_mut()?;
+        let is_root = machine.came.root.is_some();
         Some(match kind {
             21 | 22 => {
                 let taker = &mut machine.came.table.taker;
@@ -69,9 +70,9 @@ impl Faults {
             23 | 24 => {
                 let relay = machine.peers.relay_mut();
                 for (body, label) in bodies {
-                    match it {
-                        0 => drop(relay.publish(&body)),
-                        _ => drop(relay.on_frame(None, label, &body)),
+                    match is_root {
+                        true => drop(relay.publish(&body)),
+                        false => drop(relay.on_frame(None, label, &body)),
                     }
                     if drawn[0] % 3 == 0 {
                         relay.last_is_a_table();

@@ -52,6 +52,7 @@ impl World {
                 None if self.drawn.configs[it].apply.is_none() => None,
                 _ => Some("nobody applies settings"),
             },
+            self.asks_otherwise(it).then_some("a store was asked for something else"),
         ];
         let fault = faults.into_iter().flatten().next();
         fault.or_else(|| self.misses(it).then_some("it has no parent, and one answers"))

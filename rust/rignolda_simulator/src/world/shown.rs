@@ -16,8 +16,8 @@ impl World {
     /// Whether each agent has a way to the root; and which lie on a ring.
     pub fn tree(&self) -> (bool, Vec<usize>) {
         let parents: Vec<_> = (0..self.agents.len()).map(|it| self.parent(it)).collect();
-        let (mut is_whole, mut rings) = (true, Vec::new());
-        for it in 1..parents.len() {
+        let (root, mut is_whole, mut rings) = (self.root(), self.is_alone(), Vec::new());
+        for it in (0..parents.len()).filter(|it| *it != root) {
             let mut here = it;
             for _ in 0..parents.len() {
                 let Some(above) = parents[here] else { break };
@@ -27,19 +27,21 @@ impl World {
                     break;
                 }
             }
-            is_whole &= here == 0;
+            is_whole &= here == root;
         }
         (is_whole, rings)
     }
 
     /// What `wait --everywhere` at the root does now.
     pub fn wait(&mut self) -> Result<(), Broken> {
-        let now = self.now(0).at;
-        let Some(machine) = &self.agents[0].machine else {
+        let root = self.root();
+        let now = self.now(root).at;
+        let Some(machine) = &self.agents[root].machine else {
             return Ok(());
         };
         // (it has the root look at its folder first)
-        let has_all = machine.came.root.as_ref().is_some_and(|it| it.has_published(&self.folder));
+        let folder = &self.folders[root];
+        let has_all = machine.came.root.as_ref().is_some_and(|it| it.has_published(folder));
         if self.judge.is_spoilt() || !has_all {
             return Ok(());
         }
@@ -50,14 +52,15 @@ impl World {
 
     /// The number of what the root has published last.
     pub fn sequence(&self) -> u64 {
-        let root = self.agents[0].machine.as_ref();
+        let root = self.agents[self.root()].machine.as_ref();
         root.map_or(0, |it| it.came.table.taker.number)
     }
 
     /// For whom somebody waits who waits until all have what has this number, if for anybody.
     pub fn lacking(&self, sequence: u64) -> Option<String> {
-        let now = self.now(0).at;
-        let Some(machine) = &self.agents[0].machine else { return Some("no root".into()) };
+        let now = self.now(self.root()).at;
+        let machine = self.agents[self.root()].machine.as_ref();
+        let Some(machine) = machine else { return Some("no root".into()) };
         let list = machine.tree(&machine.status(now), now);
         let seen = list.iter().find(|it| lacks(it, sequence))?;
         Some(format!("{sequence}: {seen:?}"))
@@ -90,7 +93,8 @@ impl World {
         let machines = self.agents.iter().filter_map(|it| it.machine.as_ref());
         let above = self.judge.facts.get("numbers").copied().unwrap_or(0);
         let lives: u64 = self.agents.iter().map(|it| it.lives).sum();
-        machines.map(|it| it.peers.reconnects()).sum::<u64>() + lives + above
+        let others = self.roots.changes + lives + above;
+        machines.map(|it| it.peers.reconnects()).sum::<u64>() + others
     }
 
     /// How many rounds' tables the root has published.

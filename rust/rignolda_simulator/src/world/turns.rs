@@ -6,6 +6,8 @@ use crate::lines::{line, Held};
 use crate::random::Random;
 use rignolda_machine::machine::{Act, Input};
 use rignolda_machine::net::{Address, Call, End};
+use rignolda_machine::Time;
+use std::any::Any;
 use std::io::Read;
 use std::panic::{catch_unwind, resume_unwind, AssertUnwindSafe};
 
@@ -37,9 +39,9 @@ impl World {
         let later = agent.comes.split_off(&(clock + 1, 0));
         let comes = std::mem::replace(&mut agent.comes, later);
         let now = self.now(it);
+        let is_due = self.until(it).is_some_and(|at| at <= now.at);
         let agent = &mut self.agents[it];
-        let is_due = agent.machine.as_ref().is_some_and(|it| it.until() <= now.at)
-            || clock >= agent.turned + WAKES;
+        let is_due = is_due || clock >= agent.turned + WAKES;
         if ready.is_empty() && comes.is_empty() && !is_due {
             return self.rests(it);
         }
@@ -58,14 +60,15 @@ impl World {
                     let made = made.ok_or_else(|| "nobody is there".to_owned());
                     self.step(it, Input::Called(*call, made));
                 }
+                Comes::Turned(store, got) => self.step(it, Input::Turned(&store, got)),
                 Comes::Changed => self.step(it, Input::Changed),
                 Comes::Asked(ticket, request) => self.step(it, Input::Asked(ticket, request)),
                 Comes::Works(act) => {
-                    let is_root = matches!(*act, Act::Disk(_));
+                    let is_root = matches!(*act, Act::Disk(_) | Act::Stand(_));
                     let disk = &mut self.agents[it].disk;
-                    let done = disk.works(*act, &mut self.folder, clock);
+                    let done = disk.works(*act, &mut self.folders[it], clock);
                     if is_root {
-                        self.judge.changed(&self.folder);
+                        self.has_worked(it);
                     }
                     done.into_iter().for_each(|input| self.step(it, input));
                 }
@@ -81,23 +84,43 @@ impl World {
                 self.agents[it].failed.get_or_insert(why.into());
             }
         }
+        self.stands(it)?;
         let agent = &mut self.agents[it];
         if let Some(machine) = &agent.machine {
             self.judge.turn(it, machine, &mut agent.disk, clock)?;
         }
-        if let Some(why) = self.agents[it].failed.take() {
-            self.judge.ends(it, &why)?;
-            self.end(it, false, RESTARTS);
-            return Ok(());
-        }
         self.rests(it)
+    }
+
+    /// When an agent wants its next turn, if it runs.
+    fn until(&mut self, it: usize) -> Option<Time> {
+        let machine = self.agents[it].machine.as_ref()?;
+        match catch_unwind(AssertUnwindSafe(|| machine.until())) {
+            Ok(until) => Some(until),
+            Err(why) => {
+                self.panics(it, why);
+                None
+            }
+        }
+    }
+
+    /// A process ends in the midst of it, which it may if its memory was spoilt.
+    fn panics(&mut self, it: usize, why: Box<dyn Any + Send>) {
+        if !self.judge.may_end(it) {
+            resume_unwind(why);
+        }
+        self.acts.clear();
+        let agent = &mut self.agents[it];
+        (agent.machine, agent.failed) = (None, Some("it panics".into()));
+        agent.lines.clear();
+        self.judge.panics();
     }
 
     /// Whether it wants turn after turn for long, as if none were of any use.
     fn is_busy(&mut self, it: usize) -> Result<(), Broken> {
         let (now, clock) = (self.now(it).at, self.clock.now());
+        let is_due = self.until(it).is_some_and(|at| at <= now);
         let agent = &mut self.agents[it];
-        let is_due = agent.machine.as_ref().is_some_and(|it| it.until() <= now);
         agent.busy = is_due.then(|| agent.busy.unwrap_or(clock));
         match agent.busy {
             Some(since) if clock > since + BUSY => Err(format!("BUSY: n{it} is never done")),
@@ -106,10 +129,14 @@ impl World {
     }
 
     fn rests(&mut self, it: usize) -> Result<(), Broken> {
-        let Some(machine) = &self.agents[it].machine else {
+        let until = self.until(it);
+        if let Some(why) = self.agents[it].failed.take() {
+            self.judge.ends(it, &why)?;
+            self.end(it, false, RESTARTS);
             return Ok(());
-        };
-        let until = machine.until() - BEGUN;
+        }
+        let Some(until) = until else { return Ok(()) };
+        let until = until - BEGUN;
         let until = until.as_nanos().div_ceil(1_000_000) as u64;
         let (agent, now) = (&self.agents[it], self.clock.now());
         // (each turn takes a little)
@@ -176,20 +203,17 @@ impl World {
 
     fn steps(&mut self, it: usize, input: Input<'_>) {
         let now = self.now(it);
+        let lines = self.agents[it].lines.len();
         let Some(machine) = &mut self.agents[it].machine else { return };
+        let before = self.acts.len();
         let acts = &mut self.acts;
         let steps = catch_unwind(AssertUnwindSafe(|| machine.step(now, input, acts)));
         match steps {
-            Ok(()) => (),
-            Err(why) if !self.judge.may_end(it) => resume_unwind(why),
-            Err(_) => {
-                // (the process ends in the midst of it)
-                self.acts.clear();
-                let agent = &mut self.agents[it];
-                (agent.machine, agent.failed) = (None, Some("it panics".into()));
-                agent.lines.clear();
-                self.judge.panics();
+            Ok(()) => {
+                let work = self.judge.work(it, machine, lines, &self.acts[before..]);
+                self.judge.works = self.judge.works.take().or(work.err());
             }
+            Err(why) => self.panics(it, why),
         }
     }
 
@@ -234,14 +258,23 @@ impl World {
             }
             Act::Begins => self.agents[it].shell.has_disk = true,
             Act::Anew => {
-                self.agents[it].shell.has_disk = false;
-                self.agents[it].lines.clear();
+                let agent = &mut self.agents[it];
+                agent.shell.has_disk = false;
+                agent.lines.clear();
+                // (nobody hears any more of what its disk does)
+                let is_left = |it: &Comes| match it {
+                    Comes::Called(..) | Comes::Turned(..) => true,
+                    Comes::Works(act) => matches!(**act, Act::Disk(_)),
+                    _ => false,
+                };
+                agent.comes.retain(|_, it| !is_left(it));
+                self.stores.iter_mut().for_each(|store| store.is_left(it));
             }
             Act::Check => {
                 self.agents[it].checks = true;
                 self.looks_at_lines(it);
             }
-            Act::Turn(..) => (),
+            Act::Turn(address, turn) => self.asks_a_store(it, address, turn),
             act => {
                 let clock = self.clock.now();
                 let at = self.agents[it].disk.takes(&act, self.drawn.files[it], clock);
@@ -265,6 +298,7 @@ impl World {
         let random = &mut self.agents[it].random;
         let most = random.of(&[1, 1, 1, 1, 1, 300, 8_000]);
         let after = random.below(most);
+        self.roots.is_looked_up([it, to], self.clock.now() + after);
         if !self.answers(it, to) {
             return self.comes(it, after, Comes::Called(Box::new(call), None));
         }

@@ -20,7 +20,7 @@ impl World {
     /// Somebody looks at what the root holds back, and confirms what he sees.
     pub fn confirms(&mut self) {
         if self.drawn.holds {
-            self.ask(0, Request::Diff);
+            self.ask(self.root(), Request::Diff);
         }
     }
 
@@ -29,7 +29,7 @@ impl World {
         if let Response::Diff(Diff { held, digest, .. }) = response {
             if !held.is_empty() {
                 self.judge.confirms();
-                self.ask(0, Request::Confirm { digest });
+                self.ask(self.root(), Request::Confirm { digest });
             }
         }
     }

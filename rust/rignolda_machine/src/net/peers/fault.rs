@@ -4,6 +4,7 @@
 //! What has a bound is brought back to it. A link on which nothing is taken begins anew, so nobody
 //! has to know what is wrong with its records. What two places have to say alike, and do not,
 //! nothing mends but a new process.
+use super::hellos::calls_itself;
 use super::{travels, Children, Conn, Parent, Peers, Setup, State, Whom, BEAT, LATER, SILENCE};
 use crate::net::{Link, BODY_BYTES};
 use crate::prelude::*;
@@ -191,7 +192,53 @@ impl<A: Clone + PartialEq + fmt::Display> Peers<A> {
             (has_others, "its parents are other ones"),
             (calls_others, "it calls other ones"),
             (!is_found, "a connection is not found"),
+            (self.lies_elsewhere(), "another link lies in a store"),
+            (!self.is_of_its_place(), "its parent is another one"),
         ]);
         why.or_else(|| self.relay.fault())
+    }
+
+    /// Whether the parent that there is has the name of its place in the list.
+    fn is_of_its_place(&self) -> bool {
+        let conn = self.above.and_then(|id| self.conns.get(&id));
+        let Some(conn) = conn.filter(|it| it.greeted().is_some()) else { return true };
+        let is = |it: &Parent<A>| it.name.as_ref().is_none_or(|it| conn.says == calls_itself(it));
+        self.candidate(self.parents.at()).is_some_and(is)
+    }
+}
+
+#[cfg(test)]
+mod tests {
+    use super::*;
+    use crate::net::End;
+
+    /// As where it was forgotten for a moment, and another one was about to be called.
+    #[test]
+    fn a_parent_of_another_place_than_its_own_is_seen() {
+        let now = Time::default();
+        let parent = |name: &str| Parent {
+            name: Some(name.into()),
+            address: Some(name.into()),
+            price: None,
+        };
+        let setup = Setup {
+            name: "own".into(),
+            parents: ["one", "two"].map(parent).into(),
+            rank: None,
+            children: Children::Named(BTreeMap::new()),
+            ack_timeout: Duration::from_millis(500),
+            evict: Duration::from_secs(60),
+            poll: Duration::from_millis(50),
+        };
+        let mut peers = Peers::<String>::new(setup, 1, 64, now);
+        let number = peers.relay.made().unwrap();
+        let state = State::Link(Whom::Parent, number, Some(now));
+        let mut conn = Conn::new(End::default(), state, now, now);
+        conn.says = calls_itself("one");
+        (peers.above, peers.made) = (Some(1), 1);
+        peers.conns.insert(1, conn);
+        assert_eq!(peers.fault(), None);
+        peers.parents.tries(1);
+        assert_eq!(peers.fault().map(|it| it.what()), Some("its parent is another one"));
     }
 }

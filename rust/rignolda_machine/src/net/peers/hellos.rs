@@ -11,6 +11,11 @@ use rignolda::Connection;
 /// How many children there are at most where any may connect.
 const ANY: usize = 10_000;
 
+/// The name that a hello has, in words.
+pub(super) fn calls_itself(name: &str) -> String {
+    format!(", which calls itself {name}")
+}
+
 impl<A: Clone + PartialEq + fmt::Display> Peers<A> {
     /// Says a hello where it is one of a link; else it looks at a candidate, or answers that: by
     /// that no life is told, but the rank of a root, and no label.
@@ -80,7 +85,7 @@ impl<A: Clone + PartialEq + fmt::Display> Peers<A> {
     /// Who says this hello, or look, and of a parent, which one.
     fn who(&mut self, id: u64, hello: &Hello, is_look: bool) -> Result<(Whom, usize)> {
         let Hello { from, to, .. } = hello;
-        let says = format!(", which calls itself {from}");
+        let says = calls_itself(from);
         self.conn_with(id, |conn| conn.says = says);
         let conn = self.conns.get(&id).ok_or("it is gone")?;
         let is_meant = *to == self.setup.name;

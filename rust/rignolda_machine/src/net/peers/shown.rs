@@ -37,7 +37,7 @@ impl<A: Clone + PartialEq + fmt::Display> Peers<A> {
                     }
                     let mut its = self.words.values().filter(|words| words.place == at);
                     let (is_more, place) = (its.any(|words| words.more), &mut self.stores[at]);
-                    let slower = (place.pause * 2).min(self.setup.poll);
+                    let slower = place.pause.saturating_mul(2).min(self.setup.poll);
                     place.pause = if moved { FIRST } else { slower };
                     place.due = if is_more { now } else { now + place.pause };
                 }

@@ -99,11 +99,8 @@ impl<A: Clone + PartialEq + fmt::Display> Peers<A> {
         }
         self.dial_with(&call.whom, |dial| dial.under_way = true);
         let name = self.name_of(&call.whom, self.place_of(&call.whom));
-        let (own, other) = (&self.setup.name, name.cloned().unwrap_or_default());
-        let keys = match call.whom {
-            Whom::Child(_) => format!("{own}:{other}"),
-            _ => format!("{other}:{own}"),
-        };
+        let other = name.cloned().unwrap_or_default();
+        let keys = self.keys(&call.whom, &other);
         let is_one_of_many = call.whom == Whom::Parent && self.all(&call.whom) > 1;
         let place = self.stores.iter().position(|it| it.address == call.address);
         let words = Words {
@@ -121,10 +118,30 @@ impl<A: Clone + PartialEq + fmt::Display> Peers<A> {
         }
     }
 
+    /// What the keys of a link begin with.
+    fn keys(&self, whom: &Whom, other: &str) -> String {
+        let own = &self.setup.name;
+        match whom {
+            Whom::Child(_) => format!("{own}:{other}"),
+            _ => format!("{other}:{own}"),
+        }
+    }
+
+    /// Whether a link lies where none is to, or is one with somebody else.
+    pub(super) fn lies_elsewhere(&self) -> bool {
+        let is_right = |(whom, words): (&Whom, &Words)| {
+            let name = self.name_of(whom, self.place_of(whom)).map_or("", |it| it);
+            let address = self.stores.get(words.place).map(|it| &it.address);
+            let is_there = address.is_some() && address == self.address(whom);
+            is_there && name == words.other && words.keys == self.keys(whom, name)
+        };
+        !self.words.iter().all(is_right)
+    }
+
     /// When there is something to do at a store although nothing comes.
     pub(super) fn turn_due(&self) -> Option<Time> {
         let due = |words: &Words| {
-            let Place { asked, due, .. } = &self.stores[words.place];
+            let Place { asked, due, .. } = self.stores.get(words.place)?;
             let due = words.until.map_or(*due, |until| until.min(*due));
             asked.is_none().then_some(due)
         };
@@ -158,8 +175,8 @@ impl<A: Clone + PartialEq + fmt::Display> Peers<A> {
         for whom in all {
             let (words, name) = (&self.words[&whom], self.name_of(&whom, self.parents.at()));
             let is_other = whom == Whom::Parent && name != Some(&words.other);
-            let address = &self.stores[words.place].address;
-            if is_other || self.address(&whom) != Some(address) {
+            let address = self.stores.get(words.place).map(|it| &it.address);
+            if is_other || self.address(&whom) != address {
                 self.leave_words(&whom);
             }
         }
@@ -295,3 +312,60 @@ rignolda::spoils! { Place<A> { address, asked, due, pause } }
 rignolda::spoils! { Words {
     place, other, keys, own, since, until, last, waits, more, reports, report, calm, looks, way
 } }
+
+#[cfg(test)]
+mod tests {
+    use super::*;
+    use crate::net::{Children, Parent, Setup};
+
+    const STORE: &str = "store";
+
+    /// An agent whose links lie in a store, and nothing has come yet.
+    fn peers(now: Time) -> Peers<String> {
+        let parent = |name: &str| Parent {
+            name: Some(name.into()),
+            address: Some(STORE.into()),
+            price: None,
+        };
+        let child = ("child".into(), Some(STORE.into()));
+        let setup = Setup {
+            name: "own".into(),
+            parents: [parent("one"), parent("two")].into(),
+            rank: None,
+            children: Children::Named([child].into()),
+            ack_timeout: Duration::from_millis(500),
+            evict: Duration::from_secs(60),
+            poll: Duration::from_millis(50),
+        };
+        let mut peers = Peers::new(setup, 1, 64, now);
+        while let Some(call) = peers.next_call(now) {
+            peers.in_store(call, now);
+        }
+        peers
+    }
+
+    #[test]
+    fn a_link_that_is_spoiled_to_be_another_one_is_seen() {
+        type Spoils = fn(&mut Peers<String>, Whom);
+        let spoils: [Spoils; 4] = [
+            |peers, whom| peers.words.get_mut(&whom).unwrap().place = 7,
+            |peers, whom| peers.words.get_mut(&whom).unwrap().other = "another".into(),
+            |peers, whom| peers.words.get_mut(&whom).unwrap().keys = "one:another".into(),
+            |peers, _| peers.stores[0].address = "elsewhere".into(),
+        ];
+        let now = Time::default();
+        for (at, spoils) in spoils.into_iter().enumerate() {
+            for whom in [Whom::Parent, Whom::Child("child".into())] {
+                let mut peers = peers(now);
+                assert_eq!((peers.words.len(), peers.fault()), (2, None));
+                spoils(&mut peers, whom.clone());
+                let _ = peers.deadline();
+                assert!(peers.fault().is_some(), "{at} {whom:?}");
+            }
+        }
+        // (and the parent at another place of the list is another one)
+        let mut peers = peers(now);
+        peers.parents.tries(1);
+        assert!(peers.fault().is_some());
+    }
+}
