@@ -1,0 +1,4 @@
+pub mod Names
+pub mod Said
+pub mod Reading
+pub mod Seen

@@ -1,0 +1,13 @@
+//! What goes over a connection, byte for byte: messages as they lie in the bytes that came.
+#![tactic(auto)]
+
+mod fault;
+mod fields;
+mod names;
+mod reading;
+mod said;
+
+pub use fault::Fault;
+pub use names::is_name;
+pub use reading::message;
+pub use said::{Expect, Frame, Greeting, Message, Reference, Way};
