@@ -1,1 +1,4 @@
 pub mod Lines
+pub mod Steps
+pub mod Codecs
+pub mod Parts
