@@ -2,3 +2,6 @@ pub mod Lines
 pub mod Steps
 pub mod Codecs
 pub mod Parts
+pub mod Others
+pub mod Hellos
+pub mod Messages

@@ -114,10 +114,8 @@ hello_at = do
 -- ---- what a parent says
 
 unfoldable pub names_at : Reader (List ℕ)
-names_at = do
-  names ← counted_at w16 way_limit LongWay
-  few ← wanted are_few LongWay names
-  wanted are_names NoNameOfWay few
+names_at =
+    counted_at w16 way_limit LongWay >>= wanted are_few LongWay >>= wanted are_names NoNameOfWay
 
 unfoldable pub way_at : Reader Routed
 way_at = do
