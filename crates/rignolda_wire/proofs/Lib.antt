@@ -5,3 +5,4 @@ pub mod Parts
 pub mod Others
 pub mod Hellos
 pub mod Messages
+pub mod Fronts

@@ -158,3 +158,147 @@ codec_candidate =
     low : (m : Said) → IsMessage Way m → letter m < 256
     low (way w) may = omega arith
     low m may = absurd may
+
+frame_of_parent : IsKind Frames 70 Framed frame IsFrame
+frame_of_parent (frame f) begins may = (f, refl, may)
+frame_of_parent (way w) begins may = absurd (omega (arith, begins))
+frame_of_parent (refers r) begins may = absurd (omega (arith, begins))
+frame_of_parent asks begins may = absurd (omega (arith, begins))
+frame_of_parent m begins may = absurd may
+
+reference_of_parent : IsKind Frames 68 Referred refers IsReference
+reference_of_parent (refers r) begins may = (r, refl, may)
+reference_of_parent (way w) begins may = absurd (omega (arith, begins))
+reference_of_parent (frame f) begins may = absurd (omega (arith, begins))
+reference_of_parent asks begins may = absurd (omega (arith, begins))
+reference_of_parent m begins may = absurd may
+
+way_of_parent : IsKind Frames 87 Routed way IsWay
+way_of_parent (way w) begins may = (w, refl, may)
+way_of_parent (frame f) begins may = absurd (omega (arith, begins))
+way_of_parent (refers r) begins may = absurd (omega (arith, begins))
+way_of_parent asks begins may = absurd (omega (arith, begins))
+way_of_parent m begins may = absurd may
+
+asks_of_parent : (m : Said) → letter m ≡ 81 → IsMessage Frames m → m ≡ asks
+asks_of_parent asks begins may = refl
+asks_of_parent (way w) begins may = absurd (omega (arith, begins))
+asks_of_parent (frame f) begins may = absurd (omega (arith, begins))
+asks_of_parent (refers r) begins may = absurd (omega (arith, begins))
+asks_of_parent m begins may = absurd may
+
+none_of_parent : (first : ℕ) → (first == 70) ≡ false → (first == 68) ≡ false → (first == 87) ≡ false → (first == 81) ≡ false
+    → (m : Said) → First first m → IsMessage Frames m → ⊥
+none_of_parent first no_frame no_reference no_way no_request (frame f) known may = eqb-false first 70 no_frame (sym known.0)
+none_of_parent first no_frame no_reference no_way no_request (refers r) known may = eqb-false first 68 no_reference (sym known.0)
+none_of_parent first no_frame no_reference no_way no_request (way w) known may = eqb-false first 87 no_way (sym known.0)
+none_of_parent first no_frame no_reference no_way no_request asks known may = eqb-false first 81 no_request (sym known.0)
+none_of_parent first no_frame no_reference no_way no_request m known may = absurd may
+
+codec_parent : IsCodec Said Any (IsMessage Frames) spelling 16777227 parent_at
+unfolding parent_at says_way_at says_frame_at says_reference_at
+codec_parent =
+    let k : ℕ = 16777226 in
+    let last : ℕ → Reader Said = λ first. choose (first == 81) (give asks) (refuse NoMessage) in
+    let two : ℕ → Reader Said = λ first. choose (first == 87) says_way_at (last first) in
+    let three : ℕ → Reader Said = λ first. choose (first == 68) says_reference_at (two first) in
+    codec_like (codec_after letter (λ first. choose (first == 70) says_frame_at (three first)) codec_byte
+    (λ first _. codec_choose (first == 70) says_frame_at (three first)
+    (λ is. codec_kind {k = k} Frames first 70 frame is (omega arith) codec_frame (λ f good. (refl, good, refl)) frame_of_parent)
+    (λ no_frame. codec_choose (first == 68) says_reference_at (two first)
+    (λ is. codec_kind {k = k} Frames first 68 refers is (omega arith) codec_reference (λ r good. (refl, good, refl)) reference_of_parent)
+    (λ no_reference. codec_choose (first == 87) says_way_at (last first)
+    (λ is. codec_kind {k = k} Frames first 87 way is (omega arith) codec_way (λ w good. (refl, good, refl)) way_of_parent)
+    (λ no_way. codec_choose (first == 81) (give asks) (refuse NoMessage)
+    (λ is.
+        let e : first ≡ 81 = eqb-true first 81 is in
+        codec_give (First first) (IsMessage Frames) after_letter k asks (sym e, tt) tt refl (λ m known may. asks_of_parent m (known.0 ∙ e) may))
+    (λ no_request. codec_refuse (First first) (IsMessage Frames) after_letter k NoMessage no_message (none_of_parent first no_frame no_reference no_way no_request)))))))
+    (omega arith)
+    (λ m known good. (tt, good.1, refl))
+    (λ m known may. (tt, (low m may, may)))
+  where
+    low : (m : Said) → IsMessage Frames m → letter m < 256
+    low (way w) may = omega arith
+    low (frame f) may = omega arith
+    low (refers r) may = omega arith
+    low asks may = omega arith
+    low m may = absurd may
+
+-- ---- what a child says
+
+ack_of_child : IsKind Acks 65 ℕ ack (λ label. label < 2 ^ 16)
+ack_of_child (ack label) begins may = (label, refl, may)
+ack_of_child (lacks label) begins may = absurd (omega (arith, begins))
+ack_of_child (report text) begins may = absurd (omega (arith, begins))
+ack_of_child goodbye begins may = absurd (omega (arith, begins))
+ack_of_child m begins may = absurd may
+
+lacks_of_child : IsKind Acks 78 ℕ lacks (λ label. label < 2 ^ 16)
+lacks_of_child (lacks label) begins may = (label, refl, may)
+lacks_of_child (ack label) begins may = absurd (omega (arith, begins))
+lacks_of_child (report text) begins may = absurd (omega (arith, begins))
+lacks_of_child goodbye begins may = absurd (omega (arith, begins))
+lacks_of_child m begins may = absurd may
+
+report_of_child : IsKind Acks 82 (List ℕ) report (λ text. length text ≤ report_limit)
+report_of_child (report text) begins may = (text, refl, may)
+report_of_child (ack label) begins may = absurd (omega (arith, begins))
+report_of_child (lacks label) begins may = absurd (omega (arith, begins))
+report_of_child goodbye begins may = absurd (omega (arith, begins))
+report_of_child m begins may = absurd may
+
+goodbye_of_child : (m : Said) → letter m ≡ 71 → IsMessage Acks m → m ≡ goodbye
+goodbye_of_child goodbye begins may = refl
+goodbye_of_child (ack label) begins may = absurd (omega (arith, begins))
+goodbye_of_child (lacks label) begins may = absurd (omega (arith, begins))
+goodbye_of_child (report text) begins may = absurd (omega (arith, begins))
+goodbye_of_child m begins may = absurd may
+
+none_of_child : (first : ℕ) → (first == 65) ≡ false → (first == 78) ≡ false → (first == 82) ≡ false → (first == 71) ≡ false
+    → (m : Said) → First first m → IsMessage Acks m → ⊥
+none_of_child first no_ack no_lacks no_report no_goodbye (ack label) known may = eqb-false first 65 no_ack (sym known.0)
+none_of_child first no_ack no_lacks no_report no_goodbye (lacks label) known may = eqb-false first 78 no_lacks (sym known.0)
+none_of_child first no_ack no_lacks no_report no_goodbye (report text) known may = eqb-false first 82 no_report (sym known.0)
+none_of_child first no_ack no_lacks no_report no_goodbye goodbye known may = eqb-false first 71 no_goodbye (sym known.0)
+none_of_child first no_ack no_lacks no_report no_goodbye m known may = absurd may
+
+codec_child : IsCodec Said Any (IsMessage Acks) spelling 1048581 child_at
+unfolding child_at ack_at lacks_at report_at
+codec_child =
+    let k : ℕ = 1048580 in
+    let last : ℕ → Reader Said = λ first. choose (first == 71) (give goodbye) (refuse NoMessage) in
+    let two : ℕ → Reader Said = λ first. choose (first == 82) report_at (last first) in
+    let three : ℕ → Reader Said = λ first. choose (first == 78) lacks_at (two first) in
+    codec_like (codec_after letter (λ first. choose (first == 65) ack_at (three first)) codec_byte
+    (λ first _. codec_choose (first == 65) ack_at (three first)
+    (λ is. codec_kind {k = k} Acks first 65 ack is (omega arith) (codec_number w16 (2 ^ 16) wide16) (λ label low. (refl, low, refl)) ack_of_child)
+    (λ no_ack. codec_choose (first == 78) lacks_at (two first)
+    (λ is. codec_kind {k = k} Acks first 78 lacks is (omega arith) (codec_number w16 (2 ^ 16) wide16) (λ label low. (refl, low, refl)) lacks_of_child)
+    (λ no_lacks. codec_choose (first == 82) report_at (last first)
+    (λ is.
+        codec_kind {k = k} Acks first 82 report is (omega arith) (codec_counted w32 (2 ^ 32) report_limit LongReport long_report wide32 (omega arith))
+        (λ text short. (refl, short, refl)) report_of_child)
+    (λ no_report. codec_choose (first == 71) (give goodbye) (refuse NoMessage)
+    (λ is.
+        let e : first ≡ 71 = eqb-true first 71 is in
+        codec_give (First first) (IsMessage Acks) after_letter k goodbye (sym e, tt) tt refl (λ m known may. goodbye_of_child m (known.0 ∙ e) may))
+    (λ no_goodbye. codec_refuse (First first) (IsMessage Acks) after_letter k NoMessage no_message (none_of_child first no_ack no_lacks no_report no_goodbye)))))))
+    (omega arith)
+    (λ m known good. (tt, good.1, refl))
+    (λ m known may. (tt, (low m may, may)))
+  where
+    low : (m : Said) → IsMessage Acks m → letter m < 256
+    low (ack label) may = omega arith
+    low (lacks label) may = omega arith
+    low (report text) may = omega arith
+    low goodbye may = omega arith
+    low m may = absurd may
+
+-- ---- any message
+
+pub codec_message : (expect : Expect) → IsCodec Said Any (IsMessage expect) spelling (most expect) (message_at expect)
+codec_message Hello = codec_hello
+codec_message Way = codec_candidate
+codec_message Frames = codec_parent
+codec_message Acks = codec_child

@@ -2,3 +2,4 @@ pub mod Names
 pub mod Said
 pub mod Reading
 pub mod Seen
+pub mod Streams

@@ -3,6 +3,7 @@
 
 mod fault;
 mod fields;
+pub mod laws;
 mod names;
 mod reading;
 mod said;

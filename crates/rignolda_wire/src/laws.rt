@@ -1,0 +1,52 @@
+//! Laws of messages as bytes. Each is a function with an empty body; its contract is the law.
+
+ghost use Rattle.std.specs.Prelude.{◌≡◌, ◌≢◌, ◌<◌, ℕ, List, [], ◌++◌, Ok, Err, length};
+ghost use Rattle.rignolda_wire.specs.declared.fault.Fault.{Fault};
+ghost use Rattle.rignolda_wire.specs.declared.fault.Fault.TheVariants.{More};
+ghost use Rattle.rignolda_wire.specs.declared.said.Expect.{Expect};
+ghost use Rattle.rignolda_wire.specs.Reading.{message_at};
+ghost use Rattle.rignolda_wire.specs.Said.{IsMessage, Said, most, spelling};
+ghost use Rattle.rignolda_wire.specs.Seen.{AreBytes};
+ghost use Rattle.rignolda_wire.specs.Streams.{Splits};
+
+/// What is spelled is read, whatever follows it.
+pub fn what_is_spelled_is_read()
+    ensures { (expect : Expect) (m : Said) (rest : List ℕ) → IsMessage expect m
+        → message_at expect (spelling m ++ rest) ≡ Ok (m, rest) }
+{}
+
+/// What is read was spelled so, and may come. So no two messages have one spelling, and none begins
+/// another.
+pub fn what_is_read_is_spelled()
+    ensures { (expect : Expect) (bytes : List ℕ) (x : Said × List ℕ) → AreBytes bytes
+        → message_at expect bytes ≡ Ok x → IsMessage expect x.0 × (bytes ≡ spelling x.0 ++ x.1) }
+{}
+
+/// What is refused stays refused, whatever comes: no message begins so.
+pub fn what_is_refused_stays_refused()
+    ensures { (expect : Expect) (bytes more : List ℕ) (fault : Fault) → AreBytes bytes
+        → message_at expect bytes ≡ Err fault → fault ≢ More
+        → message_at expect (bytes ++ more) ≡ Err fault }
+{}
+
+/// A front of a message that is not all of it is neither read nor refused: more has to come.
+pub fn a_front_of_a_message_is_no_message()
+    ensures { (expect : Expect) (m : Said) (front rest : List ℕ) → IsMessage expect m
+        → spelling m ≡ front ++ rest → rest ≢ [] → AreBytes front
+        → message_at expect front ≡ Err More }
+{}
+
+/// While more has to come there are few bytes.
+pub fn few_bytes_are_kept()
+    ensures { (expect : Expect) (bytes : List ℕ) → AreBytes bytes
+        → message_at expect bytes ≡ Err More → length bytes < most expect }
+{}
+
+/// A stream is read in one way, in whatever pieces it comes: its messages are the same, and what
+/// follows them.
+pub fn a_stream_is_read_in_one_way()
+    ensures { (expect : Expect) (stream : List ℕ) (one other : List Said) (rest after : List ℕ)
+        (why reason : Fault)
+        → Splits expect stream one rest why → Splits expect stream other after reason
+        → (one ≡ other) × (rest ≡ after) × (why ≡ reason) }
+{}
