@@ -89,8 +89,8 @@ codec_map {A = A} {B = B} {k = k} {r = r} K G sb put first into back =
           let (_, _, spelled) = into a fits in
           subst (λ (y : B). read_on (r (sb y ++ rest)) next ≡ Ok (y, rest)) (sym is_put)
           (
-            ap (λ (text : List ℕ). read_on (r (text ++ rest)) next) spelled
-            ∙ ap (λ (z : Result (A × List ℕ) Fault). read_on z next) (first.again a rest tt fits)
+          ap (λ (text : List ℕ). read_on (r (text ++ rest)) next) spelled
+          ∙ ap (λ (z : Result (A × List ℕ) Fault). read_on z next) (first.again a rest tt fits)
           );
       told = λ bytes x are is.
           let (y, read, rest_read) = read_ok (r bytes) next x is in
@@ -109,7 +109,7 @@ codec_map {A = A} {B = B} {k = k} {r = r} K G sb put first into back =
             | inr (y, read, refused) ↦ absurd cc
           ];
       few = λ bytes are is.
-          elim (read_err (r bytes) next More is) [ | inl waits ↦ first.few bytes are waits | inr (y, read, waits) ↦ absurd cc ];
+          elim (read_err (r bytes) next More is) [ inl waits ↦ first.few bytes are waits | inr (y, read, waits) ↦ absurd cc ];
     }
 
 -- what is read has to pass a test

@@ -57,14 +57,18 @@ codec_greeting least =
     (λ to is. ((refl, (refl, (refl, (refl, tt)))), is, refl))
     (λ g known is. (g.to, all_known version life label from g known, is)))))))
     (omega arith)
-    (λ g known good. (tt, record {
-      spoken = leb-true least g.version good.0.1;
-      version = good.0.0;
-      life = good.1.0;
-      label = good.1.1.0;
-      from = good.1.1.1.0;
-      to = good.1.1.1.1;
-    }, refl))
+    (λ g known good. (
+      tt,
+      record {
+        spoken = leb-true least g.version good.0.1;
+        version = good.0.0;
+        life = good.1.0;
+        label = good.1.1.0;
+        from = good.1.1.1.0;
+        to = good.1.1.1.1;
+      },
+      refl,
+    ))
     (λ g known is. (tt, ((is.version, le-leb least g.version is.spoken), (is.life, (is.label, (is.from, is.to))))))
 
 -- ---- a hello, or a look

@@ -6,3 +6,4 @@ pub mod Others
 pub mod Hellos
 pub mod Messages
 pub mod Fronts
+pub mod Texts

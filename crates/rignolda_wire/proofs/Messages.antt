@@ -211,8 +211,8 @@ codec_parent =
     (λ is. codec_kind {k = k} Frames first 87 way is (omega arith) codec_way (λ w good. (refl, good, refl)) way_of_parent)
     (λ no_way. codec_choose (first == 81) (give asks) (refuse NoMessage)
     (λ is.
-        let e : first ≡ 81 = eqb-true first 81 is in
-        codec_give (First first) (IsMessage Frames) after_letter k asks (sym e, tt) tt refl (λ m known may. asks_of_parent m (known.0 ∙ e) may))
+    let e : first ≡ 81 = eqb-true first 81 is in
+    codec_give (First first) (IsMessage Frames) after_letter k asks (sym e, tt) tt refl (λ m known may. asks_of_parent m (known.0 ∙ e) may))
     (λ no_request. codec_refuse (First first) (IsMessage Frames) after_letter k NoMessage no_message (none_of_parent first no_frame no_reference no_way no_request)))))))
     (omega arith)
     (λ m known good. (tt, good.1, refl))
@@ -277,12 +277,12 @@ codec_child =
     (λ is. codec_kind {k = k} Acks first 78 lacks is (omega arith) (codec_number w16 (2 ^ 16) wide16) (λ label low. (refl, low, refl)) lacks_of_child)
     (λ no_lacks. codec_choose (first == 82) report_at (last first)
     (λ is.
-        codec_kind {k = k} Acks first 82 report is (omega arith) (codec_counted w32 (2 ^ 32) report_limit LongReport long_report wide32 (omega arith))
-        (λ text short. (refl, short, refl)) report_of_child)
+    codec_kind {k = k} Acks first 82 report is (omega arith) (codec_counted w32 (2 ^ 32) report_limit LongReport long_report wide32 (omega arith))
+    (λ text short. (refl, short, refl)) report_of_child)
     (λ no_report. codec_choose (first == 71) (give goodbye) (refuse NoMessage)
     (λ is.
-        let e : first ≡ 71 = eqb-true first 71 is in
-        codec_give (First first) (IsMessage Acks) after_letter k goodbye (sym e, tt) tt refl (λ m known may. goodbye_of_child m (known.0 ∙ e) may))
+    let e : first ≡ 71 = eqb-true first 71 is in
+    codec_give (First first) (IsMessage Acks) after_letter k goodbye (sym e, tt) tt refl (λ m known may. goodbye_of_child m (known.0 ∙ e) may))
     (λ no_goodbye. codec_refuse (First first) (IsMessage Acks) after_letter k NoMessage no_message (none_of_child first no_ack no_lacks no_report no_goodbye)))))))
     (omega arith)
     (λ m known good. (tt, good.1, refl))

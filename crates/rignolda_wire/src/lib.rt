@@ -7,8 +7,10 @@ pub mod laws;
 mod names;
 mod reading;
 mod said;
+mod writing;
 
 pub use fault::Fault;
 pub use names::is_name;
 pub use reading::message;
 pub use said::{Expect, Frame, Greeting, Message, Reference, Way};
+pub use writing::write_head;

@@ -1,0 +1,48 @@
+-- Texts that are written into a buffer one after the other.
+use Rattle.std.proofs.Common.{Bor, ◌≡◌, ℕ, ◌+◌, ◌<◌, ◌≤◌, List, [], ◌∷◌, ◌++◌, length, map, get_or, take, drop, refl, sym, ap, ◌∙◌, append_assoc, arith}
+use Rattle.std.proofs.lemmas.List.{append-nil, drop-drop, drop_more, take-append-drop, take_at, drop_at, length-append, length-take}
+use Rattle.std.specs.Int.{w16, w32, to_be_bytes}
+use Rattle.rignolda_wire.specs.Writing.{joined, with_text}
+
+past : (front rest : List ℕ) (m : ℕ) → drop (length front + m) (front ++ rest) ≡ drop m rest
+past front rest m = sym (drop-drop m (length front) (front ++ rest)) ∙ ap (drop m) (drop_at front rest (length front) refl)
+
+-- two texts, the second where the first ends, are one
+pub with_both : (buffer : List ℕ) (at : ℕ) (x y : List ℕ) → at ≤ length buffer
+    → with_text (with_text buffer at x) (at + length x) y ≡ with_text buffer at (x ++ y)
+with_both buffer at x y within =
+    let front : List ℕ = take at buffer ++ x in
+    let rest : List ℕ = drop (at + length x) buffer in
+    let sized : length front ≡ at + length x = omega (arith, length-append (take at buffer) x, length-take at buffer, within) in
+    let whole : with_text buffer at x ≡ front ++ rest = sym (append_assoc (take at buffer) x rest) in
+    let before : take (at + length x) (front ++ rest) ≡ front = take_at front rest (at + length x) sized in
+    let after : drop (at + length x + length y) (front ++ rest) ≡ drop (at + length x + length y) buffer =
+    ap (λ n. drop (n + length y) (front ++ rest)) (sym sized)
+    ∙ past front rest (length y)
+    ∙ drop-drop (length y) (at + length x) buffer in
+    let as_long : at + length x + length y ≡ at + length (x ++ y) = omega (arith, length-append x y) in
+    ap (λ b. take (at + length x) b ++ (y ++ drop (at + length x + length y) b)) whole
+    ∙ ap (λ (b : List ℕ). b ++ (y ++ drop (at + length x + length y) (front ++ rest))) before
+    ∙ ap (λ (b : List ℕ). front ++ (y ++ b)) (after ∙ ap (λ n. drop n buffer) as_long)
+    ∙ append_assoc (take at buffer) x (y ++ drop (at + length (x ++ y)) buffer)
+    ∙ ap (λ (b : List ℕ). take at buffer ++ b) (sym (append_assoc x y (drop (at + length (x ++ y)) buffer)))
+
+-- no text leaves the buffer as it is
+pub with_none : (buffer : List ℕ) (at : ℕ) → with_text buffer at [] ≡ buffer
+with_none buffer at = let e : at + 0 ≡ at = omega arith in ap (λ n. take at buffer ++ drop n buffer) e ∙ take-append-drop at buffer
+
+-- the next text is in front of what is left
+pub next_text : (texts : List (Bor (List ℕ))) (i : ℕ) (none : Bor (List ℕ)) → i < length texts
+    → joined (map (λ text. text.now) (drop i texts)) ≡ (get_or texts i none).now ++ joined (map (λ text. text.now) (drop (i + 1) texts))
+next_text texts i none within = ap (λ (xs : List (Bor (List ℕ))). joined (map (λ text. text.now) xs)) (drop_more texts i none within)
+
+-- one more text is written, where the one before it ended
+pub one_more : (buffer mid all : List ℕ) (at end : ℕ) (text left rest : List ℕ) → at ≤ length buffer
+    → mid ≡ with_text buffer at text → end ≡ at + length text → left ≡ text ++ rest → with_text buffer at left ≡ all → with_text mid end rest ≡ all
+one_more buffer mid all at end text left rest within put ends whole is =
+    ap (λ n. with_text mid n rest) ends ∙ ap (λ (b : List ℕ). with_text b (at + length text) rest) put
+    ∙ with_both buffer at text rest within ∙ ap (with_text buffer at) (sym whole) ∙ is
+
+-- nothing follows the last text
+pub nothing_more : (text : List ℕ) → text ++ [] ≡ text
+nothing_more text = append-nil text
