@@ -7,3 +7,4 @@ pub mod Hellos
 pub mod Messages
 pub mod Fronts
 pub mod Texts
+pub mod Written

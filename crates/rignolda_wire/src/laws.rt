@@ -1,6 +1,6 @@
 //! Laws of messages as bytes. Each is a function with an empty body; its contract is the law.
 
-ghost use Rattle.std.specs.Prelude.{◌≡◌, ◌≢◌, ◌<◌, ℕ, List, [], ◌++◌, Ok, Err, length};
+ghost use Rattle.std.specs.Prelude.{◌≡◌, ◌≢◌, ◌<◌, ◌≤◌, ℕ, List, [], ◌++◌, Ok, Err, length, take, true};
 ghost use Rattle.rignolda_wire.specs.declared.fault.Fault.{Fault};
 ghost use Rattle.rignolda_wire.specs.declared.fault.Fault.TheVariants.{More};
 ghost use Rattle.rignolda_wire.specs.declared.said.Expect.{Expect};
@@ -8,6 +8,7 @@ ghost use Rattle.rignolda_wire.specs.Reading.{message_at};
 ghost use Rattle.rignolda_wire.specs.Said.{IsMessage, Said, most, spelling};
 ghost use Rattle.rignolda_wire.specs.Seen.{AreBytes};
 ghost use Rattle.rignolda_wire.specs.Streams.{Splits};
+ghost use Rattle.rignolda_wire.specs.Writing.{head_bytes, is_written, tail_bytes, with_text};
 
 /// What is spelled is read, whatever follows it.
 pub fn what_is_spelled_is_read()
@@ -49,4 +50,23 @@ pub fn a_stream_is_read_in_one_way()
         (why reason : Fault)
         → Splits expect stream one rest why → Splits expect stream other after reason
         → (one ≡ other) × (rest ≡ after) × (why ≡ reason) }
+{}
+
+/// A message is its head and what follows that: the body of a frame, the names of a way, the text of
+/// a report.
+pub fn a_message_is_its_head_and_tail()
+    ensures { (m : Said) → spelling m ≡ head_bytes m ++ tail_bytes m }
+{}
+
+/// What is written is read again: the head, whatever the buffer held, and what follows it.
+pub fn what_is_written_is_read()
+    ensures { (expect : Expect) (m : Said) (buffer rest : List ℕ) → IsMessage expect m
+        → message_at expect (take (length (head_bytes m)) (with_text buffer 0 (head_bytes m))
+        ++ (tail_bytes m ++ rest)) ≡ Ok (m, rest) }
+{}
+
+/// Each message that may come is written, if there is room for its head.
+pub fn a_message_is_written()
+    ensures { (expect : Expect) (m : Said) (buffer : List ℕ) → IsMessage expect m
+        → length (head_bytes m) ≤ length buffer → is_written buffer m ≡ true }
 {}

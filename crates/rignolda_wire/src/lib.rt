@@ -6,11 +6,13 @@ mod fields;
 pub mod laws;
 mod names;
 mod reading;
+mod refusal;
 mod said;
 mod writing;
 
 pub use fault::Fault;
 pub use names::is_name;
 pub use reading::message;
+pub use refusal::{Refusal, refused};
 pub use said::{Expect, Frame, Greeting, Message, Reference, Way};
 pub use writing::write_head;
