@@ -55,3 +55,9 @@ abbrev pub refused : Expect → List ℕ → Option Refusal
 refused Hello (r ∷ g ∷ n ∷ l ∷ version ∷ why) = if is_look r g n l version then reason_or_none why else None
 refused Frames (w ∷ why) = if w == 87 then reason why else None
 refused expect bytes = None
+
+-- what an end is told that expects this
+abbrev pub told : Expect → Refusal → List ℕ
+told Hello why = told_first why
+told Frames why = told_last why
+told expect why = []

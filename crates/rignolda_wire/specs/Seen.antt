@@ -2,12 +2,14 @@
 use Rattle.std.specs.Prelude.{◌≡◌, ◌<◌, ℕ, List, get_or, true, false, Result, Ok, Err}
 use Rattle.rignolda_wire.specs.declared.fault.Fault.{Fault}
 use Rattle.rignolda_wire.specs.declared.said.Frame.{Frame}
+use Rattle.rignolda_wire.specs.declared.said.FrameHead.{FrameHead}
 use Rattle.rignolda_wire.specs.declared.said.Greeting.{Greeting}
 use Rattle.rignolda_wire.specs.declared.said.Message.{Message}
 use Rattle.rignolda_wire.specs.declared.said.Message.TheVariants as messages
 use Rattle.rignolda_wire.specs.declared.said.Reference.{Reference}
 use Rattle.rignolda_wire.specs.declared.said.Way.{Way}
 use Rattle.rignolda_wire.specs.Said.{Framed, Greeted, Referred, Routed, Said, ack, asks, frame, goodbye, hello, lacks, refers, report, way}
+use Rattle.rignolda_wire.specs.Words.{Headed}
 
 -- each is a byte
 abbrev pub AreBytes : List ℕ → Type 0
@@ -33,6 +35,9 @@ routed w = record { cost = w.cost; names = w.names.now }
 
 abbrev pub framed : Frame → Framed
 framed f = record { label = f.label; item = f.item; body = f.body.now }
+
+abbrev pub headed : FrameHead → Headed
+headed h = record { label = h.label; item = h.item; len = h.len }
 
 abbrev pub referred : Reference → Referred
 referred r = record {

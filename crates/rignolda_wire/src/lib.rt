@@ -8,11 +8,15 @@ mod names;
 mod reading;
 mod refusal;
 mod said;
+mod spoken;
+mod words;
 mod writing;
 
 pub use fault::Fault;
 pub use names::is_name;
 pub use reading::message;
-pub use refusal::{Refusal, refused};
-pub use said::{Expect, Frame, Greeting, Message, Reference, Way};
+pub use refusal::{Refusal, refused, write_last_refusal, write_refusal};
+pub use said::{Expect, Frame, FrameHead, Greeting, Message, Reference, Way};
+pub use spoken::{range, versions};
+pub use words::{frame_head, reports, word};
 pub use writing::write_head;

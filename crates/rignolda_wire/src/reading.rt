@@ -36,7 +36,7 @@ pub(crate) const DIGEST_LEN: usize = 32;
 
 /// The bytes after this letter.
 #[tactic(auto, unfolding(crate::specs::Reading::letter_at))]
-fn letter_at(letter: u8, bytes: &[u8]) -> Result<(u8, &[u8]), Fault>
+pub(crate) fn letter_at(letter: u8, bytes: &[u8]) -> Result<(u8, &[u8]), Fault>
     ensures { Reads (λ x. (x.0, x.1.now)) result (reads.letter_at letter bytes.now) }
 {
     let (byte, rest) = byte_at(bytes)?;

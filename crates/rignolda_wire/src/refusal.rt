@@ -1,8 +1,11 @@
-ghost use Rattle.std.specs.Prelude.{◌≡◌, ◌∷◌, [], List, Option};
+ghost use Rattle.std.specs.Prelude.{◌≡◌, nat_le, List, length};
 ghost use Rattle.rignolda_wire.specs.Refusals.{byte_of, reason, reason_or_none, refusal_of};
+ghost use Rattle.rignolda_wire.specs.Refusals.{told_first, told_last};
 ghost use Rattle.rignolda_wire.specs.Refusals as refusals;
+ghost use Rattle.rignolda_wire.specs.Writing.{after_writing, end_of};
 
 use crate::said::Expect;
+use crate::writing::put_if_room;
 
 /// Why the other end refuses this one.
 #[derive(Clone, Copy, Debug, PartialEq, Eq)]
@@ -91,4 +94,28 @@ pub fn refused(expect: Expect, bytes: &[u8]) -> Option<Refusal>
         (Expect::Frames, [b'W', why @ ..]) => reason(why),
         _ => None,
     }
+}
+
+/// Writes what an end is told that is refused before a link begins, into the buffer from its front
+/// on, and gives its end; or gives nothing, if there is no room.
+pub fn write_refusal(buffer: &mut [u8], why: Refusal) -> Option<usize>
+    ensures end { result ≡ end_of (nat_le (length (told_first why)) (length buffer.old)) (told_first why) }
+    ensures text { buffer.new ≡ after_writing (nat_le (length (told_first why)) (length buffer.old))
+        buffer.old (told_first why) }
+{
+    match why {
+        Refusal::NotSaid => put_if_room(buffer, &[b'R', b'G', b'N', b'L', FIRST]),
+        _ => {
+            let told = [b'R', b'G', b'N', b'L', FIRST, REFUSED, byte_of(why)];
+            put_if_room(buffer, &told)
+        }
+    }
+}
+
+/// The same of what a child is told whose link ends.
+pub fn write_last_refusal(buffer: &mut [u8], why: Refusal) -> Option<usize>
+    ensures end { result ≡ end_of (nat_le 3 (length buffer.old)) (told_last why) }
+    ensures text { buffer.new ≡ after_writing (nat_le 3 (length buffer.old)) buffer.old (told_last why) }
+{
+    put_if_room(buffer, &[b'W', REFUSED, byte_of(why)])
 }

@@ -46,6 +46,17 @@ pub struct Frame<'a> {
     pub body: &'a [u8],
 }
 
+/// What a frame has before its body.
+#[derive(Clone, Copy, Debug, PartialEq, Eq)]
+pub struct FrameHead {
+    /// Its label.
+    pub label: u16,
+    /// Its item.
+    pub item: u32,
+    /// The length of the body, which need not be within the limit.
+    pub len: u32,
+}
+
 /// A frame without its body, of which it says what the child may know it by.
 #[derive(Clone, Copy)]
 pub struct Reference<'a> {

@@ -1,4 +1,4 @@
-ghost use Rattle.std.specs.Prelude.{◌≡◌, ◌+◌, ◌≤◌, ◌∷◌, true, List, length, map};
+ghost use Rattle.std.specs.Prelude.{◌≡◌, ◌+◌, ◌≤◌, ◌∷◌, true, List, length, map, nat_le};
 ghost use Rattle.std.specs.Int.{w16, to_be_bytes};
 ghost use Rattle.rignolda_wire.specs.Names.{name_limit};
 ghost use Rattle.rignolda_wire.specs.Said as said;
@@ -21,6 +21,18 @@ fn put(buffer: &mut [u8], at: usize, text: &[u8]) -> usize
     let end = at + text.len();
     buffer[at..end].copy_from_slice(text);
     end
+}
+
+/// Writes a text into the buffer and gives its end, if there is room for it.
+pub(crate) fn put_if_room(buffer: &mut [u8], text: &[u8]) -> Option<usize>
+    ensures end { result ≡ end_of (nat_le (length text.now) (length buffer.old)) text.now }
+    ensures text { buffer.new ≡ after_writing (nat_le (length text.now) (length buffer.old))
+        buffer.old text.now }
+{
+    if text.len() > buffer.len() {
+        return None;
+    }
+    Some(put(buffer, 0, text))
 }
 
 /// Writes texts into the buffer, one after the other from its front on, and gives their end.
