@@ -8,3 +8,4 @@ pub mod Messages
 pub mod Fronts
 pub mod Texts
 pub mod Written
+pub mod Told

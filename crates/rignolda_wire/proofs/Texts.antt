@@ -46,3 +46,6 @@ one_more buffer mid all at end text left rest within put ends whole is =
 -- nothing follows the last text
 pub nothing_more : (text : List ℕ) → text ++ [] ≡ text
 nothing_more text = append-nil text
+
+pub as_long : (x y : List ℕ) → length (x ++ y) ≡ length x + length y
+as_long x y = length-append x y

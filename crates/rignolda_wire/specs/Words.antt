@@ -2,14 +2,14 @@
 -- there is one. A child's word is its hello, and how often it has set its report.
 -- Example: Behind the hello of a child that has set three reports are the bytes 0, 0, 0, 3.
 -- Source: this project's own.
-use Rattle.std.specs.Prelude.{ℕ, ◌==◌, if◌then◌else◌}
+use Rattle.std.specs.Prelude.{ℕ, ◌==◌, nat_le, ◌&&◌, Bool, if◌then◌else◌}
 use Rattle.std.specs.Prelude.{List, [], ◌∷◌, ◌++◌, length, false, Option, Some, None, Result, Ok, Err}
 use Rattle.std.specs.Int.{w16, w32, from_be_bytes, to_be_bytes}
 use Rattle.rignolda_wire.specs.declared.fault.Fault.{Fault}
 use Rattle.rignolda_wire.specs.declared.said.Expect.TheVariants.{Hello}
 use Rattle.rignolda_wire.specs.Reading.{◌>>=◌, Reader, give, letter_at, message_at, number_at}
 use Rattle.rignolda_wire.specs.Said.{Framed, Greeted, Said, frame, hello, spelling}
-use Rattle.rignolda_wire.specs.Writing.{frame_head}
+use Rattle.rignolda_wire.specs.Writing.{frame_head, is_short}
 
 -- a parent's word, with and without a frame, and a child's
 pub data Word : Type 0 where
@@ -59,3 +59,9 @@ first_of (Err fault) = None
 
 abbrev pub head_of : List ℕ → Option Headed
 head_of bytes = first_of (head_at bytes)
+
+-- ---- a child's word is written
+
+abbrev pub up_is_written : List ℕ → Greeted → ℕ → Bool
+up_is_written buffer g reports =
+    is_short (hello false g) && nat_le (length (word_bytes (up g reports))) (length buffer)

@@ -5,9 +5,10 @@ ghost use Rattle.rignolda_wire.specs.declared.fault.Fault.{Fault};
 ghost use Rattle.rignolda_wire.specs.declared.fault.Fault.TheVariants.{More};
 ghost use Rattle.rignolda_wire.specs.declared.said.Expect.{Expect};
 ghost use Rattle.rignolda_wire.specs.Reading.{message_at};
-ghost use Rattle.rignolda_wire.specs.Said.{IsMessage, Said, most, spelling};
+ghost use Rattle.rignolda_wire.specs.Said.{Greeted, IsMessage, Said, most, spelling};
 ghost use Rattle.rignolda_wire.specs.Seen.{AreBytes};
 ghost use Rattle.rignolda_wire.specs.Streams.{Splits};
+ghost use Rattle.rignolda_wire.specs.Versions.{range_of, versions_of};
 ghost use Rattle.rignolda_wire.specs.Writing.{head_bytes, is_written, tail_bytes, with_text};
 
 /// What is spelled is read, whatever follows it.
@@ -69,4 +70,12 @@ pub fn what_is_written_is_read()
 pub fn a_message_is_written()
     ensures { (expect : Expect) (m : Said) (buffer : List ℕ) → IsMessage expect m
         → length (head_bytes m) ≤ length buffer → is_written buffer m ≡ true }
+{}
+
+/// The versions that are said in the place of a label are read there, and no label of a link, which
+/// is below 256, is taken for any.
+pub fn versions_are_read()
+    ensures range { (g : Greeted) (oldest newest : ℕ) → 1 ≤ oldest → oldest ≤ newest → newest < 256
+        → 2 ≤ g.version → g.label ≡ range_of oldest newest → versions_of g ≡ (oldest, newest) }
+    ensures one { (g : Greeted) → g.label < 256 → versions_of g ≡ (g.version, g.version) }
 {}

@@ -1,15 +1,17 @@
-ghost use Rattle.std.specs.Prelude.{◌≡◌, ◌++◌, ◌∷◌, ◌&&◌, [], List, false, length, nat_le, Some, None};
-ghost use Rattle.std.specs.Int.{w32, to_be_bytes};
+ghost use Rattle.std.specs.Prelude.{◌≡◌, ◌≤◌, List, length};
 ghost use Rattle.std.specs.Option.{option_map};
-ghost use Rattle.rignolda_wire.specs.Said.{hello, spelling};
+ghost use Rattle.rignolda_wire.specs.Names.{name_limit};
 ghost use Rattle.rignolda_wire.specs.Seen.{Reads, greeted, headed};
 ghost use Rattle.rignolda_wire.specs.Words as words;
-ghost use Rattle.rignolda_wire.specs.Words.{reports_of, word_at};
+ghost use Rattle.rignolda_wire.specs.Words.{reports_of, up, up_is_written, word_at, word_bytes};
+ghost use Rattle.rignolda_wire.specs.Writing.{after_writing, end_of, with_text};
 
 use crate::fault::Fault;
 use crate::fields::{u16_at, u32_at};
+use crate::names::NAME_LIMIT;
 use crate::reading::{letter_at, message};
 use crate::said::{Expect, FrameHead, Greeting, Message};
+use crate::writing::{put, put_hello};
 
 /// The hello of what a link in a store shows, and the bytes behind it. What else is there is no word.
 pub fn word(bytes: &[u8]) -> Option<(Greeting<'_>, &[u8])>
@@ -50,4 +52,35 @@ pub fn reports(bytes: &[u8]) -> Option<u32>
         [a, b, c, d] => Some(u32::from_be_bytes([*a, *b, *c, *d])),
         _ => None,
     }
+}
+
+#[tactic(auto, using(crate::proofs::Texts::with_both, crate::proofs::Texts::as_long))]
+fn put_up(buffer: &mut [u8], greeting: &Greeting<'_>, reports: u32) -> usize
+    requires from { length greeting.now.from.now ≤ name_limit }
+    requires to { length greeting.now.to.now ≤ name_limit }
+    requires room { length (word_bytes (up (greeted greeting.now) reports)) ≤ length buffer.old }
+    ensures end { result ≡ length (word_bytes (up (greeted greeting.now) reports)) }
+    ensures text { buffer.new ≡ with_text buffer.old 0
+        (word_bytes (up (greeted greeting.now) reports)) }
+{
+    let end = put_hello(buffer, false, greeting);
+    put(buffer, end, &reports.to_be_bytes())
+}
+
+/// Writes a child's word, its hello and how often it has set its report, into the buffer from its
+/// front on, and gives its end; or gives nothing, if there is no room or a name is too long. Of a
+/// parent's word the hello and the head of the frame are written one after the other.
+#[tactic(auto, using(crate::proofs::Texts::as_long))]
+pub fn write_up(buffer: &mut [u8], greeting: &Greeting<'_>, reports: u32) -> Option<usize>
+    ensures end { result ≡ end_of (up_is_written buffer.old (greeted greeting.now) reports)
+        (word_bytes (up (greeted greeting.now) reports)) }
+    ensures text { buffer.new ≡ after_writing
+        (up_is_written buffer.old (greeted greeting.now) reports) buffer.old
+        (word_bytes (up (greeted greeting.now) reports)) }
+{
+    let (from, to) = (greeting.from.len(), greeting.to.len());
+    if from > NAME_LIMIT || to > NAME_LIMIT || 21 + from + to > buffer.len() {
+        return None;
+    }
+    Some(put_up(buffer, greeting, reports))
 }

@@ -13,7 +13,7 @@ use crate::reading::{BODY_LIMIT, DIGEST_LEN, HEAD_LEN, REPORT_LIMIT, WAY_LIMIT};
 use crate::said::{Frame, Greeting, Message, Reference, Way};
 
 /// Writes a text into the buffer from this place on, and gives its end.
-fn put(buffer: &mut [u8], at: usize, text: &[u8]) -> usize
+pub(crate) fn put(buffer: &mut [u8], at: usize, text: &[u8]) -> usize
     requires { at + length text.now ≤ length buffer.old }
     ensures end { result ≡ at + length text.now }
     ensures text { buffer.new ≡ with_text buffer.old at text.now }
@@ -57,7 +57,7 @@ fn fourth(is_look: bool) -> u8
 }
 
 #[tactic(auto, using(crate::proofs::Texts::nothing_more))]
-fn put_hello(buffer: &mut [u8], is_look: bool, g: &Greeting<'_>) -> usize
+pub(crate) fn put_hello(buffer: &mut [u8], is_look: bool, g: &Greeting<'_>) -> usize
     requires from { length g.now.from.now ≤ name_limit }
     requires to { length g.now.to.now ≤ name_limit }
     requires room { length (head_bytes (hello is_look (greeted g.now))) ≤ length buffer.old }
