@@ -1,6 +1,7 @@
 //! What goes over a connection, byte for byte: messages as they lie in the bytes that came.
 #![tactic(auto)]
 
+pub mod examples;
 mod fault;
 mod fields;
 pub mod laws;
