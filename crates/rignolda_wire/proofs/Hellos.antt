@@ -6,7 +6,7 @@ use Rattle.std.proofs.lemmas.Bool.{eqb-false, eqb-true, le-leb, leb-true}
 use Rattle.rignolda_wire.specs.declared.fault.Fault.TheVariants.{NoHello}
 use Rattle.rignolda_wire.specs.declared.said.Expect.TheVariants.{Hello}
 use Rattle.rignolda_wire.specs.Names.{is_name, is_name_or_none}
-use Rattle.rignolda_wire.specs.Reading.{◌>>=◌, Reader, choose, fourth_at, give, greeting_at, greets_at, hello_at, letter_at, name_at, number_at, refuse, version_at}
+use Rattle.rignolda_wire.specs.Reading.{◌>>=◌, Reader, choose, fourth_at, give, greeting_at, hello_at, kind_at, letter_at, name_at, number_at, refuse, version_at}
 use Rattle.rignolda_wire.specs.Said.{Greeted, IsGreeting, IsMessage, Said, ack, asks, fourth, frame, goodbye, greeting_bytes, hello, lacks, name_bytes, oldest, refers, report, spelling, way}
 use Rattle.rignolda_wire.proofs.Codecs.{Any, IsCodec, codec_after, codec_choose, codec_like, codec_map, codec_refuse}
 use Rattle.rignolda_wire.proofs.Parts.{codec_byte, codec_number, wide16, wide64}
@@ -29,20 +29,12 @@ with_label version life = number_at w16 >>= with_from version life
 abbrev with_life : ℕ → Reader Greeted
 with_life version = number_at w64 >>= with_label version
 
--- what is known of a greeting as its fields are read
-abbrev Versioned : ℕ → Greeted → Type 0
-Versioned version g = (g.version ≡ version) × Any g
+-- what is known of a greeting when its last field is read
+abbrev Known : ℕ → ℕ → ℕ → List ℕ → Greeted → Type 0
+Known version life label from g =
+    (g.from ≡ from) × ((g.label ≡ label) × ((g.life ≡ life) × ((g.version ≡ version) × Any g)))
 
-abbrev Living : ℕ → ℕ → Greeted → Type 0
-Living version life g = (g.life ≡ life) × Versioned version g
-
-abbrev Labelled : ℕ → ℕ → ℕ → Greeted → Type 0
-Labelled version life label g = (g.label ≡ label) × Living version life g
-
-abbrev Named : ℕ → ℕ → ℕ → List ℕ → Greeted → Type 0
-Named version life label from g = (g.from ≡ from) × Labelled version life label g
-
-all_known : (version life label : ℕ) (from : List ℕ) (g : Greeted) → Named version life label from g → g ≡ greets version life label from g.to
+all_known : (version life label : ℕ) (from : List ℕ) (g : Greeted) → Known version life label from g → g ≡ greets version life label from g.to
 all_known version life label from g known =
     rw (← known.0, ← known.1.0, ← known.1.1.0, ← known.1.1.1.0) refl
 
@@ -50,10 +42,10 @@ pub codec_greeting : (least : ℕ) → IsCodec Greeted Any (IsGreeting least) gr
 unfolding greeting_at
 codec_greeting least =
     codec_like (codec_after (λ (g : Greeted). g.version) with_life (codec_version least)
-    (λ version _. codec_after {K = Versioned version} (λ (g : Greeted). g.life) (with_label version) (codec_number w64 (2 ^ 64) wide64)
-    (λ life _. codec_after {K = Living version life} (λ (g : Greeted). g.label) (with_from version life) (codec_number w16 (2 ^ 16) wide16)
-    (λ label _. codec_after {K = Labelled version life label} (λ (g : Greeted). g.from) (with_to version life label) (codec_name is_name name_short)
-    (λ from _. codec_map (Named version life label from) (λ g. is_name_or_none g.to ≡ true) (λ g. name_bytes g.to) (greets version life label from) (codec_name is_name_or_none short_or_none)
+    (λ version _. codec_after (λ (g : Greeted). g.life) (with_label version) (codec_number w64 (2 ^ 64) wide64)
+    (λ life _. codec_after (λ (g : Greeted). g.label) (with_from version life) (codec_number w16 (2 ^ 16) wide16)
+    (λ label _. codec_after (λ (g : Greeted). g.from) (with_to version life label) (codec_name is_name name_short)
+    (λ from _. codec_map (Known version life label from) (λ g. is_name_or_none g.to ≡ true) (λ g. name_bytes g.to) (greets version life label from) (codec_name is_name_or_none short_or_none)
     (λ to is. ((refl, (refl, (refl, (refl, tt)))), is, refl))
     (λ g known is. (g.to, all_known version life label from g known, is)))))))
     (omega arith)
@@ -85,8 +77,8 @@ after_four m = []
 abbrev Fourth : ℕ → Said → Type 0
 Fourth letter m = (last_letter m ≡ letter) × Any m
 
-codec_greets : (letter : ℕ) (is_look : Bool) → letter ≡ fourth is_look → IsCodec Said (Fourth letter) (IsMessage Hello) after_four 141 (greets_at is_look)
-unfolding greets_at
+codec_greets : (letter : ℕ) (is_look : Bool) → letter ≡ fourth is_look
+    → IsCodec Said (Fourth letter) (IsMessage Hello) after_four 141 (kind_at (hello is_look) (greeting_at (oldest is_look)))
 codec_greets letter is_look is =
     codec_map (Fourth letter) (IsMessage Hello) after_four (hello is_look) (codec_greeting (oldest is_look))
     (λ g greets. ((sym is, tt), greets, refl))
@@ -109,11 +101,11 @@ no_other letter no_look none m known good = absurd good
 codec_fourth : IsCodec Said Any (λ m. (last_letter m < 256) × IsMessage Hello m) (λ m. last_letter m ∷ after_four m) 142 fourth_at
 unfolding fourth_at
 codec_fourth =
-    let hellos : ℕ → Reader Said = λ letter. choose (letter == 68) (greets_at false) (refuse NoHello) in
-    codec_after last_letter (λ letter. choose (letter == 76) (greets_at true) (hellos letter)) codec_byte
-    (λ letter _. codec_choose (letter == 76) (greets_at true) (hellos letter)
+    let hellos : ℕ → Reader Said = λ letter. choose (letter == 68) (kind_at (hello false) (greeting_at 1)) (refuse NoHello) in
+    codec_after last_letter (λ letter. choose (letter == 76) (kind_at (hello true) (greeting_at 2)) (hellos letter)) codec_byte
+    (λ letter _. codec_choose (letter == 76) (kind_at (hello true) (greeting_at 2)) (hellos letter)
     (λ look. codec_greets letter true (eqb-true letter 76 look))
-    (λ no_look. codec_choose (letter == 68) (greets_at false) (refuse NoHello)
+    (λ no_look. codec_choose (letter == 68) (kind_at (hello false) (greeting_at 1)) (refuse NoHello)
     (λ is. codec_greets letter false (eqb-true letter 68 is))
     (λ none. codec_refuse (Fourth letter) (IsMessage Hello) after_four 141 NoHello no_hello (no_other letter no_look none))))
 

@@ -83,25 +83,25 @@ pub record IsWide (w : Width) (limit : ℕ) : Type 0 where
 
 pub wide16 : IsWide w16 (2 ^ 16)
 wide16 = record {
+  again = from_be_bytes-to_be_bytes_2;
   len = λ n. refl;
   back = λ bytes len are. be_bytes_2 bytes _ len are refl;
-  again = λ n low. from_be_bytes-to_be_bytes_2 n low;
   below = λ bytes are. omega (arith, are 0, are 1);
 }
 
 pub wide32 : IsWide w32 (2 ^ 32)
 wide32 = record {
+  again = from_be_bytes-to_be_bytes_4;
   len = λ n. refl;
   back = λ bytes len are. be_bytes_4 bytes _ len are refl;
-  again = λ n low. from_be_bytes-to_be_bytes_4 n low;
   below = λ bytes are. omega (arith, are 0, are 1, are 2, are 3);
 }
 
 pub wide64 : IsWide w64 (2 ^ 64)
 wide64 = record {
+  again = from_be_bytes-to_be_bytes_8;
   len = λ n. refl;
   back = λ bytes len are. be_bytes_8 bytes _ len are refl;
-  again = λ n low. from_be_bytes-to_be_bytes_8 n low;
   below = λ bytes are. omega (arith, are 0, are 1, are 2, are 3, are 4, are 5, are 6, are 7);
 }
 

@@ -4,28 +4,31 @@ use Rattle.std.proofs.lemmas.List.{append-nil, drop-drop, drop_more, take-append
 use Rattle.std.specs.Int.{w16, w32, to_be_bytes}
 use Rattle.rignolda_wire.specs.Writing.{joined, with_text}
 
-past : (front rest : List ℕ) (m : ℕ) → drop (length front + m) (front ++ rest) ≡ drop m rest
-past front rest m = sym (drop-drop m (length front) (front ++ rest)) ∙ ap (drop m) (drop_at front rest (length front) refl)
+-- what is before the end of a text that was written, and what is after a place behind it
+kept_before : (buffer : List ℕ) (at : ℕ) (x : List ℕ) → at ≤ length buffer
+    → take (at + length x) (with_text buffer at x) ≡ take at buffer ++ x
+kept_before buffer at x within =
+    ap (take (at + length x)) (sym (append_assoc (take at buffer) x (drop (at + length x) buffer)))
+    ∙ take_at (take at buffer ++ x) (drop (at + length x) buffer) (at + length x) (omega (arith, length-append (take at buffer) x, length-take at buffer, within))
+
+kept_after : (buffer : List ℕ) (at : ℕ) (x : List ℕ) (more : ℕ) → at ≤ length buffer
+    → drop (at + length x + more) (with_text buffer at x) ≡ drop (at + length x + more) buffer
+kept_after buffer at x more within =
+    ap (drop (at + length x + more)) (sym (append_assoc (take at buffer) x (drop (at + length x) buffer)))
+    ∙ sym (drop-drop more (at + length x) ((take at buffer ++ x) ++ drop (at + length x) buffer))
+    ∙ ap (drop more) (drop_at (take at buffer ++ x) (drop (at + length x) buffer) (at + length x) (omega (arith, length-append (take at buffer) x, length-take at buffer, within)))
+    ∙ drop-drop more (at + length x) buffer
 
 -- two texts, the second where the first ends, are one
 pub with_both : (buffer : List ℕ) (at : ℕ) (x y : List ℕ) → at ≤ length buffer
     → with_text (with_text buffer at x) (at + length x) y ≡ with_text buffer at (x ++ y)
 with_both buffer at x y within =
-    let front : List ℕ = take at buffer ++ x in
-    let rest : List ℕ = drop (at + length x) buffer in
-    let sized : length front ≡ at + length x = omega (arith, length-append (take at buffer) x, length-take at buffer, within) in
-    let whole : with_text buffer at x ≡ front ++ rest = sym (append_assoc (take at buffer) x rest) in
-    let before : take (at + length x) (front ++ rest) ≡ front = take_at front rest (at + length x) sized in
-    let after : drop (at + length x + length y) (front ++ rest) ≡ drop (at + length x + length y) buffer =
-    ap (λ n. drop (n + length y) (front ++ rest)) (sym sized)
-    ∙ past front rest (length y)
-    ∙ drop-drop (length y) (at + length x) buffer in
-    let as_long : at + length x + length y ≡ at + length (x ++ y) = omega (arith, length-append x y) in
-    ap (λ b. take (at + length x) b ++ (y ++ drop (at + length x + length y) b)) whole
-    ∙ ap (λ (b : List ℕ). b ++ (y ++ drop (at + length x + length y) (front ++ rest))) before
-    ∙ ap (λ (b : List ℕ). front ++ (y ++ b)) (after ∙ ap (λ n. drop n buffer) as_long)
-    ∙ append_assoc (take at buffer) x (y ++ drop (at + length (x ++ y)) buffer)
-    ∙ ap (λ (b : List ℕ). take at buffer ++ b) (sym (append_assoc x y (drop (at + length (x ++ y)) buffer)))
+    let all : at + length x + length y ≡ at + length (x ++ y) = omega (arith, length-append x y) in
+    let after : List ℕ = drop (at + length x + length y) buffer in
+    ap (λ (front : List ℕ). front ++ (y ++ drop (at + length x + length y) (with_text buffer at x))) (kept_before buffer at x within)
+    ∙ ap (λ (rest : List ℕ). (take at buffer ++ x) ++ (y ++ rest)) (kept_after buffer at x (length y) within)
+    ∙ append_assoc (take at buffer) x (y ++ after)
+    ∙ ap (λ (text : List ℕ). take at buffer ++ text) (sym (append_assoc x y after) ∙ ap (λ n. (x ++ y) ++ drop n buffer) all)
 
 -- no text leaves the buffer as it is
 pub with_none : (buffer : List ℕ) (at : ℕ) → with_text buffer at [] ≡ buffer

@@ -9,7 +9,7 @@ use Rattle.rignolda_wire.specs.declared.refusal.Refusal.{Refusal}
 use Rattle.rignolda_wire.specs.declared.refusal.Refusal.TheVariants.{NotSaid, OtherName, NoChild, NoParent, Calls, Certificate, Full, Twin}
 use Rattle.rignolda_wire.specs.declared.said.Expect.{Expect}
 use Rattle.rignolda_wire.specs.declared.said.Expect.TheVariants.{Hello, Way, Frames, Acks}
-use Rattle.rignolda_wire.specs.Reading.{◌>>=◌, Reader, counted_at, fourth_at, give, greeting_at, greets_at, hello_at, letter_at, limited_at, message_at, names_at, number_at, parent_at, says_way_at, version_at, way_at}
+use Rattle.rignolda_wire.specs.Reading.{◌>>=◌, Reader, counted_at, fourth_at, give, greeting_at, hello_at, letter_at, limited_at, message_at, names_at, number_at, parent_at, version_at, way_at}
 use Rattle.rignolda_wire.specs.Refusals.{byte_of, is_look, reason, reason_or_none, refusal_of, refused, told, told_first, told_last}
 use Rattle.rignolda_wire.specs.Said.{Greeted, IsGreeting, IsMessage, Said, ack, asks, frame, goodbye, hello, lacks, refers, report, spelling, way}
 use Rattle.rignolda_wire.specs.Seen.{AreBytes}
@@ -43,7 +43,7 @@ last_understood Twin = refl
 
 -- no such front is refused, and more has to come
 pub first_waits : (why : Refusal) → message_at Hello (told_first why) ≡ Err More
-unfolding hello_at letter_at fourth_at greets_at greeting_at version_at
+unfolding hello_at letter_at fourth_at greeting_at version_at
 first_waits NotSaid = refl
 first_waits OtherName = refl
 first_waits NoChild = refl
@@ -54,7 +54,7 @@ first_waits Full = refl
 first_waits Twin = refl
 
 pub last_waits : (why : Refusal) → message_at Frames (told_last why) ≡ Err More
-unfolding parent_at says_way_at way_at names_at counted_at limited_at
+unfolding parent_at way_at names_at counted_at limited_at
 last_waits NotSaid = refl
 last_waits OtherName = refl
 last_waits NoChild = refl

@@ -37,6 +37,10 @@ refuse fault = λ bytes. Err fault
 abbrev pub wanted : {A : Type 0} → (A → Bool) → Fault → A → Reader A
 wanted test fault a = λ bytes. if test a then Ok (a, bytes) else Err fault
 
+-- what was read is a message of this kind
+abbrev pub kind_at : {A : Type 0} → (A → Said) → Reader A → Reader Said
+kind_at kind r = r >>= λ a. give (kind a)
+
 -- the first reader if so, else the second
 abbrev pub choose : {A : Type 0} → Bool → Reader A → Reader A → Reader A
 choose so r s = λ bytes. if so then r bytes else s bytes
@@ -92,17 +96,12 @@ greeting_at least = do
   to ← name_at is_name_or_none
   give (record { version = version; life = life; label = label; from = from; to = to })
 
-unfoldable pub greets_at : Bool → Reader Said
-greets_at is_look = do
-  greeting ← greeting_at (oldest is_look)
-  give (hello is_look greeting)
-
 -- what follows the first three letters
 unfoldable pub fourth_at : Reader Said
 fourth_at = do
   letter ← byte_at
-  choose (letter == 76) (greets_at true)
-      (choose (letter == 68) (greets_at false) (refuse NoHello))
+  choose (letter == 76) (kind_at (hello true) (greeting_at (oldest true)))
+      (choose (letter == 68) (kind_at (hello false) (greeting_at (oldest false))) (refuse NoHello))
 
 unfoldable pub hello_at : Reader Said
 hello_at = do
@@ -139,57 +138,27 @@ reference_at = do
   digest ← text_at digest_len
   give (record { label = label; item = item; len = len; head = head; digest = digest })
 
-unfoldable pub says_way_at : Reader Said
-says_way_at = do
-  w ← way_at
-  give (way w)
-
-unfoldable pub says_frame_at : Reader Said
-says_frame_at = do
-  f ← frame_at
-  give (frame f)
-
-unfoldable pub says_reference_at : Reader Said
-says_reference_at = do
-  r ← reference_at
-  give (refers r)
-
 unfoldable pub candidate_at : Reader Said
 candidate_at = do
   letter ← byte_at
-  choose (letter == 87) says_way_at (refuse NoMessage)
+  choose (letter == 87) (kind_at way way_at) (refuse NoMessage)
 
 unfoldable pub parent_at : Reader Said
 parent_at = do
   letter ← byte_at
-  choose (letter == 70) says_frame_at
-      (choose (letter == 68) says_reference_at
-      (choose (letter == 87) says_way_at
+  choose (letter == 70) (kind_at frame frame_at)
+      (choose (letter == 68) (kind_at refers reference_at)
+      (choose (letter == 87) (kind_at way way_at)
       (choose (letter == 81) (give asks) (refuse NoMessage))))
 
 -- ---- what a child says
 
-unfoldable pub ack_at : Reader Said
-ack_at = do
-  label ← number_at w16
-  give (ack label)
-
-unfoldable pub lacks_at : Reader Said
-lacks_at = do
-  label ← number_at w16
-  give (lacks label)
-
-unfoldable pub report_at : Reader Said
-report_at = do
-  text ← counted_at w32 report_limit LongReport
-  give (report text)
-
 unfoldable pub child_at : Reader Said
 child_at = do
   letter ← byte_at
-  choose (letter == 65) ack_at
-      (choose (letter == 78) lacks_at
-      (choose (letter == 82) report_at
+  choose (letter == 65) (kind_at ack (number_at w16))
+      (choose (letter == 78) (kind_at lacks (number_at w16))
+      (choose (letter == 82) (kind_at report (counted_at w32 report_limit LongReport))
       (choose (letter == 71) (give goodbye) (refuse NoMessage))))
 
 -- the message in front of the bytes

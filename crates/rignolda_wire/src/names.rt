@@ -22,14 +22,7 @@ fn is_name_byte(byte: u8) -> bool
 fn are_name_bytes(bytes: &[u8]) -> bool
     ensures { result ≡ list_all is_name_byte bytes.now }
 {
-    let mut rest = bytes;
-    while let [first, others @ ..] = rest {
-        if !is_name_byte(*first) {
-            return false;
-        }
-        rest = others;
-    }
-    true
+    bytes.iter().all(|byte| is_name_byte(*byte))
 }
 
 /// Whether this may be the name of an agent: 1 to 64 letters, digits, `.`, `_` and `-`, with no dot

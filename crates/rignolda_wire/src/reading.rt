@@ -1,4 +1,4 @@
-ghost use Rattle.std.specs.Prelude.{◌≡◌, List, Ok, Err};
+ghost use Rattle.std.specs.Prelude.{◌≡◌, List, MatchResult, Ok, Err};
 ghost use Rattle.std.specs.Int.{w16};
 ghost use Rattle.rignolda_wire.specs.Names.{is_name, is_name_or_none};
 ghost use Rattle.rignolda_wire.specs.Said.{way_limit};
@@ -113,7 +113,7 @@ fn greeting_at(least: u8, bytes: &[u8]) -> Result<(Greeting<'_>, &[u8]), Fault>
     Ok((greeting, rest))
 }
 
-#[tactic(auto, unfolding(crate::specs::Reading::fourth_at, crate::specs::Reading::greets_at))]
+#[tactic(auto, unfolding(crate::specs::Reading::fourth_at))]
 fn fourth_at(bytes: &[u8]) -> Result<(Message<'_>, &[u8]), Fault>
     ensures { Reads (λ x. (said_of x.0, x.1.now)) result (reads.fourth_at bytes.now) }
 {
@@ -208,39 +208,18 @@ fn reference_at(bytes: &[u8]) -> Result<(Reference<'_>, &[u8]), Fault>
     Ok((reference, rest))
 }
 
-#[tactic(auto, unfolding(crate::specs::Reading::says_way_at))]
-fn says_way_at(bytes: &[u8]) -> Result<(Message<'_>, &[u8]), Fault>
-    ensures { Reads (λ x. (said_of x.0, x.1.now)) result (reads.says_way_at bytes.now) }
-{
-    let (way, rest) = way_at(bytes)?;
-    Ok((Message::Way(way), rest))
-}
-
 #[tactic(auto, unfolding(crate::specs::Reading::candidate_at))]
 fn candidate_at(bytes: &[u8]) -> Result<(Message<'_>, &[u8]), Fault>
     ensures { Reads (λ x. (said_of x.0, x.1.now)) result (reads.candidate_at bytes.now) }
 {
     let (byte, rest) = byte_at(bytes)?;
     match byte {
-        b'W' => says_way_at(rest),
+        b'W' => {
+            let (way, rest) = way_at(rest)?;
+            Ok((Message::Way(way), rest))
+        }
         _ => Err(Fault::NoMessage),
     }
-}
-
-#[tactic(auto, unfolding(crate::specs::Reading::says_frame_at))]
-fn says_frame_at(bytes: &[u8]) -> Result<(Message<'_>, &[u8]), Fault>
-    ensures { Reads (λ x. (said_of x.0, x.1.now)) result (reads.says_frame_at bytes.now) }
-{
-    let (frame, rest) = frame_at(bytes)?;
-    Ok((Message::Frame(frame), rest))
-}
-
-#[tactic(auto, unfolding(crate::specs::Reading::says_reference_at))]
-fn says_reference_at(bytes: &[u8]) -> Result<(Message<'_>, &[u8]), Fault>
-    ensures { Reads (λ x. (said_of x.0, x.1.now)) result (reads.says_reference_at bytes.now) }
-{
-    let (reference, rest) = reference_at(bytes)?;
-    Ok((Message::Reference(reference), rest))
 }
 
 #[tactic(auto, unfolding(crate::specs::Reading::parent_at))]
@@ -249,9 +228,18 @@ fn parent_at(bytes: &[u8]) -> Result<(Message<'_>, &[u8]), Fault>
 {
     let (byte, rest) = byte_at(bytes)?;
     match byte {
-        b'F' => says_frame_at(rest),
-        b'D' => says_reference_at(rest),
-        b'W' => says_way_at(rest),
+        b'F' => {
+            let (frame, rest) = frame_at(rest)?;
+            Ok((Message::Frame(frame), rest))
+        }
+        b'D' => {
+            let (reference, rest) = reference_at(rest)?;
+            Ok((Message::Reference(reference), rest))
+        }
+        b'W' => {
+            let (way, rest) = way_at(rest)?;
+            Ok((Message::Way(way), rest))
+        }
         b'Q' => Ok((Message::ReportRequest, rest)),
         _ => Err(Fault::NoMessage),
     }
@@ -259,39 +247,24 @@ fn parent_at(bytes: &[u8]) -> Result<(Message<'_>, &[u8]), Fault>
 
 // ---- What a child says
 
-#[tactic(auto, unfolding(crate::specs::Reading::ack_at))]
-fn ack_at(bytes: &[u8]) -> Result<(Message<'_>, &[u8]), Fault>
-    ensures { Reads (λ x. (said_of x.0, x.1.now)) result (reads.ack_at bytes.now) }
-{
-    let (label, rest) = u16_at(bytes)?;
-    Ok((Message::Ack(label), rest))
-}
-
-#[tactic(auto, unfolding(crate::specs::Reading::lacks_at))]
-fn lacks_at(bytes: &[u8]) -> Result<(Message<'_>, &[u8]), Fault>
-    ensures { Reads (λ x. (said_of x.0, x.1.now)) result (reads.lacks_at bytes.now) }
-{
-    let (label, rest) = u16_at(bytes)?;
-    Ok((Message::Lacks(label), rest))
-}
-
-#[tactic(auto, unfolding(crate::specs::Reading::report_at))]
-fn report_at(bytes: &[u8]) -> Result<(Message<'_>, &[u8]), Fault>
-    ensures { Reads (λ x. (said_of x.0, x.1.now)) result (reads.report_at bytes.now) }
-{
-    let (report, rest) = counted_at(REPORT_LIMIT, Fault::LongReport, bytes)?;
-    Ok((Message::Report(report), rest))
-}
-
 #[tactic(auto, unfolding(crate::specs::Reading::child_at))]
 fn child_at(bytes: &[u8]) -> Result<(Message<'_>, &[u8]), Fault>
     ensures { Reads (λ x. (said_of x.0, x.1.now)) result (reads.child_at bytes.now) }
 {
     let (byte, rest) = byte_at(bytes)?;
     match byte {
-        b'A' => ack_at(rest),
-        b'N' => lacks_at(rest),
-        b'R' => report_at(rest),
+        b'A' => {
+            let (label, rest) = u16_at(rest)?;
+            Ok((Message::Ack(label), rest))
+        }
+        b'N' => {
+            let (label, rest) = u16_at(rest)?;
+            Ok((Message::Lacks(label), rest))
+        }
+        b'R' => {
+            let (report, rest) = counted_at(REPORT_LIMIT, Fault::LongReport, rest)?;
+            Ok((Message::Report(report), rest))
+        }
         b'G' => Ok((Message::Goodbye, rest)),
         _ => Err(Fault::NoMessage),
     }
@@ -300,7 +273,9 @@ fn child_at(bytes: &[u8]) -> Result<(Message<'_>, &[u8]), Fault>
 /// The message in front of what came, and the bytes after it; or that more has to come, or why it
 /// is none.
 pub fn message(expect: Expect, bytes: &[u8]) -> Result<(Message<'_>, &[u8]), Fault>
-    ensures { Reads (λ x. (said_of x.0, x.1.now)) result (reads.message_at expect bytes.now) }
+    ensures { MatchResult result
+        (λ x. reads.message_at expect bytes.now ≡ Ok (said_of x.0, x.1.now))
+        (λ fault. reads.message_at expect bytes.now ≡ Err fault) }
 {
     match expect {
         Expect::Hello => hello_at(bytes),
