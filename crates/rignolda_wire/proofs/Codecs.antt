@@ -1,6 +1,6 @@
 -- A reader and the spelling that it reads: what it says of any bytes. Of readers one after the other
 -- this follows from what holds of each.
-use Rattle.std.proofs.Common.{◌≡◌, ◌≢◌, ℕ, suc, ◌+◌, ◌<◌, ◌≤◌, ◌⊎◌, inl, inr, Bool, true, false, cond, List, [], ◌∷◌, ◌++◌, length, Result, Ok, Err, refl, sym, ap, subst, ◌∙◌, append_assoc, arith}
+use Rattle.std.proofs.Common.{◌≡◌, ◌≢◌, ℕ, ◌+◌, ◌<◌, ◌≤◌, inl, inr, Bool, true, false, List, [], ◌++◌, length, Result, Ok, Err, refl, sym, ap, subst, ◌∙◌, append_assoc, arith}
 use Rattle.rignolda_wire.specs.declared.fault.Fault.{Fault}
 use Rattle.rignolda_wire.specs.declared.fault.Fault.TheVariants.{More}
 use Rattle.rignolda_wire.specs.Reading.{◌>>=◌, Reader, choose, give, read_on, refuse, wanted}

@@ -1,13 +1,13 @@
 -- What the reader of hellos does.
-use Rattle.std.proofs.Common.{◌≡◌, ◌≢◌, ℕ, ◌+◌, ◌^◌, ◌<◌, ◌≤◌, Bool, true, false, List, [], ◌∷◌, ◌++◌, length, refl, sym, ◌∙◌, arith}
-use Rattle.std.specs.Prelude.{◌==◌, nat_le}
-use Rattle.std.specs.Int.{w16, w32, w64, to_be_bytes}
+use Rattle.std.proofs.Common.{◌≡◌, ℕ, ◌^◌, ◌<◌, Bool, true, false, List, [], ◌∷◌, refl, sym, arith}
+use Rattle.std.specs.Prelude.{◌==◌}
+use Rattle.std.specs.Int.{w16, w64}
 use Rattle.std.proofs.lemmas.Bool.{eqb-false, eqb-true, le-leb, leb-true}
 use Rattle.rignolda_wire.specs.declared.fault.Fault.TheVariants.{NoHello}
 use Rattle.rignolda_wire.specs.declared.said.Expect.TheVariants.{Hello}
 use Rattle.rignolda_wire.specs.Names.{is_name, is_name_or_none}
-use Rattle.rignolda_wire.specs.Reading.{◌>>=◌, Reader, choose, fourth_at, give, greeting_at, hello_at, kind_at, letter_at, name_at, number_at, refuse, version_at}
-use Rattle.rignolda_wire.specs.Said.{Greeted, IsGreeting, IsMessage, Said, ack, asks, fourth, frame, goodbye, greeting_bytes, hello, lacks, name_bytes, oldest, refers, report, spelling, way}
+use Rattle.rignolda_wire.specs.Reading.{◌>>=◌, Reader, choose, fourth_at, give, greeting_at, hello_at, kind_at, letter_at, name_at, number_at, refuse}
+use Rattle.rignolda_wire.specs.Said.{Greeted, IsGreeting, IsMessage, Said, fourth, greeting_bytes, hello, name_bytes, oldest, spelling}
 use Rattle.rignolda_wire.proofs.Codecs.{Any, IsCodec, codec_after, codec_choose, codec_like, codec_map, codec_refuse}
 use Rattle.rignolda_wire.proofs.Parts.{codec_byte, codec_number, wide16, wide64}
 use Rattle.rignolda_wire.proofs.Others.{codec_behind, codec_name, codec_version, name_short, no_hello, short_or_none}

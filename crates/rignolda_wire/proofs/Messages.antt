@@ -1,18 +1,42 @@
 -- What the readers of all other messages do, and that of any message.
-use Rattle.std.proofs.Common.{◌≡◌, ◌≢◌, ℕ, ◌+◌, ◌^◌, ◌<◌, ◌≤◌, ◌⊎◌, inl, inr, Bool, true, false, List, [], ◌∷◌, ◌++◌, length, refl, sym, ◌∙◌, arith}
-use Rattle.std.specs.Prelude.{◌==◌, ◌&&◌}
-use Rattle.std.specs.Int.{w16, w32, w64, to_be_bytes}
+use Rattle.std.proofs.Common.{◌≡◌, ℕ, ◌+◌, ◌^◌, ◌<◌, ◌≤◌, ◌⊎◌, inl, inr, true, false, List, [], ◌++◌, length, refl, sym, ◌∙◌, arith}
+use Rattle.std.specs.Prelude.{◌==◌}
+use Rattle.std.specs.Int.{w16, w32, to_be_bytes}
 use Rattle.std.proofs.lemmas.Bool.{eqb-false, eqb-true}
 use Rattle.rignolda_wire.specs.declared.fault.Fault.TheVariants.{LongBody, LongReport, LongWay, NoMessage, NoNameOfWay}
 use Rattle.rignolda_wire.specs.declared.said.Expect.{Expect}
 use Rattle.rignolda_wire.specs.declared.said.Expect.TheVariants.{Hello, Way, Frames, Acks}
 use Rattle.rignolda_wire.specs.Names.{are_few, are_names}
-use Rattle.rignolda_wire.specs.Reading.{◌>>=◌, Reader, byte_at, candidate_at, child_at, choose, counted_at, frame_at, give, kind_at, limited_at, message_at, names_at, number_at, parent_at, reference_at, refuse, text_at, wanted, way_at}
-use Rattle.rignolda_wire.specs.Said.{Framed, IsFrame, IsMessage, IsReference, IsWay, Referred, Routed, Said, ack, after_letter, asks, body_limit, digest_len, frame, frame_bytes, goodbye, head_len, hello, lacks, letter, most, reference_bytes, refers, report, report_bytes, report_limit, spelling, way, way_bytes, way_limit}
+use Rattle.rignolda_wire.specs.Reading.{◌>>=◌, Reader, byte_at, candidate_at, child_at, choose, counted_at, frame_at, give, kind_at, limited_at, message_at, names_at, number_at, parent_at, reference_at, refuse, text_at, way_at}
+use Rattle.rignolda_wire.specs.Said.{Framed, IsFrame, IsMessage, IsReference, IsWay, Referred, Routed, Said, ack, after_letter, asks, body_limit, digest_len, frame, frame_bytes, goodbye, head_len, lacks, letter, most, reference_bytes, refers, report, report_limit, spelling, way, way_bytes, way_limit}
 use Rattle.rignolda_wire.proofs.Codecs.{Any, IsCodec, codec_after, codec_choose, codec_give, codec_like, codec_map, codec_refuse, codec_wanted}
 use Rattle.rignolda_wire.proofs.Parts.{codec_byte, codec_number, codec_text, wide16, wide32}
 use Rattle.rignolda_wire.proofs.Others.{codec_counted, codec_limited, long_body, long_report, long_way, no_message, no_name_of_way}
 use Rattle.rignolda_wire.proofs.Hellos.{codec_hello}
+
+-- ---- a message by its first letter
+
+abbrev First : ℕ → Said → Type 0
+First first m = (letter m ≡ first) × Any m
+
+-- the messages of a letter are those of one kind: that letter has no others among those that may come
+abbrev IsKind : Expect → ℕ → (A : Type 0) → (A → Said) → (A → Type 0) → Type 0
+IsKind expect first A kind Good = (m : Said) → letter m ≡ first → IsMessage expect m → (a : A) × (m ≡ kind a) × Good a
+
+codec_kind : {A : Type 0} {GA : A → Type 0} {sa : A → List ℕ} {j k : ℕ} {r : Reader A} (expect : Expect) (first one : ℕ) (kind : A → Said)
+    → (first == one) ≡ true → j ≤ k → IsCodec A Any GA sa j r
+    → ((a : A) → GA a → (letter (kind a) ≡ one) × IsMessage expect (kind a) × (after_letter (kind a) ≡ sa a))
+    → IsKind expect one A kind GA
+    → IsCodec Said (First first) (IsMessage expect) after_letter k (kind_at kind r)
+codec_kind expect first one kind is less c into back =
+    let e : first ≡ one = eqb-true first one is in
+    codec_like
+    (codec_map (First first) (IsMessage expect) after_letter kind c
+    (λ a good. let (begins, may, spelled) = into a good in ((begins ∙ sym e, tt), may, spelled))
+    (λ m known may. back m (known.0 ∙ e) may))
+    less
+    (λ m known may. (known, may, refl))
+    (λ m known may. (known, may))
 
 -- ---- ways
 
@@ -43,6 +67,17 @@ codec_way =
     (λ w known good. (tt, record { cost = good.0; short = good.1.0.0; few = good.1.0.1; each = good.1.1 }, refl))
     (λ w known is. (tt, (is.cost, ((is.short, is.few), is.each))))
 
+way_of_candidate : IsKind Way 87 Routed way IsWay
+way_of_candidate (way w) begins may = (w, refl, may)
+way_of_candidate m begins may = absurd may
+
+way_of_parent : IsKind Frames 87 Routed way IsWay
+way_of_parent (way w) begins may = (w, refl, may)
+way_of_parent (frame f) begins may = absurd (omega (arith, begins))
+way_of_parent (refers r) begins may = absurd (omega (arith, begins))
+way_of_parent asks begins may = absurd (omega (arith, begins))
+way_of_parent m begins may = absurd may
+
 -- ---- frames
 
 abbrev frames : ℕ → ℕ → List ℕ → Framed
@@ -63,6 +98,13 @@ codec_frame =
     (omega arith)
     (λ f known good. (tt, record { label = good.0; item = good.1.0; short = good.1.1 }, refl))
     (λ f known is. (tt, (is.label, (is.item, is.short))))
+
+frame_of_parent : IsKind Frames 70 Framed frame IsFrame
+frame_of_parent (frame f) begins may = (f, refl, may)
+frame_of_parent (way w) begins may = absurd (omega (arith, begins))
+frame_of_parent (refers r) begins may = absurd (omega (arith, begins))
+frame_of_parent asks begins may = absurd (omega (arith, begins))
+frame_of_parent m begins may = absurd may
 
 -- ---- references
 
@@ -99,35 +141,14 @@ codec_reference =
     (λ r known good. (tt, record { label = good.0; item = good.1.0; short = good.1.1.0; head = good.1.1.1.0; digest = good.1.1.1.1 }, refl))
     (λ r known is. (tt, (is.label, (is.item, (is.short, (is.head, is.digest))))))
 
--- ---- a message by its first letter
-
-abbrev First : ℕ → Said → Type 0
-First first m = (letter m ≡ first) × Any m
-
--- the messages of a letter are those of one kind: that letter has no others among those that may come
-abbrev IsKind : Expect → ℕ → (A : Type 0) → (A → Said) → (A → Type 0) → Type 0
-IsKind expect first A kind Good = (m : Said) → letter m ≡ first → IsMessage expect m → (a : A) × (m ≡ kind a) × Good a
-
-codec_kind : {A : Type 0} {GA : A → Type 0} {sa : A → List ℕ} {j k : ℕ} {r : Reader A} (expect : Expect) (first one : ℕ) (kind : A → Said)
-    → (first == one) ≡ true → j ≤ k → IsCodec A Any GA sa j r
-    → ((a : A) → GA a → (letter (kind a) ≡ one) × IsMessage expect (kind a) × (after_letter (kind a) ≡ sa a))
-    → IsKind expect one A kind GA
-    → IsCodec Said (First first) (IsMessage expect) after_letter k (kind_at kind r)
-codec_kind expect first one kind is less c into back =
-    let e : first ≡ one = eqb-true first one is in
-    codec_like
-    (codec_map (First first) (IsMessage expect) after_letter kind c
-    (λ a good. let (begins, may, spelled) = into a good in ((begins ∙ sym e, tt), may, spelled))
-    (λ m known may. back m (known.0 ∙ e) may))
-    less
-    (λ m known may. (known, may, refl))
-    (λ m known may. (known, may))
+reference_of_parent : IsKind Frames 68 Referred refers IsReference
+reference_of_parent (refers r) begins may = (r, refl, may)
+reference_of_parent (frame f) begins may = absurd (omega (arith, begins))
+reference_of_parent (way w) begins may = absurd (omega (arith, begins))
+reference_of_parent asks begins may = absurd (omega (arith, begins))
+reference_of_parent m begins may = absurd may
 
 -- ---- what a candidate says
-
-way_of_candidate : IsKind Way 87 Routed way IsWay
-way_of_candidate (way w) begins may = (w, refl, may)
-way_of_candidate m begins may = absurd may
 
 none_of_candidate : (first : ℕ) → (first == 87) ≡ false → (m : Said) → First first m → IsMessage Way m → ⊥
 none_of_candidate first no_way (way w) known may = eqb-false first 87 no_way (sym known.0)
@@ -211,27 +232,6 @@ among_parents (way w) may = inr (inl refl)
 among_parents asks may = inr (inr refl)
 among_parents m may = absurd may
 
-frame_of_parent : IsKind Frames 70 Framed frame IsFrame
-frame_of_parent (frame f) begins may = (f, refl, may)
-frame_of_parent (way w) begins may = absurd (omega (arith, begins))
-frame_of_parent (refers r) begins may = absurd (omega (arith, begins))
-frame_of_parent asks begins may = absurd (omega (arith, begins))
-frame_of_parent m begins may = absurd may
-
-reference_of_parent : IsKind Frames 68 Referred refers IsReference
-reference_of_parent (refers r) begins may = (r, refl, may)
-reference_of_parent (frame f) begins may = absurd (omega (arith, begins))
-reference_of_parent (way w) begins may = absurd (omega (arith, begins))
-reference_of_parent asks begins may = absurd (omega (arith, begins))
-reference_of_parent m begins may = absurd may
-
-way_of_parent : IsKind Frames 87 Routed way IsWay
-way_of_parent (way w) begins may = (w, refl, may)
-way_of_parent (frame f) begins may = absurd (omega (arith, begins))
-way_of_parent (refers r) begins may = absurd (omega (arith, begins))
-way_of_parent asks begins may = absurd (omega (arith, begins))
-way_of_parent m begins may = absurd may
-
 asks_of_parent : (m : Said) → letter m ≡ 81 → IsMessage Frames m → m ≡ asks
 asks_of_parent asks begins may = refl
 asks_of_parent (frame f) begins may = absurd (omega (arith, begins))
@@ -265,6 +265,13 @@ IsLabel label = label < 2 ^ 16
 abbrev IsReport : List ℕ → Type 0
 IsReport text = length text ≤ report_limit
 
+goodbye_of_child : (m : Said) → letter m ≡ 71 → IsMessage Acks m → m ≡ goodbye
+goodbye_of_child goodbye begins may = refl
+goodbye_of_child (ack label) begins may = absurd (omega (arith, begins))
+goodbye_of_child (lacks label) begins may = absurd (omega (arith, begins))
+goodbye_of_child (report text) begins may = absurd (omega (arith, begins))
+goodbye_of_child m begins may = absurd may
+
 ack_of_child : IsKind Acks 65 ℕ ack IsLabel
 ack_of_child (ack label) begins may = (label, refl, may)
 ack_of_child (lacks label) begins may = absurd (omega (arith, begins))
@@ -285,13 +292,6 @@ report_of_child (ack label) begins may = absurd (omega (arith, begins))
 report_of_child (lacks label) begins may = absurd (omega (arith, begins))
 report_of_child goodbye begins may = absurd (omega (arith, begins))
 report_of_child m begins may = absurd may
-
-goodbye_of_child : (m : Said) → letter m ≡ 71 → IsMessage Acks m → m ≡ goodbye
-goodbye_of_child goodbye begins may = refl
-goodbye_of_child (ack label) begins may = absurd (omega (arith, begins))
-goodbye_of_child (lacks label) begins may = absurd (omega (arith, begins))
-goodbye_of_child (report text) begins may = absurd (omega (arith, begins))
-goodbye_of_child m begins may = absurd may
 
 codec_child : IsCodec Said Any (IsMessage Acks) spelling 1048581 child_at
 unfolding child_at

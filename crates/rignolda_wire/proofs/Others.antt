@@ -7,7 +7,7 @@ use Rattle.std.proofs.lemmas.Bool.{eqb-true, le-leb, leb-true}
 use Rattle.rignolda_wire.specs.declared.fault.Fault.{Fault}
 use Rattle.rignolda_wire.specs.declared.fault.Fault.TheVariants.{More, NoHello, NoVersion, NoName, NoMessage, LongBody, LongWay, NoNameOfWay, LongReport}
 use Rattle.rignolda_wire.specs.Names.{begins_well, is_name, is_name_byte, is_name_or_none, name_limit}
-use Rattle.rignolda_wire.specs.Reading.{◌>>=◌, Reader, byte_at, counted_at, letter_at, limited_at, name_at, name_len_at, number_at, text_at, version_at, wanted}
+use Rattle.rignolda_wire.specs.Reading.{◌>>=◌, Reader, counted_at, letter_at, limited_at, name_at, name_len_at, text_at, version_at, wanted}
 use Rattle.rignolda_wire.specs.Said.{name_bytes}
 use Rattle.rignolda_wire.proofs.Codecs.{Any, IsCodec, codec_after, codec_like, codec_wanted}
 use Rattle.rignolda_wire.proofs.Parts.{IsWide, codec_byte, codec_number, codec_text}

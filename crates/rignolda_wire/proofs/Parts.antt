@@ -1,16 +1,15 @@
 -- Fields: bytes, numbers, texts of so many bytes, names.
-use Rattle.std.proofs.Common.{◌≡◌, ◌≢◌, ℕ, suc, ◌+◌, ◌^◌, ◌<◌, ◌≤◌, ◌⊎◌, inl, inr, Bool, true, false, cond, ltb, List, [], ◌∷◌, ◌++◌, length, take, drop, Result, Ok, Err, refl, sym, ap, subst, ◌∙◌, append_assoc, arith}
-use Rattle.std.specs.Prelude.{◌==◌, ◌&&◌, nat_le}
+use Rattle.std.proofs.Common.{◌≡◌, ◌≢◌, ℕ, suc, ◌+◌, ◌^◌, ◌<◌, ◌≤◌, inl, inr, false, ltb, List, [], ◌∷◌, ◌++◌, length, take, drop, Ok, Err, refl, sym, ap, subst, ◌∙◌, arith}
 use Rattle.std.specs.Int.{Width, w16, w32, w64, byte_len, from_be_bytes, to_be_bytes}
 use Rattle.std.proofs.lemmas.Bool.{cases_lt, ltb-false, ltb-true, le-ltb}
 use Rattle.std.proofs.lemmas.List.{take_at, drop_at, take-append-drop, length-append, length-take, get_or-drop, get_or-take, get_or_past}
 use Rattle.std.proofs.lemmas.Nat.{be_bytes_2, be_bytes_4, be_bytes_8, from_be_bytes-to_be_bytes_2, from_be_bytes-to_be_bytes_4, from_be_bytes-to_be_bytes_8}
 use Rattle.rignolda_wire.specs.declared.fault.Fault.{Fault}
 use Rattle.rignolda_wire.specs.declared.fault.Fault.TheVariants.{More}
-use Rattle.rignolda_wire.specs.Reading.{byte_at, counted_at, limited_at, number_at, text_at}
+use Rattle.rignolda_wire.specs.Reading.{byte_at, number_at, text_at}
 use Rattle.rignolda_wire.specs.Seen.{AreBytes}
 use Rattle.rignolda_wire.proofs.Steps.{enough, not_enough, same}
-use Rattle.rignolda_wire.proofs.Codecs.{Any, IsCodec, IsTold, codec_after, codec_like, codec_wanted}
+use Rattle.rignolda_wire.proofs.Codecs.{Any, IsCodec, IsTold}
 
 pub bytes_after : (n : ℕ) (bytes : List ℕ) → AreBytes bytes → AreBytes (drop n bytes)
 bytes_after n bytes are i = rw get_or-drop (are (n + i))

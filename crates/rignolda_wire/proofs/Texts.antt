@@ -1,7 +1,6 @@
 -- Texts that are written into a buffer one after the other.
-use Rattle.std.proofs.Common.{Bor, ◌≡◌, ℕ, ◌+◌, ◌<◌, ◌≤◌, List, [], ◌∷◌, ◌++◌, length, map, get_or, take, drop, refl, sym, ap, ◌∙◌, append_assoc, arith}
+use Rattle.std.proofs.Common.{Bor, ◌≡◌, ℕ, ◌+◌, ◌<◌, ◌≤◌, List, [], ◌++◌, length, map, get_or, take, drop, sym, ap, ◌∙◌, append_assoc, arith}
 use Rattle.std.proofs.lemmas.List.{append-nil, drop-drop, drop_more, take-append-drop, take_at, drop_at, length-append, length-take}
-use Rattle.std.specs.Int.{w16, w32, to_be_bytes}
 use Rattle.rignolda_wire.specs.Writing.{joined, with_text}
 
 -- what is before the end of a text that was written, and what is after a place behind it

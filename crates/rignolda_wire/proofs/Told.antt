@@ -1,20 +1,20 @@
 -- What is told to an end that is refused, and the words of links in stores.
-use Rattle.std.proofs.Common.{◌≡◌, ◌≢◌, ℕ, ◌+◌, ◌^◌, ◌<◌, ◌⊎◌, inl, inr, Bool, true, false, cond, List, [], ◌∷◌, ◌++◌, length, Option, Some, None, Result, Ok, Err, refl, sym, ap, subst, ◌∙◌, arith}
+use Rattle.std.proofs.Common.{◌≡◌, ◌≢◌, ℕ, ◌^◌, ◌<◌, ◌⊎◌, inl, inr, Bool, true, false, cond, List, [], ◌∷◌, ◌++◌, Option, Some, None, Result, Ok, Err, refl, sym, ap, ◌∙◌, arith}
 use Rattle.std.specs.Prelude.{◌==◌, ◌&&◌}
-use Rattle.std.specs.Int.{w16, w32, to_be_bytes, from_be_bytes}
+use Rattle.std.specs.Int.{w16, w32, to_be_bytes}
 use Rattle.std.proofs.lemmas.Bool.{eqb-true}
 use Rattle.rignolda_wire.specs.declared.fault.Fault.{Fault}
 use Rattle.rignolda_wire.specs.declared.fault.Fault.TheVariants.{More}
 use Rattle.rignolda_wire.specs.declared.refusal.Refusal.{Refusal}
 use Rattle.rignolda_wire.specs.declared.refusal.Refusal.TheVariants.{NotSaid, OtherName, NoChild, NoParent, Calls, Certificate, Full, Twin}
 use Rattle.rignolda_wire.specs.declared.said.Expect.{Expect}
-use Rattle.rignolda_wire.specs.declared.said.Expect.TheVariants.{Hello, Way, Frames, Acks}
+use Rattle.rignolda_wire.specs.declared.said.Expect.TheVariants.{Hello, Frames}
 use Rattle.rignolda_wire.specs.Reading.{◌>>=◌, Reader, counted_at, fourth_at, give, greeting_at, hello_at, letter_at, limited_at, message_at, names_at, number_at, parent_at, version_at, way_at}
 use Rattle.rignolda_wire.specs.Refusals.{byte_of, is_look, reason, reason_or_none, refusal_of, refused, told, told_first, told_last}
-use Rattle.rignolda_wire.specs.Said.{Greeted, IsGreeting, IsMessage, Said, ack, asks, frame, goodbye, hello, lacks, refers, report, spelling, way}
+use Rattle.rignolda_wire.specs.Said.{Greeted, IsGreeting, Said, ack, asks, frame, goodbye, hello, lacks, refers, report, spelling, way}
 use Rattle.rignolda_wire.specs.Seen.{AreBytes}
-use Rattle.rignolda_wire.specs.Words.{Headed, first_of, head_at, head_of, headed_bytes, hello_of, reports_of, word_at}
-use Rattle.rignolda_wire.proofs.Codecs.{Any, IsCodec, codec_after, codec_like, codec_map}
+use Rattle.rignolda_wire.specs.Words.{Headed, first_of, head_at, head_of, headed_bytes, hello_of, word_at}
+use Rattle.rignolda_wire.proofs.Codecs.{Any, IsCodec, codec_after, codec_map}
 use Rattle.rignolda_wire.proofs.Parts.{codec_number, wide16, wide32}
 use Rattle.rignolda_wire.proofs.Others.{codec_behind}
 use Rattle.rignolda_wire.proofs.Fronts.{again, spelled}

@@ -4,11 +4,11 @@
 -- of its hello.
 -- Source: this project's own.
 use Rattle.std.specs.Prelude.{Bool, ℕ, ◌==◌, ◌&&◌, if◌then◌else◌}
-use Rattle.std.specs.Prelude.{List, [], ◌∷◌, ◌++◌, Option, Some, None}
+use Rattle.std.specs.Prelude.{List, [], ◌∷◌, Option, Some, None}
 use Rattle.rignolda_wire.specs.declared.refusal.Refusal.{Refusal}
 use Rattle.rignolda_wire.specs.declared.refusal.Refusal.TheVariants.{NotSaid, OtherName, NoChild, NoParent, Calls, Certificate, Full, Twin}
 use Rattle.rignolda_wire.specs.declared.said.Expect.{Expect}
-use Rattle.rignolda_wire.specs.declared.said.Expect.TheVariants.{Hello, Way, Frames, Acks}
+use Rattle.rignolda_wire.specs.declared.said.Expect.TheVariants.{Hello, Frames}
 
 -- the byte of a reason
 abbrev pub byte_of : Refusal → ℕ

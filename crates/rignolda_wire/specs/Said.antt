@@ -7,7 +7,7 @@ use Rattle.std.specs.Prelude.{List, [], ◌∷◌, ◌++◌, length}
 use Rattle.std.specs.Int.{w16, w32, w64, to_be_bytes}
 use Rattle.rignolda_wire.specs.declared.said.Expect.{Expect}
 use Rattle.rignolda_wire.specs.declared.said.Expect.TheVariants.{Hello, Way, Frames, Acks}
-use Rattle.rignolda_wire.specs.Names.{are_few, are_names, is_name, is_name_or_none, name_limit}
+use Rattle.rignolda_wire.specs.Names.{are_few, are_names, is_name, is_name_or_none}
 
 -- what an end says first
 pub record Greeted : Type 0 where

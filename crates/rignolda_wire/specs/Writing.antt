@@ -5,7 +5,7 @@ use Rattle.std.specs.Prelude.{ℕ, ◌+◌, ◌==◌, nat_le, ◌&&◌, Bool, tr
 use Rattle.std.specs.Prelude.{List, [], ◌∷◌, ◌++◌, length, take, drop, Option, Some, None}
 use Rattle.std.specs.Int.{w16, w32, to_be_bytes}
 use Rattle.rignolda_wire.specs.Names.{name_limit}
-use Rattle.rignolda_wire.specs.Said.{Framed, Routed, Said, ack, after_letter, asks, body_limit, digest_len, frame, goodbye, head_len, hello, lacks, letter, refers, report, report_limit, way, way_limit}
+use Rattle.rignolda_wire.specs.Said.{Said, after_letter, body_limit, digest_len, frame, head_len, hello, letter, refers, report, report_limit, way, way_limit}
 
 -- texts, one after the other
 abbrev pub joined : List (List ℕ) → List ℕ

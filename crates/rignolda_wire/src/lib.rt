@@ -1,4 +1,12 @@
-//! What goes over a connection, byte for byte: messages as they lie in the bytes that came.
+//! What goes over a connection, byte for byte: messages as they lie in the bytes that came, and the
+//! bytes to write; what an end is told that is refused; and the words that links in stores show.
+//!
+//! Nothing takes memory, and nothing is kept between two calls. A reader asks for the message in
+//! front of what has come, and is told that message, that more has to come, or why it is none.
+//! Contracts see bytes as a list. The layer above uses five facts ([`laws`]): what is spelled is
+//! read, whatever follows it; what is read was spelled so; what is refused stays refused, whatever
+//! comes; while more has to come there are few bytes; and what is written is read. So it does not
+//! matter in what pieces a stream comes.
 #![tactic(auto)]
 
 pub mod examples;
@@ -11,6 +19,8 @@ mod refusal;
 pub mod refusal_laws;
 mod said;
 mod spoken;
+#[cfg(test)]
+mod tests;
 pub mod word_laws;
 mod words;
 mod writing;

@@ -143,6 +143,35 @@ fn hello_at(bytes: &[u8]) -> Result<(Message<'_>, &[u8]), Fault>
 
 // ---- What a parent says
 
+#[tactic(auto, unfolding(crate::specs::Reading::frame_at))]
+fn frame_at(bytes: &[u8]) -> Result<(Frame<'_>, &[u8]), Fault>
+    ensures { Reads (λ x. (framed x.0, x.1.now)) result (reads.frame_at bytes.now) }
+{
+    let (label, rest) = u16_at(bytes)?;
+    let (item, rest) = u32_at(rest)?;
+    let (body, rest) = counted_at(BODY_LIMIT, Fault::LongBody, rest)?;
+    Ok((Frame { label, item, body }, rest))
+}
+
+#[tactic(auto, unfolding(crate::specs::Reading::reference_at))]
+fn reference_at(bytes: &[u8]) -> Result<(Reference<'_>, &[u8]), Fault>
+    ensures { Reads (λ x. (referred x.0, x.1.now)) result (reads.reference_at bytes.now) }
+{
+    let (label, rest) = u16_at(bytes)?;
+    let (item, rest) = u32_at(rest)?;
+    let (len, rest) = limited_at(BODY_LIMIT, Fault::LongBody, rest)?;
+    let (head, rest) = text_at(HEAD_LEN, rest)?;
+    let (digest, rest) = text_at(DIGEST_LEN, rest)?;
+    let reference = Reference {
+        label,
+        item,
+        len,
+        head,
+        digest,
+    };
+    Ok((reference, rest))
+}
+
 #[tactic(auto, unfolding(crate::specs::Reading::counted_at, crate::specs::Reading::limited_at))]
 fn way_text_at(bytes: &[u8]) -> Result<(&[u8], &[u8]), Fault>
     ensures { Reads (λ x. (x.0.now, x.1.now)) result
@@ -179,45 +208,13 @@ fn way_at(bytes: &[u8]) -> Result<(Way<'_>, &[u8]), Fault>
     Ok((Way { cost, names }, rest))
 }
 
-#[tactic(auto, unfolding(crate::specs::Reading::frame_at))]
-fn frame_at(bytes: &[u8]) -> Result<(Frame<'_>, &[u8]), Fault>
-    ensures { Reads (λ x. (framed x.0, x.1.now)) result (reads.frame_at bytes.now) }
-{
-    let (label, rest) = u16_at(bytes)?;
-    let (item, rest) = u32_at(rest)?;
-    let (body, rest) = counted_at(BODY_LIMIT, Fault::LongBody, rest)?;
-    Ok((Frame { label, item, body }, rest))
-}
-
-#[tactic(auto, unfolding(crate::specs::Reading::reference_at))]
-fn reference_at(bytes: &[u8]) -> Result<(Reference<'_>, &[u8]), Fault>
-    ensures { Reads (λ x. (referred x.0, x.1.now)) result (reads.reference_at bytes.now) }
-{
-    let (label, rest) = u16_at(bytes)?;
-    let (item, rest) = u32_at(rest)?;
-    let (len, rest) = limited_at(BODY_LIMIT, Fault::LongBody, rest)?;
-    let (head, rest) = text_at(HEAD_LEN, rest)?;
-    let (digest, rest) = text_at(DIGEST_LEN, rest)?;
-    let reference = Reference {
-        label,
-        item,
-        len,
-        head,
-        digest,
-    };
-    Ok((reference, rest))
-}
-
 #[tactic(auto, unfolding(crate::specs::Reading::candidate_at))]
 fn candidate_at(bytes: &[u8]) -> Result<(Message<'_>, &[u8]), Fault>
     ensures { Reads (λ x. (said_of x.0, x.1.now)) result (reads.candidate_at bytes.now) }
 {
     let (byte, rest) = byte_at(bytes)?;
     match byte {
-        b'W' => {
-            let (way, rest) = way_at(rest)?;
-            Ok((Message::Way(way), rest))
-        }
+        b'W' => way_at(rest).map(|(way, rest)| (Message::Way(way), rest)),
         _ => Err(Fault::NoMessage),
     }
 }
@@ -228,18 +225,9 @@ fn parent_at(bytes: &[u8]) -> Result<(Message<'_>, &[u8]), Fault>
 {
     let (byte, rest) = byte_at(bytes)?;
     match byte {
-        b'F' => {
-            let (frame, rest) = frame_at(rest)?;
-            Ok((Message::Frame(frame), rest))
-        }
-        b'D' => {
-            let (reference, rest) = reference_at(rest)?;
-            Ok((Message::Reference(reference), rest))
-        }
-        b'W' => {
-            let (way, rest) = way_at(rest)?;
-            Ok((Message::Way(way), rest))
-        }
+        b'F' => frame_at(rest).map(|(frame, rest)| (Message::Frame(frame), rest)),
+        b'D' => reference_at(rest).map(|(reference, rest)| (Message::Reference(reference), rest)),
+        b'W' => way_at(rest).map(|(way, rest)| (Message::Way(way), rest)),
         b'Q' => Ok((Message::ReportRequest, rest)),
         _ => Err(Fault::NoMessage),
     }

@@ -1,4 +1,4 @@
-use Rattle.std.proofs.Common.{◌≡◌, ◌∙◌, ◌++◌, List, ℕ, ap, arith, false, refl}
+use Rattle.std.proofs.Common.{◌∙◌, ◌++◌, List, ℕ, ap, arith, false, refl}
 use Rattle.std.specs.Int.{w32, to_be_bytes}
 use Rattle.rignolda_wire.specs.Said.{hello, spelling}
 use Rattle.rignolda_wire.specs.Seen.{greeted}
