@@ -56,7 +56,8 @@ def main():
         at = "".join(f'#[path = "{NET}/net/{it}.rs"]\npub mod {it};\n' for it in OF_NET)
         items = "".join(ITEMS.findall((NET / "net.rs").read_text()))
         Path(room, "net.rs").write_text(
-            f"use crate::prelude::*;\n{at}pub use parents::Way;\npub use refusal::Refusal;\n{items}")
+            f"use crate::prelude::*;\n{at}pub use parents::Way;\n"
+            f"pub use refusal::Refusal;\n{items}")
         harness = (TOP / "tests/wire/compared.rs").read_text()
         Path(room, "main.rs").write_text(f"""#![allow(dead_code, unused_imports)]
 extern crate alloc;

@@ -1,6 +1,6 @@
-//! The proved reader and writer of messages, `proved`, beside those that the daemon runs, `net::wire`,
-//! on drawn streams that are spoilt and come in drawn pieces. Each difference is one of [`KNOWN`]. The
-//! last line is 'N passed, M failed', in which each kind of answer is a case.
+//! The proved reader and writer of messages, `proved`, beside those that the daemon runs,
+//! `net::wire`, on drawn streams that are spoilt and come in drawn pieces. Each difference is one of
+//! [`KNOWN`]. The last line is 'N passed, M failed', in which each kind of answer is a case.
 use net::wire::{self, Expect, Hello, Message, Reference, WireError};
 use net::{is_name, Body, Way};
 use proved::Fault;

@@ -1,23 +1,28 @@
--- Reading the message in front of some bytes from left to right: the message and the bytes after it,
--- or that more has to come, or the first fault that is met.
--- Example: Of 'A' and 0 more has to come where acknowledgements may come, and where frames may come
--- it is no message.
+-- Reading the message in front of some bytes from left to right: the message and the bytes after
+-- it, or that more has to come, or the first fault that is met.
+-- Example: Of 'A' and 0 more has to come if acknowledgements may come, and if frames may come it is
+-- no message.
 -- Source: this project's own.
 use Rattle.std.specs.Prelude.{ℕ, nat_le, nat_lt, ◌==◌, Bool, true, false, if◌then◌else◌}
 use Rattle.std.specs.Prelude.{List, [], ◌∷◌, length, take, drop, Result, Ok, Err}
 use Rattle.std.specs.Int.{Width, w16, w32, w64, byte_len, from_be_bytes}
 use Rattle.rignolda_wire.specs.declared.fault.Fault.{Fault}
-use Rattle.rignolda_wire.specs.declared.fault.Fault.TheVariants.{More, NoHello, NoVersion, NoName, NoMessage, LongBody, LongWay, NoNameOfWay, LongReport}
+use Rattle.rignolda_wire.specs.declared.fault.Fault.TheVariants.{More, NoHello, NoVersion, NoName}
+use Rattle.rignolda_wire.specs.declared.fault.Fault.TheVariants.{NoMessage, LongBody, LongWay}
+use Rattle.rignolda_wire.specs.declared.fault.Fault.TheVariants.{NoNameOfWay, LongReport}
 use Rattle.rignolda_wire.specs.declared.said.Expect.{Expect}
 use Rattle.rignolda_wire.specs.declared.said.Expect.TheVariants.{Hello, Way, Frames, Acks}
 use Rattle.rignolda_wire.specs.Names.{are_few, are_names, is_name, is_name_or_none, name_limit}
-use Rattle.rignolda_wire.specs.Said.{Framed, Greeted, Referred, Routed, Said, ack, asks, body_limit, digest_len, frame, goodbye, head_len, hello, lacks, oldest, refers, report, report_limit, way, way_limit}
+use Rattle.rignolda_wire.specs.Said.{Framed, Greeted, Referred, Routed, Said, ack, asks, body_limit}
+use Rattle.rignolda_wire.specs.Said.{digest_len, frame, goodbye, head_len, hello, lacks, oldest}
+use Rattle.rignolda_wire.specs.Said.{refers, report, report_limit, way, way_limit}
 
 -- a reader gives what it read, and the bytes after that
 abbrev pub Reader : Type 0 → Type 0
 Reader A = List ℕ → Result (A × List ℕ) Fault
 
-abbrev pub read_on : {A B : Type 0} → Result (A × List ℕ) Fault → (A → Reader B) → Result (B × List ℕ) Fault
+abbrev pub read_on : {A B : Type 0} → Result (A × List ℕ) Fault → (A → Reader B)
+    → Result (B × List ℕ) Fault
 read_on (Ok x) next = next x.0 x.1
 read_on (Err fault) next = Err fault
 

@@ -1,12 +1,14 @@
 -- Why an end is refused, as it is told: the front of a message of which the rest never comes, and
 -- then the connection ends. One that was not told why hears so as well.
--- Example: That a parent has no room for more children is 'R', 'G', 'N', 'L', 2, 255, 6 in the place
--- of its hello.
+-- Example: That a parent has no room for more children is 'R', 'G', 'N', 'L', 2, 255, 6 in the
+-- place of its hello.
 -- Source: this project's own.
 use Rattle.std.specs.Prelude.{Bool, ℕ, ◌==◌, ◌&&◌, if◌then◌else◌}
 use Rattle.std.specs.Prelude.{List, [], ◌∷◌, Option, Some, None}
 use Rattle.rignolda_wire.specs.declared.refusal.Refusal.{Refusal}
-use Rattle.rignolda_wire.specs.declared.refusal.Refusal.TheVariants.{NotSaid, OtherName, NoChild, NoParent, Calls, Certificate, Full, Twin}
+use Rattle.rignolda_wire.specs.declared.refusal.Refusal.TheVariants.{NotSaid, OtherName, NoChild}
+use Rattle.rignolda_wire.specs.declared.refusal.Refusal.TheVariants.{NoParent, Calls, Certificate}
+use Rattle.rignolda_wire.specs.declared.refusal.Refusal.TheVariants.{Full, Twin}
 use Rattle.rignolda_wire.specs.declared.said.Expect.{Expect}
 use Rattle.rignolda_wire.specs.declared.said.Expect.TheVariants.{Hello, Frames}
 
@@ -28,7 +30,7 @@ refusal_of byte =
     else (if byte == 4 then Calls else (if byte == 5 then Certificate
     else (if byte == 6 then Full else (if byte == 7 then Twin else NotSaid))))))
 
--- in the place of a hello, of one that has not shown its certificate without a reason
+-- in the place of a hello: to an end that has shown no certificate no reason is said
 abbrev pub told_first : Refusal → List ℕ
 told_first NotSaid = 82 ∷ 71 ∷ 78 ∷ 76 ∷ 2 ∷ []
 told_first why = 82 ∷ 71 ∷ 78 ∷ 76 ∷ 2 ∷ 255 ∷ byte_of why ∷ []
@@ -52,7 +54,8 @@ abbrev pub is_look : ℕ → ℕ → ℕ → ℕ → ℕ → Bool
 is_look r g n l version = r == 82 && g == 71 && n == 78 && l == 76 && version == 2
 
 abbrev pub refused : Expect → List ℕ → Option Refusal
-refused Hello (r ∷ g ∷ n ∷ l ∷ version ∷ why) = if is_look r g n l version then reason_or_none why else None
+refused Hello (r ∷ g ∷ n ∷ l ∷ version ∷ why) =
+    if is_look r g n l version then reason_or_none why else None
 refused Frames (w ∷ why) = if w == 87 then reason why else None
 refused expect bytes = None
 

@@ -1,6 +1,6 @@
 -- What a message says, and the one spelling of it in bytes. Numbers are in big-endian order.
--- Example: The acknowledgement of label 3 is spelled 'A', 0, 3. A frame of label 3 and item 7, whose
--- body is `b`, is spelled 'F', 0, 3, then the four bytes of 7, then 0, 0, 0, 1 and `b`.
+-- Example: The acknowledgement of label 3 is spelled 'A', 0, 3. A frame of label 3 and item 7 with
+-- the body `b` is spelled 'F', 0, 3, then the four bytes of 7, then 0, 0, 0, 1 and `b`.
 -- Source: this project's own.
 use Rattle.std.specs.Prelude.{◌≡◌, ℕ, ◌^◌, ◌<◌, ◌≤◌, ◌+◌, Bool, true, false}
 use Rattle.std.specs.Prelude.{List, [], ◌∷◌, ◌++◌, length}

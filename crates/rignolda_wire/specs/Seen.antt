@@ -8,7 +8,8 @@ use Rattle.rignolda_wire.specs.declared.said.Message.{Message}
 use Rattle.rignolda_wire.specs.declared.said.Message.TheVariants as messages
 use Rattle.rignolda_wire.specs.declared.said.Reference.{Reference}
 use Rattle.rignolda_wire.specs.declared.said.Way.{Way}
-use Rattle.rignolda_wire.specs.Said.{Framed, Greeted, Referred, Routed, Said, ack, asks, frame, goodbye, hello, lacks, refers, report, way}
+use Rattle.rignolda_wire.specs.Said.{Framed, Greeted, Referred, Routed, Said, ack, asks, frame}
+use Rattle.rignolda_wire.specs.Said.{goodbye, hello, lacks, refers, report, way}
 use Rattle.rignolda_wire.specs.Words.{Headed}
 
 -- each is a byte

@@ -11,7 +11,8 @@ range_of oldest newest = oldest * 256 + newest
 
 -- the label is a range: no label of a link is that high
 abbrev pub has_range : Greeted → Bool
-has_range g = nat_le 1 (g.label / 256) && nat_le (g.label / 256) (g.label % 256) && nat_le 2 g.version
+has_range g =
+    nat_le 1 (g.label / 256) && nat_le (g.label / 256) (g.label % 256) && nat_le 2 g.version
 
 -- the oldest and the newest version of an end that says so
 abbrev pub versions_of : Greeted → ℕ × ℕ

@@ -1,5 +1,5 @@
--- What links in a store show. A parent's word is its hello, and behind it the frame of its sender, if
--- there is one. A child's word is its hello, and how often it has set its report.
+-- What links in a store show. A parent's word is its hello, and behind it the frame of its sender,
+-- if there is one. A child's word is its hello, and how often it has set its report.
 -- Example: Behind the hello of a child that has set three reports are the bytes 0, 0, 0, 3.
 -- Source: this project's own.
 use Rattle.std.specs.Prelude.{ℕ, ◌==◌, nat_le, ◌&&◌, Bool, if◌then◌else◌}

@@ -1,11 +1,12 @@
--- Writing the head of a message into a buffer: all but the body, the names or the report at its end.
+-- Writing the head of a message into a buffer: all but the body, names or report at its end.
 -- Example: The head of a report of two bytes is 'R', 0, 0, 0, 2; the report itself is its tail.
 -- Source: this project's own.
 use Rattle.std.specs.Prelude.{ℕ, ◌+◌, ◌==◌, nat_le, ◌&&◌, Bool, true, if◌then◌else◌}
 use Rattle.std.specs.Prelude.{List, [], ◌∷◌, ◌++◌, length, take, drop, Option, Some, None}
 use Rattle.std.specs.Int.{w16, w32, to_be_bytes}
 use Rattle.rignolda_wire.specs.Names.{name_limit}
-use Rattle.rignolda_wire.specs.Said.{Said, after_letter, body_limit, digest_len, frame, head_len, hello, letter, refers, report, report_limit, way, way_limit}
+use Rattle.rignolda_wire.specs.Said.{Said, after_letter, body_limit, digest_len, frame, head_len}
+use Rattle.rignolda_wire.specs.Said.{hello, letter, refers, report, report_limit, way, way_limit}
 
 -- texts, one after the other
 abbrev pub joined : List (List ℕ) → List ℕ

@@ -1,6 +1,7 @@
 //! Laws of messages as bytes. Each is a function with an empty body; its contract is the law.
 
-ghost use Rattle.std.specs.Prelude.{◌≡◌, ◌≢◌, ◌<◌, ◌≤◌, ℕ, List, [], ◌++◌, Ok, Err, length, take, true};
+ghost use Rattle.std.specs.Prelude.{◌≡◌, ◌≢◌, ◌<◌, ◌≤◌, ℕ, List, [], ◌++◌, Ok, Err, length, take};
+ghost use Rattle.std.specs.Prelude.{true};
 ghost use Rattle.rignolda_wire.specs.declared.fault.Fault.{Fault};
 ghost use Rattle.rignolda_wire.specs.declared.fault.Fault.TheVariants.{More};
 ghost use Rattle.rignolda_wire.specs.declared.said.Expect.{Expect};
@@ -53,8 +54,8 @@ pub fn a_stream_is_read_in_one_way()
         → (one ≡ other) × (rest ≡ after) × (why ≡ reason) }
 {}
 
-/// A message is its head and what follows that: the body of a frame, the names of a way, the text of
-/// a report.
+/// A message is its head and what follows that: the body of a frame, the names of a way, the text
+/// of a report.
 pub fn a_message_is_its_head_and_tail()
     ensures { (m : Said) → spelling m ≡ head_bytes m ++ tail_bytes m }
 {}

@@ -99,7 +99,8 @@ pub fn refused(expect: Expect, bytes: &[u8]) -> Option<Refusal>
 /// Writes what an end is told that is refused before a link begins, into the buffer from its front
 /// on, and gives its end; or gives nothing, if there is no room.
 pub fn write_refusal(buffer: &mut [u8], why: Refusal) -> Option<usize>
-    ensures end { result ≡ end_of (nat_le (length (told_first why)) (length buffer.old)) (told_first why) }
+    ensures end { result
+        ≡ end_of (nat_le (length (told_first why)) (length buffer.old)) (told_first why) }
     ensures text { buffer.new ≡ after_writing (nat_le (length (told_first why)) (length buffer.old))
         buffer.old (told_first why) }
 {
@@ -115,7 +116,8 @@ pub fn write_refusal(buffer: &mut [u8], why: Refusal) -> Option<usize>
 /// The same of what a child is told whose link ends.
 pub fn write_last_refusal(buffer: &mut [u8], why: Refusal) -> Option<usize>
     ensures end { result ≡ end_of (nat_le 3 (length buffer.old)) (told_last why) }
-    ensures text { buffer.new ≡ after_writing (nat_le 3 (length buffer.old)) buffer.old (told_last why) }
+    ensures text { buffer.new
+        ≡ after_writing (nat_le 3 (length buffer.old)) buffer.old (told_last why) }
 {
     put_if_room(buffer, &[b'W', REFUSED, byte_of(why)])
 }

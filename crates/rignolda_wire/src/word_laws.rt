@@ -1,9 +1,10 @@
-//! Laws of the words that links in a store show. Each is a function with an empty body; its contract
-//! is the law.
+//! Laws of the words that links in a store show. Each is a function with an empty body; its
+//! contract is the law.
 
 ghost use Rattle.std.specs.Prelude.{◌≡◌, ◌<◌, ◌^◌, ◌++◌, ℕ, List, Some, false};
 ghost use Rattle.std.specs.Int.{w32, to_be_bytes};
-ghost use Rattle.rignolda_wire.specs.Said.{Framed, Greeted, IsFrame, IsGreeting, frame, hello, spelling};
+ghost use Rattle.rignolda_wire.specs.Said.{Framed, Greeted, IsFrame, IsGreeting, frame, hello};
+ghost use Rattle.rignolda_wire.specs.Said.{spelling};
 ghost use Rattle.rignolda_wire.specs.Seen.{AreBytes};
 ghost use Rattle.rignolda_wire.specs.Words.{Headed, head_of, headed_bytes, reports_of, word_at};
 

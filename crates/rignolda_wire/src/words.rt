@@ -13,7 +13,8 @@ use crate::reading::{letter_at, message};
 use crate::said::{Expect, FrameHead, Greeting, Message};
 use crate::writing::{put, put_hello};
 
-/// The hello of what a link in a store shows, and the bytes behind it. What else is there is no word.
+/// The hello of what a link in a store shows, and the bytes behind it. What else is there is no
+/// word.
 pub fn word(bytes: &[u8]) -> Option<(Greeting<'_>, &[u8])>
     ensures { option_map (λ x. (greeted x.0, x.1.now)) result ≡ word_at bytes.now }
 {
@@ -44,7 +45,8 @@ pub fn frame_head(bytes: &[u8]) -> Option<FrameHead>
     }
 }
 
-/// How often a child has set its report, if what is behind the hello of its word says so, all of it.
+/// How often a child has set its report, if what is behind the hello of its word says so, all of
+/// it.
 pub fn reports(bytes: &[u8]) -> Option<u32>
     ensures { result ≡ reports_of bytes.now }
 {

@@ -62,7 +62,8 @@ pub(crate) fn put_hello(buffer: &mut [u8], is_look: bool, g: &Greeting<'_>) -> u
     requires to { length g.now.to.now ≤ name_limit }
     requires room { length (head_bytes (hello is_look (greeted g.now))) ≤ length buffer.old }
     ensures end { result ≡ length (head_bytes (hello is_look (greeted g.now))) }
-    ensures text { buffer.new ≡ with_text buffer.old 0 (head_bytes (hello is_look (greeted g.now))) }
+    ensures text { buffer.new
+        ≡ with_text buffer.old 0 (head_bytes (hello is_look (greeted g.now))) }
 {
     let first = [b'R', b'G', b'N', fourth(is_look), g.version];
     let (life, label) = (g.life.to_be_bytes(), g.label.to_be_bytes());
@@ -92,7 +93,8 @@ fn put_frame_head(buffer: &mut [u8], frame: &Frame<'_>) -> usize
     requires short { length frame.now.body.now ≤ body_limit }
     requires room { length (head_bytes (said.frame (framed frame.now))) ≤ length buffer.old }
     ensures end { result ≡ length (head_bytes (said.frame (framed frame.now))) }
-    ensures text { buffer.new ≡ with_text buffer.old 0 (head_bytes (said.frame (framed frame.now))) }
+    ensures text { buffer.new
+        ≡ with_text buffer.old 0 (head_bytes (said.frame (framed frame.now))) }
 {
     let (label, item) = (frame.label.to_be_bytes(), frame.item.to_be_bytes());
     let len = (frame.body.len() as u32).to_be_bytes();
@@ -181,9 +183,9 @@ fn len_of_head(message: &Message<'_>) -> usize
     }
 }
 
-/// Writes the head of a message into the buffer, and gives its end: all but the body of a frame, the
-/// names of a way and the text of a report, which follow it. It gives nothing and leaves the buffer
-/// as it was, if that has no room in it, or a length of the message is not within its limit.
+/// Writes the head of a message into the buffer, and gives its end: all but the body of a frame,
+/// the names of a way and the text of a report, which follow it. It gives nothing and leaves the
+/// buffer as it was, if there is no room, or a length of the message is not within its limit.
 pub fn write_head(buffer: &mut [u8], message: &Message<'_>) -> Option<usize>
     ensures end { result ≡ end_of (is_written buffer.old (said_of message.now))
         (head_bytes (said_of message.now)) }
