@@ -3,6 +3,8 @@ use Rattle.std.proofs.Common.{◌≡◌, ◌≢◌, ℕ, ◌^◌, ◌<◌, ◌�
 use Rattle.std.specs.Prelude.{◌==◌, ◌&&◌}
 use Rattle.std.specs.Int.{w16, w32, to_be_bytes}
 use Rattle.std.proofs.lemmas.Bool.{eqb-true}
+use Rattle.std.proofs.lemmas.List.{append-nil}
+use Rattle.std.proofs.lemmas.Nat.{from_be_bytes-to_be_bytes_4}
 use Rattle.rignolda_wire.specs.declared.fault.Fault.{Fault}
 use Rattle.rignolda_wire.specs.declared.fault.Fault.TheVariants.{More}
 use Rattle.rignolda_wire.specs.declared.refusal.Refusal.{Refusal}
@@ -11,9 +13,9 @@ use Rattle.rignolda_wire.specs.declared.said.Expect.{Expect}
 use Rattle.rignolda_wire.specs.declared.said.Expect.TheVariants.{Hello, Frames}
 use Rattle.rignolda_wire.specs.Reading.{◌>>=◌, Reader, counted_at, fourth_at, give, greeting_at, hello_at, letter_at, limited_at, message_at, names_at, number_at, parent_at, version_at, way_at}
 use Rattle.rignolda_wire.specs.Refusals.{byte_of, is_look, reason, reason_or_none, refusal_of, refused, told, told_first, told_last}
-use Rattle.rignolda_wire.specs.Said.{Greeted, IsGreeting, Said, ack, asks, frame, goodbye, hello, lacks, refers, report, spelling, way}
+use Rattle.rignolda_wire.specs.Said.{Framed, Greeted, IsFrame, IsGreeting, IsMessage, Said, ack, asks, frame, goodbye, hello, lacks, refers, report, spelling, way}
 use Rattle.rignolda_wire.specs.Seen.{AreBytes}
-use Rattle.rignolda_wire.specs.Words.{Headed, first_of, head_at, head_of, headed_bytes, hello_of, word_at}
+use Rattle.rignolda_wire.specs.Words.{Headed, down, first_of, head_at, head_of, headed_bytes, hello_of, reports_of, word_at, word_bytes}
 use Rattle.rignolda_wire.proofs.Codecs.{Any, IsCodec, codec_after, codec_map}
 use Rattle.rignolda_wire.proofs.Parts.{codec_number, wide16, wide32}
 use Rattle.rignolda_wire.proofs.Others.{codec_behind}
@@ -165,6 +167,15 @@ known_hello (Err fault) x is = absurd cc
 
 pub word_again : (g : Greeted) (rest : List ℕ) → IsGreeting 1 g → word_at (spelling (hello false g) ++ rest) ≡ Some (g, rest)
 word_again g rest is = ap hello_of (again Hello (hello false g) rest is)
+
+pub down_again : (g : Greeted) → IsGreeting 1 g → word_at (word_bytes (down g)) ≡ Some (g, [])
+down_again g is = ap word_at (sym (append-nil (spelling (hello false g)))) ∙ word_again g [] is
+
+pub frame_again : (f : Framed) → IsFrame f → message_at Frames (spelling (frame f)) ≡ Ok (frame f, [])
+frame_again f is = ap (message_at Frames) (sym (append-nil (spelling (frame f)))) ∙ again Frames (frame f) [] is
+
+pub count_again : (n : ℕ) → n < 2 ^ 32 → reports_of (to_be_bytes w32 n) ≡ Some n
+count_again n low = ap (λ (m : ℕ). Some m) (from_be_bytes-to_be_bytes_4 n low)
 
 pub word_spelled : (bytes : List ℕ) (x : Greeted × List ℕ) → AreBytes bytes → word_at bytes ≡ Some x
     → IsGreeting 1 x.0 × (bytes ≡ spelling (hello false x.0) ++ x.1)
