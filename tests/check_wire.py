@@ -21,7 +21,7 @@ NET = TOP / "rust/rignolda_machine/src"
 # The modules of the crate that say something of proofs alone.
 APART = re.compile(r"(?:#\[cfg\(test\)\]\n)?(?:pub )?mod (?:examples|tests|\w*laws);\n")
 GHOST = re.compile(r"^ghost use [^;]*;\n|^\s*#!?\[tactic\([^\]]*\)\]\n", re.M)
-CLAUSE = re.compile(r"\n    (?:requires|ensures)\b[^{\n]*\{")
+CLAUSE = re.compile(r"\n +(?:requires|ensures)\b[^{\n]*\{")
 # Those of the daemon's modules that wire.rs needs, and what else of net.rs.
 OF_NET = "error", "parents", "refusal", "wire"
 ITEMS = re.compile(r"^(?:#\[derive\([^\n]*\)\]\n)?(?:pub(?:\(crate\))? )?"

@@ -9,3 +9,4 @@ pub mod Fronts
 pub mod Texts
 pub mod Written
 pub mod Told
+pub mod ForCallers

@@ -13,7 +13,7 @@ use Rattle.rignolda_wire.specs.declared.said.Expect.{Expect}
 use Rattle.rignolda_wire.specs.declared.said.Expect.TheVariants.{Hello, Frames}
 use Rattle.rignolda_wire.specs.Reading.{◌>>=◌, Reader, counted_at, fourth_at, give, greeting_at, hello_at, letter_at, limited_at, message_at, names_at, number_at, parent_at, version_at, way_at}
 use Rattle.rignolda_wire.specs.Refusals.{byte_of, is_look, reason, reason_or_none, refusal_of, refused, told, told_first, told_last}
-use Rattle.rignolda_wire.specs.Said.{Framed, Greeted, IsFrame, IsGreeting, IsMessage, Said, ack, asks, frame, goodbye, hello, lacks, refers, report, spelling, way}
+use Rattle.rignolda_wire.specs.Said.{Framed, Greeted, IsFrame, IsGreeting, Said, ack, asks, frame, goodbye, hello, lacks, refers, report, spelling, way}
 use Rattle.rignolda_wire.specs.Seen.{AreBytes}
 use Rattle.rignolda_wire.specs.Words.{Headed, down, first_of, head_at, head_of, headed_bytes, hello_of, reports_of, word_at, word_bytes}
 use Rattle.rignolda_wire.proofs.Codecs.{Any, IsCodec, codec_after, codec_map}

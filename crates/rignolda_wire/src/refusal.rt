@@ -34,35 +34,37 @@ const REFUSED: u8 = 255;
 /// The version in front of a reason, by which a connection begins.
 const FIRST: u8 = 2;
 
-/// The byte that stands for a reason.
-fn byte_of(why: Refusal) -> u8
-    ensures { result ≡ byte_of why }
-{
-    match why {
-        Refusal::NotSaid => 0,
-        Refusal::OtherName => 1,
-        Refusal::NoChild => 2,
-        Refusal::NoParent => 3,
-        Refusal::Calls => 4,
-        Refusal::Certificate => 5,
-        Refusal::Full => 6,
-        Refusal::Twin => 7,
+impl Refusal {
+    /// The byte that stands for a reason.
+    pub fn byte(self) -> u8
+        ensures { result ≡ byte_of self }
+    {
+        match self {
+            Refusal::NotSaid => 0,
+            Refusal::OtherName => 1,
+            Refusal::NoChild => 2,
+            Refusal::NoParent => 3,
+            Refusal::Calls => 4,
+            Refusal::Certificate => 5,
+            Refusal::Full => 6,
+            Refusal::Twin => 7,
+        }
     }
-}
 
-/// What a byte stands for.
-fn refusal_of(byte: u8) -> Refusal
-    ensures { result ≡ refusal_of byte }
-{
-    match byte {
-        1 => Refusal::OtherName,
-        2 => Refusal::NoChild,
-        3 => Refusal::NoParent,
-        4 => Refusal::Calls,
-        5 => Refusal::Certificate,
-        6 => Refusal::Full,
-        7 => Refusal::Twin,
-        _ => Refusal::NotSaid,
+    /// What a byte stands for. One of a later release says nothing.
+    pub fn of(byte: u8) -> Refusal
+        ensures { result ≡ refusal_of byte }
+    {
+        match byte {
+            1 => Refusal::OtherName,
+            2 => Refusal::NoChild,
+            3 => Refusal::NoParent,
+            4 => Refusal::Calls,
+            5 => Refusal::Certificate,
+            6 => Refusal::Full,
+            7 => Refusal::Twin,
+            _ => Refusal::NotSaid,
+        }
     }
 }
 
@@ -70,7 +72,7 @@ fn reason(bytes: &[u8]) -> Option<Refusal>
     ensures { result ≡ reason bytes.now }
 {
     match bytes {
-        [REFUSED, byte] => Some(refusal_of(*byte)),
+        [REFUSED, byte] => Some(Refusal::of(*byte)),
         _ => None,
     }
 }
@@ -107,7 +109,7 @@ pub fn write_refusal(buffer: &mut [u8], why: Refusal) -> Option<usize>
     match why {
         Refusal::NotSaid => put_if_room(buffer, &[b'R', b'G', b'N', b'L', FIRST]),
         _ => {
-            let told = [b'R', b'G', b'N', b'L', FIRST, REFUSED, byte_of(why)];
+            let told = [b'R', b'G', b'N', b'L', FIRST, REFUSED, why.byte()];
             put_if_room(buffer, &told)
         }
     }
@@ -119,5 +121,5 @@ pub fn write_last_refusal(buffer: &mut [u8], why: Refusal) -> Option<usize>
     ensures text { buffer.new
         ≡ after_writing (nat_le 3 (length buffer.old)) buffer.old (told_last why) }
 {
-    put_if_room(buffer, &[b'W', REFUSED, byte_of(why)])
+    put_if_room(buffer, &[b'W', REFUSED, why.byte()])
 }
