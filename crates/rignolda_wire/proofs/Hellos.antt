@@ -14,19 +14,19 @@ use Rattle.rignolda_wire.proofs.Others.{codec_behind, codec_name, codec_version,
 
 -- ---- a greeting, field by field
 
-abbrev greets : ℕ → ℕ → ℕ → List ℕ → List ℕ → Greeted
+abbrev pub greets : ℕ → ℕ → ℕ → List ℕ → List ℕ → Greeted
 greets version life label from to = record { version = version; life = life; label = label; from = from; to = to }
 
-abbrev with_to : ℕ → ℕ → ℕ → List ℕ → Reader Greeted
+abbrev pub with_to : ℕ → ℕ → ℕ → List ℕ → Reader Greeted
 with_to version life label from = name_at is_name_or_none >>= λ to. give (greets version life label from to)
 
-abbrev with_from : ℕ → ℕ → ℕ → Reader Greeted
+abbrev pub with_from : ℕ → ℕ → ℕ → Reader Greeted
 with_from version life label = name_at is_name >>= with_to version life label
 
-abbrev with_label : ℕ → ℕ → Reader Greeted
+abbrev pub with_label : ℕ → ℕ → Reader Greeted
 with_label version life = number_at w16 >>= with_from version life
 
-abbrev with_life : ℕ → Reader Greeted
+abbrev pub with_life : ℕ → Reader Greeted
 with_life version = number_at w64 >>= with_label version
 
 -- what is known of a greeting when its last field is read

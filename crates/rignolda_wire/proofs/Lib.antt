@@ -10,3 +10,4 @@ pub mod Texts
 pub mod Written
 pub mod Told
 pub mod ForCallers
+pub mod TooLong

@@ -64,6 +64,12 @@ greeting_bytes g =
     g.version ∷ (to_be_bytes w64 g.life
     ++ (to_be_bytes w16 g.label ++ (name_bytes g.from ++ name_bytes g.to)))
 
+-- what a hello or a look has before its names
+abbrev pub before_names : Bool → Greeted → List ℕ
+before_names is_look g =
+    82 ∷ 71 ∷ 78 ∷ fourth is_look ∷ g.version
+    ∷ (to_be_bytes w64 g.life ++ to_be_bytes w16 g.label)
+
 abbrev pub way_bytes : Routed → List ℕ
 way_bytes w = to_be_bytes w16 w.cost ++ (to_be_bytes w16 (length w.names) ++ w.names)
 

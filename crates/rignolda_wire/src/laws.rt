@@ -1,12 +1,15 @@
 //! Laws of messages as bytes. Each is a function with an empty body; its contract is the law.
 
 ghost use Rattle.std.specs.Prelude.{◌≡◌, ◌≢◌, ◌<◌, ◌≤◌, ℕ, List, [], ◌++◌, Ok, Err, length, take};
-ghost use Rattle.std.specs.Prelude.{true};
+ghost use Rattle.std.specs.Prelude.{Bool, ◌∷◌, true};
 ghost use Rattle.rignolda_wire.specs.declared.fault.Fault.{Fault};
-ghost use Rattle.rignolda_wire.specs.declared.fault.Fault.TheVariants.{More};
+ghost use Rattle.rignolda_wire.specs.declared.fault.Fault.TheVariants.{More, NoName};
 ghost use Rattle.rignolda_wire.specs.declared.said.Expect.{Expect};
+ghost use Rattle.rignolda_wire.specs.declared.said.Expect.TheVariants.{Hello};
+ghost use Rattle.rignolda_wire.specs.Names.{name_limit};
 ghost use Rattle.rignolda_wire.specs.Reading.{message_at};
-ghost use Rattle.rignolda_wire.specs.Said.{Greeted, IsMessage, Said, most, spelling};
+ghost use Rattle.rignolda_wire.specs.Said.{Greeted, IsGreeting, IsMessage, Said};
+ghost use Rattle.rignolda_wire.specs.Said.{before_names, most, name_bytes, oldest, spelling};
 ghost use Rattle.rignolda_wire.specs.Seen.{AreBytes};
 ghost use Rattle.rignolda_wire.specs.Streams.{Splits};
 ghost use Rattle.rignolda_wire.specs.Versions.{range_of, versions_of};
@@ -37,6 +40,17 @@ pub fn a_front_of_a_message_is_no_message()
     ensures { (expect : Expect) (m : Said) (front rest : List ℕ) → IsMessage expect m
         → spelling m ≡ front ++ rest → rest ≢ [] → AreBytes front
         → message_at expect front ≡ Err More }
+{}
+
+/// A name of a hello that is too long is refused at its length, before any byte of it has come: the
+/// end's own one, and the other's.
+pub fn a_long_name_is_refused_at_its_length()
+    ensures own { (is_look : Bool) (g : Greeted) (len : ℕ) → IsGreeting (oldest is_look) g
+        → name_limit < len → message_at Hello (before_names is_look g ++ (len ∷ [])) ≡ Err NoName }
+    ensures other { (is_look : Bool) (g : Greeted) (len : ℕ) → IsGreeting (oldest is_look) g
+        → name_limit < len
+        → message_at Hello (before_names is_look g ++ (name_bytes g.from ++ (len ∷ [])))
+        ≡ Err NoName }
 {}
 
 /// While more has to come there are few bytes.
