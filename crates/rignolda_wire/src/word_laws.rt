@@ -17,8 +17,8 @@ pub fn a_word_is_read()
         → word_at (spelling (hello false g) ++ rest) ≡ Some (g, rest) }
 {}
 
-/// So each word comes apart into what it was made of: a parent's into its hello and the frame, and a
-/// child's into its hello and the count.
+/// So each word comes apart into what it was made of: a parent's into its hello and the frame, and
+/// a child's into its hello and the count.
 pub fn words_come_apart()
     ensures down { (g : Greeted) → IsGreeting 1 g → word_at (word_bytes (down g)) ≡ Some (g, []) }
     ensures down_with { (g : Greeted) (f : Framed) → IsGreeting 1 g → IsFrame f
