@@ -1,0 +1,13 @@
+pub mod Lines
+pub mod Steps
+pub mod Codecs
+pub mod Parts
+pub mod Others
+pub mod Hellos
+pub mod Messages
+pub mod Fronts
+pub mod Texts
+pub mod Written
+pub mod Told
+pub mod ForCallers
+pub mod TooLong
