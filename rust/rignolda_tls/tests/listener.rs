@@ -6,11 +6,14 @@ use std::os::unix::fs::{symlink, MetadataExt, PermissionsExt};
 use std::path::Path;
 use std::process::Command;
 
+/// Makes something at a path.
+type Make = fn(&Path);
+
 #[test]
 fn what_lies_where_a_socket_is_to_be_is_moved_aside_and_kept() {
     let home = std::env::temp_dir().join(format!("rignolda-listens-{}", std::process::id()));
     let _ = fs::remove_dir_all(&home);
-    let makes: [(&str, fn(&Path)); 4] = [
+    let makes: [(&str, Make); 4] = [
         ("file", |it| fs::write(it, "mine").unwrap()),
         ("link", |it| symlink("elsewhere", it).unwrap()),
         ("pipe", |it| assert!(Command::new("mkfifo").arg(it).status().unwrap().success())),
