@@ -77,7 +77,7 @@ next_ahead from f from_in f_in near =
           ]
     ]
 
-ahead_back : (x y : ℕ) → x < circle → y < circle → 0 < ahead x y → ahead y x ≡ circle - ahead x y
+pub ahead_back : (x y : ℕ) → x < circle → y < circle → 0 < ahead x y → ahead y x ≡ circle - ahead x y
 ahead_back x y x_in y_in apart =
     elim (cases_lt y x) [
       | inl below ↦ omega (arith, down x y below, up y x (omega (arith, below)), x_in, y_in)
@@ -107,7 +107,7 @@ own_lead from =
     ]
 
 -- how far a number leads is how much higher its place is
-same_place : (low x y : ℕ) → low < circle → x < circle → y < circle → ahead low x ≡ ahead low y → x ≡ y
+pub same_place : (low x y : ℕ) → low < circle → x < circle → y < circle → ahead low x ≡ ahead low y → x ≡ y
 same_place low x y low_in x_in y_in alike = by (cases_lt x low) (cases_lt y low)
   where
     by : (x < low) ⊎ (low ≤ x) → (y < low) ⊎ (low ≤ y) → x ≡ y

@@ -4,6 +4,7 @@ mod Rounds
 mod Promise
 mod Waiting
 mod Above
+mod AheadOfHeard
 mod Quarters
 mod Runs
 pub mod ForCallers

@@ -102,6 +102,19 @@ pub fn the_root_goes_on_above_what_it_heard()
         → AllByRecursion (λ n. is_behind (next (furthest from heard)) n ≡ true) (from ∷ heard) }
 {}
 
+/// The root goes on above what it heard: a table that ends a run of numbers above the furthest of
+/// these is ahead of all of them, and of the run before it, if all are within a little less than
+/// half of the circle. It is ahead of no number, too.
+pub fn a_table_is_ahead_of_what_was_heard()
+    ensures heard { (low from : ℕ) (heard : List ℕ) (before : List Body) (table : Body)
+        → low < circle → AllByRecursion (IsWithin low) (from ∷ heard)
+        → AllByRecursion (λ b. IsWithin low b.number) (before ++ table ∷ [])
+        → IsRun (furthest from heard) (before ++ table ∷ [])
+        → AllByRecursion (λ n. is_behind table.number n ≡ true) (from ∷ heard)
+        × AllByRecursion (λ b. is_behind table.number b.number ≡ true) before }
+    ensures none { (number : ℕ) → 0 < number → is_behind number 0 ≡ true }
+{}
+
 /// The root goes on by a quarter of all numbers at once. So whoever has its last number, or one
 /// that is behind that by less than a quarter but three, takes the table that comes then; and with
 /// the second such table the root is above the number that was ahead.
