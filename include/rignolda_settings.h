@@ -1,11 +1,11 @@
 /*
  * Rignolda: bodies of settings, as bytes that travel beside an item, which of them an agent takes
- * and applies, and what a root publishes, for agents of one's own.
+ * and applies, what a root publishes, and the messages that bring bodies, for agents of one's own.
  *
- * Each call is proved: it does what the definitions of the crate rignolda_agent say. The rules for
- * pointers and for several calls at once are those of rignolda.h, and none takes memory.
- * The calls are those of an archive of their own, librignolda_settings.a, which needs `memmove` of
- * a C library and nothing else.
+ * Each call is proved: it does what the definitions of the crates rignolda_agent and rignolda_wire
+ * say. The rules for pointers and for several calls at once are those of rignolda.h, and none takes
+ * memory. The calls are those of an archive of their own, librignolda_settings.a, which needs
+ * `memmove` of a C library and nothing else.
  *
  * A body is `kind u8 | number u64 | rest`, numbers in big-endian order. A harmless one, 'H', has no
  * rest. That of changes, 'C', and of a whole table, 'T', is `count u32` and as many entries, in the
@@ -222,6 +222,93 @@ bool rignolda_waits_on_change(rignolda_waits *waits, uint64_t first, uint64_t la
 
 /* A whole table leaves the key out. Returns whether it is to be unset: nothing waits beside it. */
 bool rignolda_waits_on_left_out(rignolda_waits *waits, uint64_t first, uint64_t last);
+
+/*
+ * What goes over a connection, byte for byte, as the crate rignolda_wire defines it. What may come
+ * has a byte: 'H' for a hello, 'W' for the way of a candidate, 'F' for what a parent says, 'A' for
+ * what a child says. The laws are those of the module laws of that crate: what is spelled is read,
+ * whatever follows it; what is read was spelled so; what is refused stays refused; while more has
+ * to come there are few bytes; and what is written is read.
+ */
+
+/*
+ * A message in front of some bytes. Its kind is 'H' for a hello, 'L' a look, 'W' a way, 'F' a
+ * frame, 'D' a frame without its body, 'Q' the request of a whole report, 'A' an acknowledgement,
+ * 'N' a frame that is lacking, 'R' a report, 'G' a goodbye. Its texts are both names; the names of
+ * a way, with a line feed between two; the body; the front of a body (9 bytes) and its SHA-256; the
+ * report. They lie within the bytes. What a message of its kind does not have is 0.
+ */
+typedef struct rignolda_message {
+    uint64_t life;        /* of a hello and of a look */
+    uint32_t item;        /* of a frame, with and without its body */
+    uint32_t body_length; /* how long the body of a frame is that comes without it */
+    uint16_t label;       /* the label, or what a way costs */
+    uint8_t version;      /* of a hello and of a look */
+    uint8_t kind;
+    size_t first; /* where the first text begins */
+    size_t first_length;
+    size_t second; /* where the second one begins */
+    size_t second_length;
+    size_t end; /* where the next message begins */
+} rignolda_message;
+
+/*
+ * Returns 0 if there is a message in front of these bytes that may come, after writing it; 1 if
+ * more has to come; else the first of these faults that is met: 2 no hello, 3 a version that nobody
+ * speaks, 4 no name, 5 no message that may come, 6 a body over 16 MiB, 7 a way over 8,320 bytes or
+ * 128 names, 8 no name of a way, 9 a report over 1 MiB.
+ */
+uint8_t rignolda_message_read(uint8_t expect, const uint8_t *bytes, size_t length,
+                              rignolda_message *message);
+
+/*
+ * Writes the message that says this and has these texts, whatever the struct says of their places:
+ * all but the text at the end of a way, a frame or a report, which follows. Returns its end; or 0
+ * where there is no room, the kind is none or a text is too long, and then it wrote nothing.
+ */
+size_t rignolda_message_write(uint8_t *buffer, size_t size, const rignolda_message *message,
+                              const uint8_t *first, size_t first_length, const uint8_t *second,
+                              size_t second_length);
+
+/*
+ * Whether the head of a frame is in front, whatever length it says of its body, after writing its
+ * label, its item and that length (as body_length).
+ */
+bool rignolda_frame_head(const uint8_t *bytes, size_t length, rignolda_message *message);
+
+/*
+ * Why the other end refuses this one, which expects this, if these are all the bytes that came
+ * before it closed the connection: 0 it does not say, 1 it has another name, 2 no child and 3 no
+ * parent may have this one's name, 4 it has an address of this one, 5 the certificate has another
+ * name, 6 it is full, 7 a twin of this one connected; or 255 where it does not refuse it.
+ */
+uint8_t rignolda_refusal_read(uint8_t expect, const uint8_t *bytes, size_t length);
+
+/*
+ * Writes what an end is told that expects a hello or frames and is refused for this reason. Returns
+ * its end, or 0 where there is no room, or nothing is told.
+ */
+size_t rignolda_refusal_write(uint8_t *buffer, size_t size, uint8_t expect, uint8_t why);
+
+/* What says in the place of a label which versions an end speaks: both ends, a byte each. */
+uint16_t rignolda_versions_range(uint8_t oldest, uint8_t newest);
+
+/* The same of an end that says this version and label in a look, or as the parent that begins. */
+uint16_t rignolda_versions_read(uint8_t version, uint16_t label);
+
+/* Whether a hello, and no look, is in front of what a link in a store shows, after writing it. */
+bool rignolda_word_read(const uint8_t *bytes, size_t length, rignolda_message *message);
+
+/* Whether the bytes behind it say how often a child has set its report, after writing that. */
+bool rignolda_word_reports(const uint8_t *bytes, size_t length, uint32_t *count);
+
+/* Writes a child's hello and that count. Returns its end, or 0 as rignolda_message_write does. */
+size_t rignolda_word_write(uint8_t *buffer, size_t size, const rignolda_message *hello,
+                           const uint8_t *from, size_t from_length, const uint8_t *to,
+                           size_t to_length, uint32_t reports);
+
+/* Whether these bytes may be the name of an agent. */
+bool rignolda_is_name(const uint8_t *bytes, size_t length);
 
 #ifdef __cplusplus
 }

@@ -1,1 +1,2 @@
 mod Entries
+pub mod Places

@@ -13,8 +13,8 @@
 //! - A [`Turn`] is what is asked of a store where a link lies in place of a connection.
 //! - [`Turns`] say whose work is done next, where anybody may bring it.
 //!
-//! Each step of a link is a call that is proved. That a body lies beside its item, and all that is
-//! done about connections and stores, is tested alone.
+//! Each step of a link is a call that is proved, and so is what the bytes of a message say. That a
+//! body lies beside its item, and all that is done about connections and stores, is tested alone.
 #![warn(missing_docs)]
 use crate::prelude::*;
 mod address;
@@ -22,6 +22,8 @@ mod error;
 mod origin;
 pub mod parents;
 mod peers;
+#[allow(unsafe_code)]
+mod proved;
 mod refusal;
 mod relay;
 mod store;
@@ -85,13 +87,7 @@ pub fn checksum(bytes: &[u8]) -> u32 {
 /// Whether this may be the name of an agent: letters, digits, `.`, `_` and `-`, and no dot or
 /// hyphen in front.
 pub fn is_name(text: &str) -> bool {
-    is_plain(text, NAME_BYTES)
-}
-
-pub(crate) fn is_plain(text: &str, most: usize) -> bool {
-    (1..=most).contains(&text.len())
-        && !text.starts_with(['.', '-'])
-        && text.bytes().all(|b| b.is_ascii_alphanumeric() || b"._-".contains(&b))
+    proved::is_name(text.as_bytes())
 }
 
 rignolda::spoils! { Body {

@@ -75,6 +75,12 @@ fn long_way(names: usize) -> Way {
     Way { cost: 258, names }
 }
 
+/// The bytes of a way, of whatever length.
+fn spelled(way: &Way) -> Vec<u8> {
+    let (cost, names) = (way.cost.to_be_bytes(), way.names.join("\n"));
+    [b"W", &cost[..], &(names.len() as u16).to_be_bytes(), names.as_bytes()].concat()
+}
+
 #[test]
 fn a_way_is_bounded_and_has_names() {
     let names = vec!["hub".into(), "rack1".into()];
@@ -87,12 +93,14 @@ fn a_way_is_bounded_and_has_names() {
     assert!(all(b"F".to_vec(), Expect::Way).1.is_err());
     assert!(all(way(&usual), Expect::Acks).1.is_err());
     assert_eq!(way(&long_way(128)).len(), 5 + WAY_BYTES - 1);
+    assert_eq!(way(&long_way(128)), spelled(&long_way(128)));
+    assert_eq!(way(&long_way(130)), b"", "what is too long is not written");
     assert_eq!(all(way(&long_way(128)), Expect::Way).0, [Message::Way(long_way(128))]);
     let head = |length: u16| [b"W\x00\x01", &length.to_be_bytes()[..]].concat();
     let many = [head(2 * 129 - 1), "a\n".repeat(128).into_bytes(), b"a".to_vec()].concat();
     for (bytes, why) in [
         (head(WAY_BYTES as u16 + 1), "a way is too long"),
-        (way(&long_way(129)), "a way is too long"),
+        (spelled(&long_way(129)), "a way is too long"),
         (many, "a way is too long"),
         (head(0), "a name of a way is none"),
         ([head(3), b"a\n\n".to_vec()].concat(), "a name of a way is none"),

@@ -37,16 +37,9 @@ const ALL: [Refusal; 8] = [
 ];
 
 impl Refusal {
-    /// The byte that stands for it.
-    pub(super) fn byte(self) -> u8 {
-        let place = ALL.iter().position(|it| *it == self);
-        place.unwrap_or(0) as u8
-    }
-
-    /// What a byte stands for. (One of a later release says nothing.)
-    pub(super) fn of(byte: u8) -> Refusal {
-        let it = ALL.get(usize::from(byte));
-        it.copied().unwrap_or(Refusal::NotSaid)
+    /// What a byte stands for.
+    pub(super) fn of(byte: u8) -> Option<Refusal> {
+        ALL.get(usize::from(byte)).copied()
     }
 
     /// The same in the words of the end that refuses.
@@ -68,13 +61,16 @@ rignolda::spoils_one_of! { Refusal { NotSaid, OtherName, NoChild, NoParent, Call
 #[cfg(test)]
 mod tests {
     use super::*;
+    use crate::net::wire::{last_refusal, refused, Expect};
+    use crate::prelude::*;
 
     #[test]
     fn each_has_a_byte_of_its_own() {
+        let told = |byte| refused(&[b'W', 255, byte], Expect::Frames);
         for (byte, it) in (0..).zip(ALL) {
-            assert_eq!((it.byte(), Refusal::of(byte)), (byte, it));
+            assert_eq!((last_refusal(it), told(byte)), (vec![b'W', 255, byte], Some(it)));
         }
-        assert_eq!(Refusal::of(ALL.len() as u8), Refusal::NotSaid);
-        assert_eq!(Refusal::of(255), Refusal::NotSaid);
+        assert_eq!(told(ALL.len() as u8), Some(Refusal::NotSaid));
+        assert_eq!(told(255), Some(Refusal::NotSaid));
     }
 }

@@ -83,6 +83,9 @@ impl<T> Turns<T> {
 
     /// The piece that is to be done now, if there is one. [`Turns::ended`] is to be told.
     pub fn next(&mut self, now: Time, is_known: impl Fn(&Origin) -> bool) -> Option<(Origin, T)> {
+        if self.order.is_empty() {
+            return None;
+        }
         self.late.retain(|_, until| now < *until);
         self.rests = self.rests.filter(|at| now < *at && *at <= now + RESTS);
         let besides = self.under_way.values().filter(|it| **it).count();

@@ -32,6 +32,9 @@
 //! look, and its [range](Hello::versions) in place of the label: in a look, as its answer does, and
 //! where it is the parent. What follows has the version in common.
 //!
+//! All these bytes are read and written by proved calls. What is too long for its message is
+//! written as no bytes.
+//!
 //! ```
 //! use rignolda_machine::net::wire::{self, Expect, Message};
 //! use rignolda_machine::net::Body;
@@ -48,7 +51,9 @@
 //! # Ok::<(), wire::WireError>(())
 //! ```
 use super::parents::{Way, NAMES};
-use super::{error::error, is_name, Body, Refusal, BODY_BYTES, NAME_BYTES};
+pub(super) use super::proved::reports;
+use super::proved::{self, Found, Message as Shown};
+use super::{error::error, Body, Refusal, NAME_BYTES};
 use crate::prelude::*;
 use alloc::sync::Arc;
 use core::ops::RangeInclusive;
@@ -69,11 +74,7 @@ pub const HEAD_BYTES: usize = 9;
 pub const REPORT_BYTES: usize = 1 << 20;
 /// The longest way, in bytes: each name with a line feed.
 pub const WAY_BYTES: usize = NAMES * (NAME_BYTES + 1);
-const MAGIC: &[u8] = b"RGND";
-pub(super) const LOOK: &[u8] = b"RGNL";
 pub(super) const FRAME_HEAD: usize = 11;
-/// What stands before a reason: no way costs so much, and no look has such a rank.
-const REFUSED: u8 = 0xff;
 
 /// What an end says first.
 #[derive(Clone, Debug, PartialEq, Eq)]
@@ -135,15 +136,16 @@ pub struct Reference {
 /// What may come next on a connection.
 #[derive(Clone, Copy, Debug, PartialEq, Eq)]
 #[non_exhaustive]
+#[repr(u8)]
 pub enum Expect {
     /// The first message.
-    Hello,
+    Hello = b'H',
     /// The way of a candidate.
-    Way,
+    Way = b'W',
     /// The messages of a parent.
-    Frames,
+    Frames = b'F',
     /// Those of a child.
-    Acks,
+    Acks = b'A',
 }
 
 error! {
@@ -153,15 +155,15 @@ error! {
         NoHello = "it is no hello",
         /// A hello has a version that nobody speaks.
         NoVersion = "its version of the protocol is none",
-        /// A name of a hello is [none of an agent](is_name).
+        /// A name of a hello is [none of an agent](super::is_name).
         NoName = "a name of its hello is none",
         /// It is none of the messages that may come next.
         NoMessage = "it is no message",
-        /// A body has more than [`BODY_BYTES`].
+        /// A body has more than [`BODY_BYTES`](super::BODY_BYTES).
         LongBody = "a body is too long",
         /// A way has more than [`WAY_BYTES`], or too many names.
         LongWay = "a way is too long",
-        /// A name of a way is [none of an agent](is_name).
+        /// A name of a way is [none of an agent](super::is_name).
         NoNameOfWay = "a name of a way is none",
         /// A report has more than [`REPORT_BYTES`].
         LongReport = "a report is too long",
@@ -171,34 +173,57 @@ error! {
 impl Hello {
     /// The bytes to write.
     pub fn bytes(&self) -> Vec<u8> {
-        let (life, label) = (self.life.to_be_bytes(), self.label.to_be_bytes());
-        let mut bytes = [MAGIC, &[self.version], &life, &label].concat();
-        for name in [&self.from, &self.to] {
-            bytes.push(name.len() as u8);
-            bytes.extend_from_slice(name.as_bytes());
-        }
-        bytes
+        proved::bytes(&self.shown(b'H'), self.names())
+    }
+
+    /// The same as a look.
+    pub fn look(&self) -> Vec<u8> {
+        proved::bytes(&self.shown(b'L'), self.names())
     }
 
     /// What stands for a range of versions in the place of a label: its ends, a byte each.
     pub fn range(versions: RangeInclusive<u8>) -> u16 {
-        u16::from_be_bytes([*versions.start(), *versions.end()])
+        proved::rignolda_versions_range(*versions.start(), *versions.end())
     }
 
     /// The versions that its sender speaks, where this is a look or a parent begins; else it says
     /// one alone. (One of version 2 has no range there: 0, or a label, which is below 256.)
     pub fn versions(&self) -> RangeInclusive<u8> {
-        let [oldest, newest] = self.label.to_be_bytes();
-        match oldest > 0 && newest >= oldest && self.version > OLD {
-            true => oldest..=newest,
-            false => self.version..=self.version,
-        }
+        let range = proved::rignolda_versions_read(self.version, self.label);
+        let [oldest, newest] = range.to_be_bytes();
+        oldest..=newest
     }
 
-    /// The same as a look.
-    pub fn look(&self) -> Vec<u8> {
-        [LOOK, &self.bytes()[MAGIC.len()..]].concat()
+    fn shown(&self, kind: u8) -> Shown {
+        Shown { life: self.life, version: self.version, ..labelled(kind, self.label) }
     }
+
+    fn names(&self) -> [&[u8]; 2] {
+        [self.from.as_bytes(), self.to.as_bytes()]
+    }
+
+    fn of(Shown { life, label, version, .. }: Shown, names: [&[u8]; 2]) -> Hello {
+        let [from, to] = names.map(|name| text(name).into());
+        Hello { version, life, label, from, to }
+    }
+}
+
+/// What is read as a name, or as names, is text.
+fn text(bytes: &[u8]) -> &str {
+    core::str::from_utf8(bytes).unwrap_or_default()
+}
+
+fn labelled(kind: u8, label: u16) -> Shown {
+    Shown { kind, label, ..Shown::default() }
+}
+
+/// The bytes of a message that ends with a text, if that is not too long.
+fn with_text(it: &Shown, text: &[u8]) -> Vec<u8> {
+    let mut bytes = proved::bytes(it, [text, &[]]);
+    if !bytes.is_empty() {
+        bytes.extend_from_slice(text);
+    }
+    bytes
 }
 
 /// The head of a frame: its body follows.
@@ -207,123 +232,75 @@ pub fn frame(label: u16, body: &Body) -> Vec<u8> {
 }
 
 pub(super) fn frame_head(label: u16, body: &Body) -> [u8; FRAME_HEAD] {
-    let [a, b] = label.to_be_bytes();
-    let [c, d, e, f] = body.item.to_be_bytes();
-    let [g, h, i, j] = (body.bytes.len() as u32).to_be_bytes();
-    [b'F', a, b, c, d, e, f, g, h, i, j]
+    let mut bytes = [0; FRAME_HEAD];
+    let it = Shown { item: body.item, ..labelled(b'F', label) };
+    proved::write(&mut bytes, &it, [&body.bytes, &[]]);
+    bytes
 }
 
 /// A frame without its body.
 pub fn reference(label: u16, it: &Reference) -> Vec<u8> {
-    let (item, length) = (it.item.to_be_bytes(), it.length.to_be_bytes());
-    let label = label.to_be_bytes();
-    [b"D", &label[..], &item, &length, &it.head, &it.digest].concat()
+    let shown = Shown { item: it.item, body_length: it.length, ..labelled(b'D', label) };
+    proved::bytes(&shown, [&it.head, &it.digest])
 }
 
 /// The body of this frame is lacking.
 pub fn lacks(label: u16) -> Vec<u8> {
-    [b"N", &label.to_be_bytes()[..]].concat()
+    proved::bytes(&labelled(b'N', label), [&[]; 2])
+}
+
+/// An acknowledgement.
+pub fn ack(label: u16) -> Vec<u8> {
+    proved::bytes(&labelled(b'A', label), [&[]; 2])
 }
 
 /// A way.
 pub fn way(way: &Way) -> Vec<u8> {
-    let (cost, names) = (way.cost.to_be_bytes(), way.names.join("\n"));
-    let length = (names.len() as u16).to_be_bytes();
-    [b"W", &cost[..], &length, names.as_bytes()].concat()
+    with_text(&labelled(b'W', way.cost), way.names.join("\n").as_bytes())
+}
+
+/// A report.
+pub fn report(report: &[u8]) -> Vec<u8> {
+    with_text(&labelled(b'R', 0), report)
 }
 
 /// A parent asks for a whole report.
 pub const REPORT_REQUEST: &[u8] = b"Q";
 
+/// The last word of a child that takes another parent.
+pub const GOODBYE: &[u8] = b"G";
+
 /// What an end is told that is refused before a link begins. (So much says that this is no end of
 /// version 1.)
 pub fn refusal(why: Refusal) -> Vec<u8> {
-    match why {
-        Refusal::NotSaid => [LOOK, &[FIRST]].concat(),
-        _ => [LOOK, &[FIRST, REFUSED, why.byte()]].concat(),
-    }
+    proved::refusal(Expect::Hello, why)
 }
 
 /// The same of a child whose link ends.
 pub fn last_refusal(why: Refusal) -> Vec<u8> {
-    vec![b'W', REFUSED, why.byte()]
+    proved::refusal(Expect::Frames, why)
 }
 
 /// Why the other end refuses this one, where that is all of what came before it closed the
 /// connection.
 pub fn refused(rest: &[u8], expect: Expect) -> Option<Refusal> {
-    let why = match expect {
-        Expect::Hello => rest.strip_prefix(LOOK)?.strip_prefix(&[FIRST])?,
-        Expect::Frames => rest.strip_prefix(b"W").filter(|it| !it.is_empty())?,
-        Expect::Way | Expect::Acks => return None,
-    };
-    match why {
-        [] => Some(Refusal::NotSaid),
-        [REFUSED, byte] => Some(Refusal::of(*byte)),
-        _ => None,
-    }
-}
-
-/// The last word of a child that takes another parent.
-pub const GOODBYE: &[u8] = b"G";
-
-/// An acknowledgement.
-pub fn ack(label: u16) -> Vec<u8> {
-    [b"A", &label.to_be_bytes()[..]].concat()
-}
-
-/// A report.
-pub fn report(report: &[u8]) -> Vec<u8> {
-    let length = (report.len() as u32).to_be_bytes();
-    [b"R", &length[..], report].concat()
-}
-
-/// What is read, or why it is not: nothing where more has to come.
-type Parsed<T> = Result<T, Option<WireError>>;
-
-/// What is still to be read.
-struct Rest<'a>(&'a [u8]);
-
-impl<'a> Rest<'a> {
-    fn take(&mut self, length: usize) -> Parsed<&'a [u8]> {
-        let taken = self.0.get(..length).ok_or(None)?;
-        self.0 = &self.0[length..];
-        Ok(taken)
-    }
-
-    fn array<const LENGTH: usize>(&mut self) -> Parsed<[u8; LENGTH]> {
-        let mut array = [0; LENGTH];
-        array.copy_from_slice(self.take(LENGTH)?);
-        Ok(array)
-    }
-
-    fn number(&mut self, bytes: usize) -> Parsed<u64> {
-        let digits = self.take(bytes)?.iter();
-        Ok(digits.fold(0, |number, byte| number << 8 | u64::from(*byte)))
-    }
-
-    /// Some bytes after their length, which has so many bytes itself.
-    fn counted(&mut self, bytes: usize, most: usize, why: WireError) -> Parsed<&'a [u8]> {
-        match self.number(bytes)? as usize {
-            length if length > most => Err(Some(why)),
-            length => self.take(length),
-        }
-    }
-
-    fn name(&mut self, is: fn(&str) -> bool) -> Parsed<String> {
-        let length = self.number(1)? as usize;
-        let name = core::str::from_utf8(self.take(length)?).ok();
-        let name = name.filter(|it| is(it)).map(String::from);
-        name.ok_or(Some(WireError::NoName))
-    }
+    proved::refused(expect, rest)
 }
 
 /// The label and the item of the frame that begins here, and the length of its body, if its head is
 /// there.
 pub(super) fn head(bytes: &[u8]) -> Option<(u16, u32, usize)> {
-    let mut rest = Rest(bytes.strip_prefix(b"F")?);
-    let (label, item) = (rest.number(2).ok()? as u16, rest.number(4).ok()? as u32);
-    Some((label, item, rest.number(4).ok()? as usize))
+    proved::frame_head(bytes).map(|it| (it.label, it.item, it.body_length as usize))
+}
+
+/// What a child's word shows in a store: its hello, and how often it has set its report.
+pub(super) fn up(hello: &Hello, reports: u32) -> Vec<u8> {
+    proved::up(&hello.shown(b'H'), hello.names(), reports)
+}
+
+/// The hello of such a word, or of a parent's, and what is behind it.
+pub(super) fn word(bytes: &[u8]) -> Option<(Hello, &[u8])> {
+    proved::word(bytes).map(|(it, names, rest)| (Hello::of(it, names), rest))
 }
 
 /// Takes the next message from the front of what came: nothing where more has to come.
@@ -332,88 +309,39 @@ pub(super) fn head(bytes: &[u8]) -> Option<(u16, u32, usize)> {
 ///
 /// Why it is no message: the connection is to be closed.
 pub fn take(input: &mut Vec<u8>, expect: Expect) -> Result<Option<Message>, WireError> {
-    let mut rest = Rest(input);
-    let message = match (expect, head(input)) {
-        (Expect::Frames, Some((.., length))) if length > BODY_BYTES => {
-            return Err(WireError::LongBody);
-        }
-        (Expect::Frames, Some((label, item, length))) if input.len() >= FRAME_HEAD + length => {
-            let bytes = input[FRAME_HEAD..FRAME_HEAD + length].to_vec();
-            input.drain(..FRAME_HEAD + length);
-            return Ok(Some(Message::Frame(label, Arc::new(Body { item, bytes }))));
-        }
-        _ => parse(&mut rest, expect),
-    };
-    let used = input.len() - rest.0.len();
-    match message {
-        Ok(message) => {
-            input.drain(..used);
-            Ok(Some(message))
-        }
-        Err(why) => why.map_or(Ok(None), Err),
-    }
+    let Some((message, rest)) = message(input, expect)? else { return Ok(None) };
+    let used = input.len() - rest.len();
+    input.drain(..used);
+    Ok(Some(message))
 }
 
-/// Any message but a whole frame.
-fn parse(rest: &mut Rest<'_>, expect: Expect) -> Parsed<Message> {
-    if expect == Expect::Hello {
-        return hello(rest);
-    }
-    Ok(match (expect, rest.number(1)? as u8) {
-        (Expect::Frames, b'F') => return Err(None),
-        (Expect::Frames, b'D') => {
-            let (label, item) = (rest.number(2)? as u16, rest.number(4)? as u32);
-            let length = rest.number(4)? as u32;
-            if length as usize > BODY_BYTES {
-                return Err(Some(WireError::LongBody));
-            }
-            let (head, digest) = (rest.array()?, rest.array()?);
-            let reference = Reference { item, length, head, digest };
-            Message::Reference(label, reference)
-        }
-        (Expect::Frames | Expect::Way, b'W') => {
-            let cost = rest.number(2)? as u16;
-            let names = rest.counted(2, WAY_BYTES, WireError::LongWay)?;
-            let names = core::str::from_utf8(names).unwrap_or_default();
-            let names: Vec<String> = names.split('\n').map(String::from).collect();
-            if names.len() > NAMES {
-                return Err(Some(WireError::LongWay));
-            } else if !names.iter().all(|name| is_name(name)) {
-                return Err(Some(WireError::NoNameOfWay));
-            }
-            Message::Way(Way { cost, names })
-        }
-        (Expect::Frames, b'Q') => Message::ReportRequest,
-        (Expect::Acks, b'G') => Message::Goodbye,
-        (Expect::Acks, b'A') => Message::Ack(rest.number(2)? as u16),
-        (Expect::Acks, b'N') => Message::Lacks(rest.number(2)? as u16),
-        (Expect::Acks, b'R') => {
-            let bytes = rest.counted(4, REPORT_BYTES, WireError::LongReport)?;
-            Message::Report(bytes.to_vec())
-        }
-        _ => return Err(Some(WireError::NoMessage)),
-    })
+/// The same of bytes that stay, and what is behind it.
+pub(super) fn message(bytes: &[u8], expect: Expect) -> Result<Option<(Message, &[u8])>, WireError> {
+    Ok(proved::message(expect, bytes)?.map(of))
 }
 
-fn hello(rest: &mut Rest<'_>) -> Parsed<Message> {
-    let begins = |magic: &[u8]| rest.0.iter().zip(magic).all(|(byte, it)| byte == it);
-    let (is_look, least) = match begins(LOOK) {
-        true => (true, FIRST),
-        false if begins(MAGIC) => (false, OLD),
-        false => return Err(Some(WireError::NoHello)),
+fn of((it, texts @ [first, second], rest): Found<'_>) -> (Message, &[u8]) {
+    let Shown { label, item, body_length: length, .. } = it;
+    let message = match it.kind {
+        b'H' => Message::Hello(Hello::of(it, texts)),
+        b'L' => Message::Look(Hello::of(it, texts)),
+        b'W' => {
+            let names = text(first).split('\n').map(String::from).collect();
+            Message::Way(Way { cost: label, names })
+        }
+        b'F' => Message::Frame(label, Arc::new(Body { item, bytes: first.to_vec() })),
+        b'D' => {
+            let (head, digest) = (first.try_into(), second.try_into());
+            let (head, digest) = (head.unwrap_or_default(), digest.unwrap_or_default());
+            Message::Reference(label, Reference { item, length, head, digest })
+        }
+        b'Q' => Message::ReportRequest,
+        b'A' => Message::Ack(label),
+        b'N' => Message::Lacks(label),
+        b'R' => Message::Report(first.to_vec()),
+        _ => Message::Goodbye,
     };
-    rest.take(MAGIC.len())?;
-    let version = rest.number(1)? as u8;
-    if version < least {
-        return Err(Some(WireError::NoVersion));
-    }
-    let (life, label) = (rest.number(8)?, rest.number(2)? as u16);
-    let (from, to) = (rest.name(is_name)?, rest.name(|it| it.is_empty() || is_name(it))?);
-    let hello = Hello { version, life, label, from, to };
-    Ok(match is_look {
-        true => Message::Look(hello),
-        false => Message::Hello(hello),
-    })
+    (message, rest)
 }
 
 rignolda::spoils! { Hello { version, life, label, from, to } }

@@ -14,13 +14,8 @@ pub(super) const FIRST: Duration = Duration::from_millis(2);
 type Moved = Option<bool>;
 
 /// The hello of a word that comes from this agent and means that one, and what is behind it.
-fn word_of(mut bytes: Vec<u8>, from: &str, to: &str) -> Option<(Hello, Vec<u8>)> {
-    match wire::take(&mut bytes, Expect::Hello) {
-        Ok(Some(Message::Hello(hello))) if hello.from == from && hello.to == to => {
-            Some((hello, bytes))
-        }
-        _ => None,
-    }
+fn word_of<'a>(bytes: &'a [u8], from: &str, to: &str) -> Option<(Hello, &'a [u8])> {
+    wire::word(bytes).filter(|(hello, _)| hello.from == from && hello.to == to)
 }
 
 impl<A: Clone + PartialEq + fmt::Display> Peers<A> {
@@ -61,9 +56,9 @@ impl<A: Clone + PartialEq + fmt::Display> Peers<A> {
     }
 
     /// The way of a parent that is looked at, or is there.
-    fn way_shown(&mut self, whom: &Whom, words: &mut Words, mut bytes: Vec<u8>) -> bool {
-        let way = match wire::take(&mut bytes, Expect::Way) {
-            Ok(Some(Message::Way(way))) if bytes.is_empty() => Some(way),
+    fn way_shown(&mut self, whom: &Whom, words: &mut Words, bytes: &[u8]) -> bool {
+        let way = match wire::message(bytes, Expect::Way) {
+            Ok(Some((Message::Way(way), []))) => Some(way),
             _ => None,
         };
         let (at, is_parent) = (self.place_of(whom), *whom == Whom::Parent);
@@ -97,8 +92,8 @@ impl<A: Clone + PartialEq + fmt::Display> Peers<A> {
     /// A key shows this. Whether something changed.
     fn shown(&mut self, whom: &Whom, key: &str, bytes: Vec<u8>) -> bool {
         let moved = self.words_with(whom, |peers, words| match (key, whom) {
-            ("down", Whom::Parent) => peers.parent_shown(words, bytes),
-            ("up", Whom::Child(_)) => peers.child_shown(words, bytes),
+            ("down", Whom::Parent) => peers.parent_shown(words, &bytes),
+            ("up", Whom::Child(_)) => peers.child_shown(words, &bytes),
             ("report", Whom::Child(name)) => {
                 words.more = false;
                 if !bytes.is_empty() {
@@ -106,7 +101,7 @@ impl<A: Clone + PartialEq + fmt::Display> Peers<A> {
                 }
                 None
             }
-            ("way", _) => Some(peers.way_shown(whom, words, bytes)),
+            ("way", _) => Some(peers.way_shown(whom, words, &bytes)),
             _ => {
                 // (the own word: somebody deleted or spoiled it, or it is of a backup)
                 let kept = peers.relay.kept().1;
@@ -121,9 +116,9 @@ impl<A: Clone + PartialEq + fmt::Display> Peers<A> {
         moved.flatten() == Some(true)
     }
 
-    fn parent_shown(&mut self, words: &mut Words, bytes: Vec<u8>) -> Moved {
+    fn parent_shown(&mut self, words: &mut Words, bytes: &[u8]) -> Moved {
         let was_look = !mem::take(&mut words.more);
-        let (hello, mut rest) = word_of(bytes, &words.other, &self.setup.name)?;
+        let (hello, rest) = word_of(bytes, &words.other, &self.setup.name)?;
         if words.since.is_none() {
             let at = self.parents.at();
             let way = words.way.clone().unwrap_or_else(|| self.parents.old(at));
@@ -137,11 +132,11 @@ impl<A: Clone + PartialEq + fmt::Display> Peers<A> {
             (words.since, words.until) = (words.since.or(Some(self.now)), None);
             self.parent_is_there(&hello);
         }
-        if wire::head(&rest)?.0 == self.relay.label() {
+        if wire::head(rest)?.0 == self.relay.label() {
             return None;
         }
-        match wire::take(&mut rest, Expect::Frames) {
-            Ok(Some(Message::Frame(label, body))) if rest.is_empty() => {
+        match wire::message(rest, Expect::Frames) {
+            Ok(Some((Message::Frame(label, body), []))) => {
                 let came = self.relay.on_frame(None, label, &body);
                 self.came(came, &body);
                 Some(true)
@@ -154,10 +149,10 @@ impl<A: Clone + PartialEq + fmt::Display> Peers<A> {
         }
     }
 
-    fn child_shown(&mut self, words: &mut Words, bytes: Vec<u8>) -> Moved {
+    fn child_shown(&mut self, words: &mut Words, bytes: &[u8]) -> Moved {
         let name = &*words.other.clone();
         let (Hello { life, label, .. }, rest) = word_of(bytes, name, &self.setup.name)?;
-        let reports = u32::from_be_bytes(rest.try_into().ok()?);
+        let reports = wire::reports(rest)?;
         let is_other = words.last.is_some_and(|(old, _)| old != life);
         if is_other && !words.may_begin(self.relay.kept().1, self.now) {
             return None;

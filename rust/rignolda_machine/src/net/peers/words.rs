@@ -272,26 +272,24 @@ impl<A: Clone + PartialEq + fmt::Display> Peers<A> {
             // (what the own receiver remembers changes, and is not for a child)
             hello.label = 0;
         }
-        let mut own = hello.bytes();
-        let (show, frame) = match whom {
+        let (show, mut own, frame) = match whom {
             Whom::Child(name) => {
                 let way = self.parents.says();
                 if words.way.as_ref() != Some(way) {
                     sets.push((words.key("way"), wire::way(way)));
                     words.way = Some(way.clone());
                 }
-                let frame = self.relay.poll(name, now);
+                let (mut own, frame) = (hello.bytes(), self.relay.poll(name, now));
                 if let Some((label, body)) = &frame {
                     own.extend(wire::frame(*label, body));
                 } else if words.own.is_some() {
                     return;
                 }
-                ("down", frame)
+                ("down", own, frame)
             }
             _ => {
-                own.extend_from_slice(&words.reports.to_be_bytes());
                 sets.extend(words.report.take().map(|it| (words.key("report"), it)));
-                ("up", None)
+                ("up", wire::up(&hello, words.reports), None)
             }
         };
         if words.own.as_ref() == Some(&own) {
