@@ -328,13 +328,14 @@ def answers(agent, words, context):
 class Trials:
     """A tree, and faults in it: what came of each kind, and why agents ended, as two lists."""
     trees, shapes = TREES, {"roots": {**SHAPE, "second": "root"}}
+    round = ROUND
 
     def __init__(self, seed, came, whys):
         self.seed, self.came, self.whys, self.made, self.of = seed, came, whys, 0, None
 
     def make(self, of, ends):
         """A new tree of a kind, that is right, and ends then."""
-        self.tree = Tree(self.shapes.get(of, SHAPE), root_has(round=f"{int(ROUND * 1_000)}ms"),
+        self.tree = Tree(self.shapes.get(of, SHAPE), root_has(round=f"{int(self.round * 1_000)}ms"),
                          *self.trees[of])
         ends.callback(self.tree.close)
         self.of, self.what, self.ends = of, [], []
@@ -453,7 +454,7 @@ class Trials:
         begun, self.ends = time.monotonic(), []
         self.change(draw)
         came = self.asked(draw, *words)
-        self.holds(lambda: time.monotonic() >= begun + 2 * ROUND)
+        self.holds(lambda: time.monotonic() >= begun + 2 * self.round)
         if not self.holds(lambda: not self.wrong(), 0.1):
             # (`tree` may say for a moment what was so)
             is_so = until(lambda: not (self.wrong() and self.says_right()), 1.5 / PATIENCE, 0.04)
@@ -572,6 +573,8 @@ def who_finds_its_configuration_spoiled_ends_and_says_so(tree):
 def main(trials=Trials, kinds=[*KINDS, "pair"], columns=COLUMNS, most="trials"):
     chosen = options("kind", **{most: 100, "seed": "1", "trees": 3, "loss": 0.0})
     lose(chosen.loss)
+    # (each packet that is lost holds up a link for 0.2 s and more)
+    trials.round = ROUND * (1 + 2 * chosen.loss)
     kinds = chosen.kind or kinds
     faults = [(*kinds[at % len(kinds)].split(":"), at // len(kinds))[:2]
               for at in range(vars(chosen)[most])]

@@ -59,7 +59,9 @@ def crate_of(file, rust):
         if path.exists():
             return ["-p", crate, "--test", file], path, ""
     crate, _, file = file.partition("/")
-    return ["-p", crate, "--lib"], rust / crate / f"src/{file}.rs", file.replace("/", "::") + "::tests::"
+    has_lib = (rust / crate / "src/lib.rs").exists()
+    within = file.replace("/", "::") + ("::tests::" if has_lib else "::")
+    return ["-p", crate, "--lib" if has_lib else "--bins"], rust / crate / f"src/{file}.rs", within
 
 
 def fuzzed(name, rust):

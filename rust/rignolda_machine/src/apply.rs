@@ -1,12 +1,12 @@
 //! Applies settings: a file for each in a folder, and a hook for each change.
 //!
-//! What is decided about them is here, without a thread, a clock or a file. The loop hands changes
-//! over and never waits: [a worker](crate::workers) keeps the [files](crate::files), others run
-//! [hooks](crate::hooks), each one [job](Applier::jobs) after the other, so that one that hangs
-//! holds up its own keys alone; and [what came of a job](Applier::ended) is told here. Of changes
-//! of one key that wait, the last is applied. The hooks of a key are due from before its file
-//! changes until all of them ended well, which an empty file in `.pending` says; so each is run
-//! again after it failed, at the next round, and all are after a crash.
+//! What is decided about them is here, without a thread or a clock, and of files by what [the
+//! system](FileSystem) answers. The loop hands changes over and never waits: one worker [keeps the
+//! files](Keeper), others run hooks, each one [job](Applier::jobs) after the other, so that one
+//! that hangs holds up its own keys alone; and [what came of it](Applier::ended) is told here. Of
+//! changes of one key that wait, the last is applied. The hooks of a key are due from before its
+//! file changes until all of them ended well, which an empty file in `.pending` says; so each is
+//! run again after it failed, at the next round, and all are after a crash.
 //! Nothing in the folder has to be right: what is wrong or lacking is made anew by the next round.
 //!
 //! Of a key that has values for groups of agents, the file has the one that counts here. `.groups`
@@ -31,21 +31,37 @@ use core::time::Duration;
 use files::Turn;
 use running::Running;
 
+mod digest;
+mod file_system;
 mod files;
+mod folder;
 mod hook;
 mod job;
+mod keeper;
 mod known;
+pub mod marker;
+mod others;
 mod outcome;
+mod pending;
 mod running;
 
+pub use digest::Digest;
+pub use file_system::{FileSystem, Look, Place, Step};
+pub use folder::Folder;
 pub use hook::{Hook, Runs};
 pub use job::{Done, Ended, Identity, Job, Kept, Mark, What};
+pub use keeper::{beside, found, published, refusal, Keeper};
 pub use outcome::{Applied, Found, Outcome};
+pub use pending::{due, House};
 
 /// The file that says that a folder is an agent's, and up to which number its files are.
 pub const MARKER: &str = ".rignolda";
 /// The folder of values as they were published, of keys that have one for some group.
 pub const GROUPS: &str = ".groups";
+/// The folder of the keys whose hooks are due.
+pub const PENDING: &str = ".pending";
+/// How the name of a hook's input begins, while it has one.
+pub const INPUT: &str = ".input";
 /// How soon after a look at all that is in the folder the next one is, unless a table looks: where
 /// changes come faster than that, none of them waits for it.
 pub const LISTS: Duration = Duration::from_secs(1);
@@ -100,7 +116,7 @@ pub struct Applier {
 }
 
 impl Applier {
-    /// Begins, where an earlier life left [these keys](crate::hooks::due) of which hooks are due.
+    /// Begins, where an earlier life left [these keys](due) of which hooks are due.
     pub fn new(config: &Apply, due: BTreeSet<String>) -> Applier {
         let mut applier = Applier { due, ..Applier::default() };
         applier.set_up(config);

@@ -169,12 +169,14 @@ impl Came {
         let is_busy = applier.is_busy();
         self.changed |= !done.is_empty() || self.applying.is_some() != is_busy;
         self.applying = is_busy.then(|| self.applying.unwrap_or(now));
-        let (good, bad): (Vec<_>, _) = done.into_iter().partition(|it| it.status == Outcome::Done);
-        let fact = |it: Applied| Fact::Applied(it.sequence, it.key);
-        self.facts.extend(good.into_iter().map(fact));
         // (what fails for one reason is one line)
         let mut whys: BTreeMap<String, Vec<String>> = BTreeMap::new();
-        bad.into_iter().for_each(|it| whys.entry(it.status.to_string()).or_default().push(it.key));
+        for Applied { key, sequence, status } in done {
+            match status {
+                Outcome::Done => self.facts.push(Fact::Applied(sequence, key)),
+                why => whys.entry(why.to_string()).or_default().push(key),
+            }
+        }
         self.facts.extend(whys.into_iter().map(|(why, keys)| Fact::Failed(keys, why)));
     }
 

@@ -3,8 +3,8 @@
 //!
 //! Each step of a link is a call of the proved library [`rignolda`]. Here is what an agent needs
 //! beside these: [`net`] are its connections, byte for byte, and the bodies of its items;
-//! [`settings`] are keys and values that travel so. What bodies say, which are published, taken and
-//! applied is asked of calls that are proved too; what is around all these is tested.
+//! [`settings`] are keys and values that travel so. What messages and bodies say, which bodies are
+//! published, taken and applied is asked of proved calls too; what is around all these is tested.
 //!
 //! When something comes is said by a [`Time`]. The crate has nothing of the standard library but
 //! what takes memory: so a compiler refuses a clock, a socket, a file or a thread in it.

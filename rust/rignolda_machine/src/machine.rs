@@ -106,11 +106,25 @@ impl Machine {
     pub fn step(&mut self, now: Now, input: Input<'_>, acts: &mut Vec<Act>) {
         let at = now.at;
         (self.came.now, self.unix) = (at, now.unix.as_secs());
-        // (what comes over lines is most of all, and mostly nothing else is due then)
-        let is_of_line =
-            matches!(input, Input::Bytes(..) | Input::Sent(_) | Input::Shown(..) | Input::Over(..));
-        let is_due = !is_of_line || self.may_check(at);
+        // (what comes over lines, and of files, is most of all: mostly nothing else is due then,
+        // and nothing follows from what is written or kept)
+        let is_end = match input {
+            Input::Sent(_) => true,
+            Input::Applied(..) => self.came.standby.is_none(),
+            _ => false,
+        };
+        let is_of_line = matches!(input, Input::Bytes(..) | Input::Shown(..) | Input::Over(..));
+        let is_due = !(is_end || is_of_line) || self.may_check(at);
         self.comes(now, input, acts);
+        if is_due || is_of_line || self.peers.has_output() {
+            self.follows(now, is_due, acts);
+        }
+        self.hands_out(at, acts);
+    }
+
+    /// Does what follows from what came, and what is due.
+    fn follows(&mut self, now: Now, is_due: bool, acts: &mut Vec<Act>) {
+        let at = now.at;
         self.takes_up(at, acts);
         if is_due {
             self.comes_due(now, acts);
@@ -123,7 +137,6 @@ impl Machine {
         let turns = self.peers.turns(at);
         acts.extend(turns.into_iter().map(|(store, turn)| Act::Turn(store, turn)));
         self.takes_up(at, acts);
-        self.hands_out(at, acts);
     }
 
     /// Hands what came to the part that it is for.
@@ -155,6 +168,7 @@ impl Machine {
                 if let Some(applier) = &mut self.came.applier {
                     applier.ended(worker, done, at);
                 }
+                self.came.applied(at);
             }
             Input::Asked(ticket, request) => {
                 if let Some(response) = self.request(ticket, request, now) {

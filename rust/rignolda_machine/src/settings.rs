@@ -25,7 +25,7 @@
 //! ```
 #![warn(missing_docs)]
 use crate::net::wire::HEAD_BYTES;
-use crate::net::{is_plain, Body, BODY_BYTES};
+use crate::net::{Body, BODY_BYTES};
 use crate::prelude::*;
 use alloc::collections::BTreeMap;
 use alloc::sync::Arc;
@@ -55,7 +55,14 @@ const HEAD: usize = 13;
 /// Whether this may be the key of a setting, by the rule of [names](crate::net::is_name). So a key
 /// is a file's name, and no file whose name begins with a dot is a setting.
 pub fn is_key(text: &str) -> bool {
-    is_plain(text, KEY_BYTES)
+    (1..=KEY_BYTES).contains(&text.len())
+        && !text.starts_with(['.', '-'])
+        && text.bytes().all(|b| b.is_ascii_alphanumeric() || b"._-".contains(&b))
+}
+
+/// The key that a file of this name has, if it is one.
+pub fn as_key(name: &str) -> Option<String> {
+    is_key(name).then(|| name.into())
 }
 
 /// What a body says.

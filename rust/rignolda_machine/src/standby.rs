@@ -16,11 +16,13 @@ mod job;
 mod lacks;
 mod newer;
 mod rank;
+mod roles;
 
 pub use job::{Begun, Done, Job};
 pub use lacks::Lacks;
 pub use newer::{says, Says};
 pub use rank::rank;
+pub use roles::Folders;
 
 /// For how many numbers a root may publish before it notes that again: so few that its numbers stay
 /// below those of who is promoted after it, since a number is a microsecond there.

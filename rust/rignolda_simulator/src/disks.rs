@@ -1,18 +1,25 @@
 //! The disk of an agent, in memory: what its workers do with it, and what is left of it by a crash,
 //! a loss of power or a copy that comes back.
 use crate::random::Random;
-use rignolda_machine::apply::{self, Applied, Outcome};
-use rignolda_machine::apply::{Done, Ended, Identity, Job, Kept, Mark, What};
+use files::{Files, Tree};
+use rignolda_machine::apply::{found, marker, Done, FileSystem, Job, Keeper, Step, MARKER};
 use rignolda_machine::machine::{Act, Found, Input};
-use rignolda_machine::settings::{is_key, is_newer, of_group, parts, Change, Waiting};
-use rignoldad::digest::Digest;
-use rignoldad::files;
+use rignolda_machine::settings::{as_key, is_key, of_group, parts, published_by};
+use rignolda_machine::standby::{self, Folders};
+use rignolda_machine::Time;
+use rignoldactl::sha256;
 use std::collections::{BTreeMap, BTreeSet};
+use std::time::Duration;
 
+#[cfg(test)]
+mod ends;
+mod files;
 mod root;
-mod standby;
 
-pub use standby::Stands;
+/// The folder of what is applied, that of a root, and what that keeps of what it published.
+pub const FOLDER: &str = "/applied";
+pub const ROOT: &str = "/root";
+const RECORD: &str = "/root/.record";
 
 /// Settings by their keys.
 pub type Settings = BTreeMap<String, Vec<u8>>;
@@ -21,21 +28,12 @@ pub type Settings = BTreeMap<String, Vec<u8>>;
 pub type Put = (String, Option<Vec<u8>>);
 
 /// The disk of an agent, and what its workers know of it.
-#[derive(Clone, Debug)]
 pub struct Disk {
-    /// The number in its marker.
-    pub marker: u64,
-    /// The files of settings; what the agent made of them, whatever somebody did to them since; and
-    /// the values as they were published.
-    pub files: Settings,
+    /// The files of settings; and what the agent made of them, whatever somebody did to them since.
+    pub files: Files,
     pub own: Settings,
-    grouped: Settings,
-    /// The keys of which hooks are due.
-    pending: BTreeSet<String>,
-    /// What a root has kept of what it published.
-    record: Option<String>,
-    /// What an agent is that may be promoted; and whether it was promoted since it was asked.
-    pub stands: Option<Stands>,
+    /// Whether its agent may be promoted; and whether it was since that was asked.
+    stands: bool,
     pub is_promoted: bool,
     /// What was put since it was judged.
     pub puts: Vec<Put>,
@@ -44,41 +42,38 @@ pub struct Disk {
     pub hooks_fail: u64,
     /// Until when each of its workers is busy.
     busy: [u64; 7],
-    /// What the worker of files knows: what it put last, and the digest of files.
-    known: Settings,
-    digest: Digest,
-    of_grouped: Option<Digest>,
-    looks: bool,
-    all: Waiting,
-    life: u64,
+    keeper: Keeper<Files>,
     /// Whether all of the root's folder was read, and what changed there since.
     was_read: bool,
     pub changed: Option<BTreeSet<String>>,
     random: Random,
 }
 
+/// What of a disk may come back.
+pub struct Copy {
+    files: Tree,
+    own: Settings,
+}
+
 impl Disk {
-    /// An empty one, but for what says what an agent is that may be promoted.
-    pub fn new(random: Random, stands: Option<Stands>) -> Disk {
+    /// An empty one, but for what says of which rank a root is, if it is one of two.
+    pub fn new(random: Random, stands: bool, rank: Option<u64>) -> Disk {
+        let files = Files::default();
+        let _ = files.does(ROOT, Step::Make);
+        for (rank, name) in rank.iter().flat_map(|rank| [(rank, ".root"), (rank, ".published")]) {
+            let (path, text) = (format!("{ROOT}/{name}"), marker::text(*rank));
+            let _ = files.does(ROOT, Step::Rewrite(&path, &text));
+        }
         Disk {
-            marker: 0,
-            files: Settings::new(),
+            keeper: Keeper::new(files.clone(), FOLDER, sha256),
+            files,
             own: Settings::new(),
-            grouped: Settings::new(),
-            pending: BTreeSet::new(),
-            record: None,
             stands,
             is_promoted: false,
             puts: Vec::new(),
             fails: 0,
             hooks_fail: 0,
             busy: [0; 7],
-            known: Settings::new(),
-            digest: Digest::default(),
-            of_grouped: None,
-            looks: false,
-            all: Waiting::default(),
-            life: 0,
             was_read: false,
             changed: None,
             random,
@@ -87,20 +82,58 @@ impl Disk {
 
     /// What a process finds that begins.
     pub fn begins(&mut self) -> Found {
-        (self.known, self.digest, self.busy) = (Settings::new(), Digest::default(), [0; 7]);
-        (self.was_read, self.changed, self.of_grouped) = (false, None, None);
-        let settings = if self.marker != 0 { self.published() } else { Settings::new() };
-        let applied = apply::Found { floor: self.marker, settings, due: self.pending.clone() };
-        Found { applied: Some(applied), standby: self.stands.as_ref().map(Stands::begun) }
+        self.keeper = Keeper::new(self.files.clone(), FOLDER, sha256);
+        self.files.tree().left = None;
+        (self.busy, self.was_read, self.changed) = ([0; 7], false, None);
+        let applied = found(&self.files, FOLDER);
+        Found { applied: Some(applied), standby: self.stands.then(|| self.roles().begun()) }
     }
 
-    /// The disk of another time comes in the place of this one. (A root that holds changes back
-    /// knows by its record alone what it has published: where that is older, so is what it goes on
-    /// with.)
-    pub fn goes_back(&mut self, to: Disk, holds: bool) {
-        let (random, stands) = (self.random.clone(), self.stands.clone());
-        let record = if holds { self.record.take() } else { to.record.clone() };
-        *self = Disk { random, record, stands, life: self.life + 1, puts: Vec::new(), ..to };
+    /// The number up to which its files are.
+    pub fn marker(&self) -> u64 {
+        marker::read(&self.files, &format!("{FOLDER}/{MARKER}"))
+    }
+
+    /// What is applied.
+    pub fn settings(&self) -> Settings {
+        self.files.found(FOLDER, as_key).unwrap_or_default().settings
+    }
+
+    /// What it has if its agent may be promoted.
+    fn roles(&self) -> Folders<Files> {
+        let [root, applied] = [ROOT, FOLDER].map(String::from);
+        Folders { system: self.files.clone(), sha: sha256, root, applied }
+    }
+
+    /// A copy of it.
+    pub fn copy(&self) -> Copy {
+        Copy { files: self.files.tree().clone(), own: self.own.clone() }
+    }
+
+    /// The disk of another time comes in the place of this one, but for the marks of a root. (A
+    /// root that holds changes back knows by its record alone what it has published: where that is
+    /// older, so is what it goes on with.)
+    pub fn goes_back(&mut self, to: &Copy, holds: bool) {
+        let stays = |path: &String| path.starts_with(ROOT) && (holds || path != RECORD);
+        self.files.go_back(&to.files, |path| !stays(path));
+        (self.own, self.puts) = (to.own.clone(), Vec::new());
+    }
+
+    /// Some of what is applied is as it was in a copy. (Without a marker nothing would be applied
+    /// until somebody says that it may be; so a folder that has none gets nothing.)
+    pub fn loses_some(&mut self, to: &Copy, random: &mut Random) {
+        if !self.files.tree().all.contains_key(&format!("{FOLDER}/{MARKER}")) {
+            return;
+        }
+        let is_there = |path: &String| to.files.all.contains_key(path);
+        let may = |path: &String| match path.rsplit_once('/') {
+            Some((folder, name)) if folder.starts_with(FOLDER) => {
+                is_key(name) || name == MARKER && is_there(path)
+            }
+            _ => false,
+        };
+        self.files.go_back(&to.files, |path| may(path) && random.once_in(2));
+        (self.own, self.puts) = (self.settings(), Vec::new());
     }
 
     /// When a job that is begun now is done, which takes up to so long: one of a worker comes after
@@ -117,138 +150,58 @@ impl Disk {
     }
 
     /// A worker was doing a job when its process ended: of some it had done a part.
-    pub fn ends_at(&mut self, mut act: Act, folder: &mut Settings, now: u64) {
-        if let Act::Apply(_, Job { what: What::Mark(mark), .. }) = &mut act {
-            mark.goes_on &= self.random.once_in(2);
-        }
+    pub fn ends_at(&mut self, act: Act, folder: &mut Settings, now: u64) {
+        let most = self.random.of(&[3, 10, 100]);
+        self.files.tree().left = Some(self.random.below(most));
         drop(self.works(act, folder, now));
     }
 
     /// A worker does a job: what came of it. The root's folder is lent.
     pub fn works(&mut self, act: Act, folder: &mut Settings, now: u64) -> Option<Input<'static>> {
+        self.files.tree().is_full = now < self.fails;
         Some(match act {
-            Act::Disk(job) => Input::Disk(self.root_works(job, folder, now)),
-            Act::Stand(job) => Input::Stood(self.stands_work(job, folder, now)),
+            Act::Disk(job) => Input::Disk(self.root_works(job, folder)),
+            Act::Stand(job) => Input::Stood(self.stands_work(job, folder)),
             Act::Apply(at, job) => Input::Applied(at, self.applies(job, now)),
             _ => return None,
         })
     }
 
-    fn refuses(&self, until: u64, now: u64) -> Result<(), String> {
-        if now < until {
-            Err("No space left on device (os error 28)".into())
-        } else {
-            Ok(())
-        }
+    /// What came of a job of an agent that may be promoted.
+    fn stands_work(&mut self, job: standby::Job, folder: &mut Settings) -> standby::Done {
+        let rank = match &job {
+            standby::Job::Promote { rank, .. } => Some(*rank),
+            _ => None,
+        };
+        self.files.set(ROOT, folder);
+        let done = self.roles().work(job);
+        *folder = self.files.found(ROOT, published_by).unwrap_or_default().settings;
+        self.is_promoted |= rank.is_some_and(|rank| self.roles().begun().rank == rank);
+        done
     }
 
-    // ---- The files of what is applied
-
-    fn applies(&mut self, Job { what, config, taken }: Job, now: u64) -> Done {
-        match what {
-            What::Mark(mark) => {
-                let goes_on = mark.goes_on;
-                match self.mark(mark, &config.groups, taken, now) {
-                    Done::Marked(files, is) if goes_on => {
-                        let kept = files.in_order().into_iter().map(|it| self.keep(it, now));
-                        let kept = kept.collect();
-                        Done::KeptAtOnce(is, kept, self.ends(now))
-                    }
-                    done => done,
-                }
-            }
-            What::Keep(part, is_last) => {
-                let kept = part.into_iter().map(|it| self.keep(it, now)).collect();
-                Done::Kept(kept, is_last.then(|| self.ends(now)))
-            }
-            What::Rest => Done::Rested(None),
-            What::One(_, change, floor) if is_newer(self.marker, floor) => {
-                Done::Newer(self.marker, change)
-            }
-            What::One(..) | What::Many(..) => {
-                let fails = now < self.hooks_fail || self.random.once_in(50);
-                Done::Ran(if fails { Err("exit status: 1".into()) } else { Ok(()) })
-            }
-            What::Settle(keys) => {
-                self.pending.retain(|key| !keys.contains(key));
-                Done::Settled
+    /// What a worker of what is applied came to.
+    fn applies(&mut self, job: Job, now: u64) -> Done {
+        let (hooks_fail, random) = (now < self.hooks_fail, &mut self.random);
+        let run = |_: &_, _: &_, _: &_| match hooks_fail || random.once_in(50) {
+            true => Err("exit status: 1".into()),
+            false => Ok(()),
+        };
+        let at = Time::after(Duration::from_millis(now));
+        let done = self.keeper.work(job, at, run);
+        if let Done::Marked(files, _) = &done {
+            // (of what no table names, and is not there any more, nothing is said)
+            let (there, is_whole) = (self.settings(), files.is_whole());
+            self.own.retain(|key, _| !is_whole || files.has(key) || there.contains_key(key));
+        }
+        if let Done::Kept(kept, _) | Done::KeptAtOnce(_, kept, _) = &done {
+            for it in kept.iter().filter(|it| it.done.is_ok()) {
+                let value = it.change.value.as_deref().map(<[u8]>::to_vec);
+                set(&mut self.own, &it.key, value.clone());
+                self.puts.extend(it.differs.then(|| (it.key.clone(), value)));
             }
         }
-    }
-
-    fn mark(&mut self, mark: Mark, groups: &[String], taken: Option<Identity>, now: u64) -> Done {
-        let is = Some(Identity([self.life; 4]));
-        let forgets = mark.forgets || taken != is;
-        if forgets {
-            self.known.clear();
-            self.of_grouped = None;
-        }
-        self.looks = mark.looks || forgets;
-        let mut files;
-        (files, self.all) = mark.files.of_groups(groups);
-        if let Some(why) = self.refuses(self.fails, now).err().map(Outcome::File).or(mark.lacks) {
-            return Done::Refused(why);
-        }
-        if is_newer(self.marker, mark.floor) && self.marker != 0 {
-            return Done::Later(self.marker);
-        }
-        self.marker = mark.floor;
-        if files.is_whole() {
-            let there = self.files.keys().chain(self.known.keys()).cloned();
-            files.unset_others(there.collect::<Vec<_>>());
-            if self.looks {
-                self.digest = Digest::default();
-            }
-        }
-        Done::Marked(files, is)
-    }
-
-    fn keep(&mut self, (key, change): (String, Change), now: u64) -> Kept {
-        let value = change.value.as_deref().map(<[u8]>::to_vec);
-        let put = self.known.get(&key) == value.as_ref();
-        let had = !self.looks && value.is_some() && put;
-        let differs = !had && self.files.get(&key) != value.as_ref();
-        let mut done = if differs { self.refuses(self.fails, now) } else { Ok(()) };
-        if differs && !is_key(&key) {
-            done = Err("it is no key".into());
-        }
-        if done.is_ok() {
-            if differs {
-                self.pending.insert(key.clone());
-                self.puts.push((key.clone(), value.clone()));
-            }
-            set(&mut self.files, &key, value.clone());
-            set(&mut self.own, &key, value.clone());
-            set(&mut self.known, &key, value);
-        }
-        match self.files.get(&key) {
-            Some(value) => self.digest.set(&key, Some(value)),
-            None => self.digest.unset(&key),
-        }
-        Kept { key, change, put, differs, done }
-    }
-
-    fn ends(&mut self, now: u64) -> Ended {
-        let (mut grouped, mut all) = (Vec::new(), std::mem::take(&mut self.all));
-        let mut is_known = self.of_grouped.is_some() || all.is_whole() && self.looks;
-        if all.is_whole() {
-            all.unset_others(self.grouped.keys().cloned());
-        }
-        for (key, change) in all.in_order() {
-            let value = change.value.as_deref().map(<[u8]>::to_vec);
-            let differs = self.grouped.get(&key) != value.as_ref();
-            let done = if differs { self.refuses(self.fails, now) } else { Ok(()) };
-            if done.is_ok() {
-                set(&mut self.grouped, &key, value);
-            }
-            is_known &= done.is_ok();
-            let status = done.map_or_else(Outcome::File, |()| Outcome::Done);
-            grouped.push(Applied { key: files::beside(&key), sequence: change.last, status });
-        }
-        let is = Some(Identity([self.life; 4]));
-        self.of_grouped = (is_known && self.stands.is_some()).then(|| self.of_groups());
-        let whole = self.of_grouped.as_ref().map(|it| self.digest.whole(it));
-        Ended { is, sum: self.digest.sum, whole, grouped, facts: Vec::new() }
+        done
     }
 }
 

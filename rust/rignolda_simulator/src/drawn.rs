@@ -1,5 +1,7 @@
 //! What a run is of, as its seed draws it: the shape of a tree, its links, groups and times.
+use crate::disks::{FOLDER, ROOT};
 use crate::random::Random;
+use rignolda_machine::apply::Hook;
 use rignolda_machine::config::{Apply, Config, Root as RootConfig};
 use rignolda_machine::net::{wire, Address, Children, Parent, Setup};
 use std::collections::BTreeMap;
@@ -118,6 +120,15 @@ impl Drawn {
                     more.of(&[&[], &["canary"], &["eu"], &["canary", "eu"], &["eu", "canary"]]);
                 apply.groups = groups.iter().map(|it| (*it).to_owned()).collect();
             });
+        }
+        let mut hooks = Random::new(seed, "hooks", 0);
+        if hooks.once_in(3) {
+            for apply in configs.iter_mut().filter_map(|it| it.apply.as_mut()) {
+                apply.hook = hooks.once_in(2).then(|| "/hook".into());
+                let (keys, run) = (vec!["k1*".into(), "k2".into()], "/run".into());
+                let timeout = Duration::from_secs(1);
+                apply.hooks.extend(hooks.once_in(2).then_some(Hook { keys, run, timeout }));
+            }
         }
         let (are_old, do_restart) = (more.once_in(3), more.once_in(4));
         let speaks =
@@ -243,18 +254,13 @@ fn config(it: usize, times: (u64, u64), round: u64, random: &mut Random) -> Conf
         listens: true,
         backlog: ROOM,
         root: (it == 0).then(|| RootConfig {
-            settings: "/root".into(),
+            settings: ROOT.into(),
             standby: false,
             round: Duration::from_millis(round),
             harmless: None,
             hold: false,
             unsets: Some(usize::MAX),
         }),
-        apply: Some(Apply {
-            folder: format!("/{}/applied", name(it)),
-            mode: 0o640,
-            groups,
-            ..Apply::default()
-        }),
+        apply: Some(Apply { folder: FOLDER.into(), mode: 0o640, groups, ..Apply::default() }),
     }
 }

@@ -1,8 +1,9 @@
 //! Faults: of lines, processes, disks, clocks and of memory.
-use crate::disks::{set, Disk};
+use crate::disks::{self, set, FOLDER};
 use crate::drawn;
 use crate::random::Random;
 use crate::world::World;
+use rignolda_machine::apply::{marker, FileSystem, GROUPS, MARKER, PENDING};
 use rignolda_machine::net::wire::{self, Hello};
 use rignolda_machine::net::{Children, Way};
 use rignoldactl::Request;
@@ -30,7 +31,7 @@ pub enum Class {
 const OTHERS: u64 = 16;
 
 /// A disk of another time, and what its agent had put by then.
-pub type Copy = (Disk, BTreeMap<String, usize>);
+pub type Copy = (disks::Copy, BTreeMap<String, usize>);
 
 /// What faults are drawn from.
 pub struct Faults {
@@ -43,8 +44,9 @@ pub struct Faults {
     more: Random,
     /// The same for what operators do with two roots.
     roots: Random,
-    /// The same for what goes wrong with stores.
+    /// The same for what goes wrong with stores, and for what is lost of disks.
     stores: Random,
+    disks: Random,
     /// How many of each kind there were, and of each field.
     pub counts: BTreeMap<&'static str, u64>,
     pub struck: BTreeMap<String, u64>,
@@ -63,6 +65,7 @@ impl Faults {
             more: Random::new(seed, "groups", 0),
             roots: Random::new(seed, "promotions", 0),
             stores: Random::new(seed, "faults of stores", 0),
+            disks: Random::new(seed, "faults of disks", 0),
             counts: BTreeMap::new(),
             struck: BTreeMap::new(),
             older: (0..agents).map(|_| Vec::new()).collect(),
@@ -177,7 +180,12 @@ impl Faults {
             15 | 16 => {
                 let key = format!("k{}", self.random.below(12));
                 let spoilt = (!self.random.once_in(3)).then(|| b"spoilt".to_vec());
-                set(&mut world.agents[it].disk.files, &key, spoilt);
+                let files = &world.agents[it].disk.files;
+                match self.disks.below(6) {
+                    0 => files.spoil(&format!("{FOLDER}/{GROUPS}"), &(key + "..canary"), spoilt),
+                    1 => files.spoil(FOLDER, &format!("{PENDING}/{key}"), None),
+                    _ => files.spoil(FOLDER, &key, spoilt),
+                }
                 Some("file is spoilt")
             }
             17 => {
@@ -193,7 +201,15 @@ impl Faults {
             _ => {
                 world.judge.spoils(it, false);
                 let number = self.number(world);
-                world.agents[it].disk.marker = self.random.of(&[number, number, 0]);
+                let text = match self.random.below(3) {
+                    0 => self.random.of(&["", "no number"]).into(),
+                    _ => marker::text(number),
+                };
+                let files = &world.agents[it].disk.files;
+                match self.disks.below(6) {
+                    0 => drop(files.remove(FOLDER)),
+                    _ => files.spoil(FOLDER, MARKER, Some(text.into_bytes())),
+                }
                 let starts = self.time(2_000);
                 world.end(it, false, starts);
                 Some("marker is spoilt")
@@ -212,7 +228,7 @@ impl Faults {
     /// Keeps a copy of a disk, which may come back.
     pub fn copies(&mut self, world: &World, it: usize) {
         if self.older[it].len() < 20 && self.random.once_in(4) {
-            let copy = (world.agents[it].disk.clone(), world.judge.places(it));
+            let copy = (world.agents[it].disk.copy(), world.judge.places(it));
             self.older[it].push(copy);
         }
     }
@@ -246,18 +262,26 @@ impl Faults {
         let is_only = it == 0 && world.drawn.roots == 1;
         let starts = self.time(if is_only { most.min(6_000) } else { most });
         world.end(it, power, starts);
-        Some(if power { "machine loses power" } else { "agent crashes" })
+        if !power {
+            return Some("agent crashes");
+        }
+        if let Some((disk, places)) = self.older[it].last().filter(|_| self.disks.once_in(2)) {
+            // (nothing of what is applied is synced; so the marker may be older than the files)
+            world.agents[it].disk.loses_some(disk, &mut self.disks);
+            world.judge.goes_back(it, places.clone());
+        }
+        Some("machine loses power")
     }
 
     fn goes_back(&mut self, world: &mut World, it: usize) -> Option<&'static str> {
         let copies = self.older[it].len();
-        let (disk, places) = self.older[it].get(self.random.at(copies.max(1)))?.clone();
+        let (disk, places) = self.older[it].get(self.random.at(copies.max(1)))?;
         let starts = self.random.below(3_000);
         world.end(it, false, starts);
         // (where it holds a change, it may lack what agents of a group have)
         world.judge.is_set_back |= it == world.root() && world.drawn.holds;
         world.agents[it].disk.goes_back(disk, world.drawn.holds);
-        world.judge.goes_back(it, places);
+        world.judge.goes_back(it, places.clone());
         Some("older disk comes back")
     }
 

@@ -109,8 +109,9 @@ impl World {
         let drawn = Drawn::new(seed, most);
         let (count, stores) = (drawn.configs.len(), drawn.stores);
         let disk = |it: usize| {
-            let stands = (drawn.roots == 2 && it < 2).then(|| roots::begins(it));
-            Disk::new(Random::new(seed, "disk", it as u64), stands)
+            let stands = drawn.roots == 2 && it < 2;
+            let rank = (stands && it == 0).then_some(roots::RANK);
+            Disk::new(Random::new(seed, "disk", it as u64), stands, rank)
         };
         let agents = (0..count).map(|it| Agent {
             machine: None,

@@ -1,6 +1,6 @@
 //! Settings that are read out of a folder which others may write to.
 use rignolda_machine::net::BODY_BYTES;
-use rignolda_machine::settings::{entry_bytes, is_key, SETTINGS, VALUE_BYTES};
+use rignolda_machine::settings::{as_key, entry_bytes, SETTINGS, VALUE_BYTES};
 pub use rignolda_machine::settings::{no_key, Faults, Found};
 use std::fs::{self, OpenOptions};
 use std::io::{self, ErrorKind, Read};
@@ -37,7 +37,7 @@ pub fn too_many() -> io::Error {
 /// # Ok::<(), std::io::Error>(())
 /// ```
 pub fn read_folder(folder: &Path) -> io::Result<Found> {
-    read_folder_by(folder, |name| Some(name.to_owned()).filter(|key| is_key(key)))
+    read_folder_by(folder, as_key)
 }
 
 /// Reads the settings of a folder, where each file has the key that its name stands for, if that

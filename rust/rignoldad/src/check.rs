@@ -2,7 +2,8 @@
 //! machine, and, of the files of a whole tree, which agents do not fit.
 use crate::config::{hook_lines, leads, line_of, read_text};
 use crate::config::{Address, Children, Config, Fault, Tls};
-use crate::files::refusal;
+use crate::place::LocalFiles;
+use rignolda_machine::apply::refusal;
 use rignolda_machine::settings::published_by;
 use rignoldactl::harmless_for;
 use std::collections::BTreeMap;
@@ -102,7 +103,7 @@ impl Check<'_> {
             }
         }
         if let Some(apply) = &config.agent.apply {
-            refusal(apply).iter().for_each(|why| self.say(0, "apply.folder", why));
+            refusal(&LocalFiles, apply).iter().for_each(|why| self.say(0, "apply.folder", why));
             // (what is lacking there is made, and what is above it by a unit)
             let nearest = Path::new(&apply.folder).ancestors().take(2).find(|it| it.is_dir());
             nearest.map(|it| self.may("apply.folder", it, "-r -w -x"));

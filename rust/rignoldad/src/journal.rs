@@ -1,12 +1,14 @@
 //! One line for each fact, on the standard error, where systemd's journal takes it.
 //!
 //! Nobody waits for whoever reads them: a thread writes what waits here, and what does not fit is
-//! counted.
+//! counted. A line is written at once, unless others were just before: then those that follow are
+//! written together.
 use std::collections::VecDeque;
 use std::io::Write;
 use std::os::unix::fs::MetadataExt;
 use std::sync::{Condvar, Mutex, MutexGuard, OnceLock, PoisonError};
-use std::time::Duration;
+use std::time::{Duration, Instant};
+use std::{panic, thread};
 
 /// How many bytes are written at once at most: a pipe takes so many whole.
 const TOGETHER: usize = 4_096;
@@ -14,41 +16,55 @@ const TOGETHER: usize = 4_096;
 const WORDS: usize = 1_000;
 /// How many bytes wait at most.
 const WAITING: usize = 256 << 10;
+/// For how long lines are gathered after others were written, unless so many wait that a write
+/// takes no more, or the process may end.
+const GATHERS: Duration = Duration::from_millis(20);
 /// How long the end of the process waits for whoever reads them.
 const PATIENCE: Duration = Duration::from_secs(1);
 
 static QUEUE: Mutex<Queue> =
-    Mutex::new(Queue { lines: VecDeque::new(), bytes: 0, left_out: 0, is_writing: false });
+    Mutex::new(Queue { lines: VecDeque::new(), bytes: 0, left_out: 0, hurries: false });
 static CHANGED: Condvar = Condvar::new();
 
 struct Queue {
     lines: VecDeque<String>,
+    /// How many bytes they have, with those that are being written.
     bytes: usize,
     left_out: u64,
-    is_writing: bool,
+    /// Whether somebody waits until they are written.
+    hurries: bool,
 }
 
-/// Writes lines: what happened, and the words of each. What is no plain text is escaped. Each is
+/// Writes a line: what happened, and the words of that. What is no plain text is escaped. It is
 /// written whole, so that a process that is killed leaves no part of a line.
-pub fn lines(fact: &str, all: impl IntoIterator<Item = String>) {
+pub fn line(fact: &str, words: &str) {
     static THREAD: OnceLock<bool> = OnceLock::new();
-    let start = || std::thread::Builder::new().name("journal".into()).spawn(write).is_ok();
     THREAD.get_or_init(start);
-    let mut queue = lock();
-    for words in all {
-        let line = line(fact, &words);
-        if queue.bytes + line.len() > WAITING {
-            queue.left_out += 1;
-        } else {
-            queue.bytes += line.len();
-            queue.lines.push_back(line);
-        }
+    let (line, mut queue) = (text(fact, words), lock());
+    let is_first = queue.lines.is_empty();
+    if queue.bytes + line.len() > WAITING {
+        queue.left_out += 1;
+    } else {
+        queue.bytes += line.len();
+        queue.lines.push_back(line);
     }
-    // (mostly there is no line)
-    (!queue.lines.is_empty()).then(|| CHANGED.notify_all());
+    let wakes = is_first || queue.bytes >= TOGETHER;
+    drop(queue);
+    // (else the thread looks by itself)
+    wakes.then(|| CHANGED.notify_all());
 }
 
-fn line(fact: &str, words: &str) -> String {
+/// Starts the thread that writes. What it has gathered is written before a panic ends the process.
+fn start() -> bool {
+    let says = panic::take_hook();
+    panic::set_hook(Box::new(move |why| {
+        flush();
+        says(why);
+    }));
+    thread::Builder::new().name("journal".into()).spawn(write).is_ok()
+}
+
+fn text(fact: &str, words: &str) -> String {
     let is_plain = |byte| matches!(byte, b' '..=b'~') && !matches!(byte, b'\'' | b'"' | b'\\');
     let mut line = [priority(fact, words), fact, " "].concat();
     // (mostly it is)
@@ -63,8 +79,10 @@ fn line(fact: &str, words: &str) -> String {
 
 /// Waits until all lines are written, but not for long: to be called at the end.
 pub fn flush() {
-    let waits = |queue: &mut Queue| queue.is_writing || !queue.lines.is_empty();
-    drop(CHANGED.wait_timeout_while(lock(), PATIENCE, waits));
+    let mut queue = lock();
+    queue.hurries = true;
+    CHANGED.notify_all();
+    drop(CHANGED.wait_timeout_while(queue, PATIENCE, |queue| queue.bytes > 0));
 }
 
 fn lock() -> MutexGuard<'static, Queue> {
@@ -73,7 +91,7 @@ fn lock() -> MutexGuard<'static, Queue> {
 
 /// The thread that writes.
 fn write() {
-    let mut queue = lock();
+    let (mut queue, mut written) = (lock(), None::<Instant>);
     loop {
         if queue.left_out > 0 && queue.bytes < WAITING / 2 {
             let front = priority("journal", "");
@@ -82,21 +100,27 @@ fn write() {
             queue.bytes += line.len();
             queue.lines.push_back(line);
         }
+        if queue.lines.is_empty() {
+            std::mem::take(&mut queue.hurries).then(|| CHANGED.notify_all());
+            queue = CHANGED.wait(queue).unwrap_or_else(PoisonError::into_inner);
+            continue;
+        }
+        let waits = written.map_or(Duration::ZERO, |at| GATHERS.saturating_sub(at.elapsed()));
+        if !waits.is_zero() && !queue.hurries && queue.bytes < TOGETHER {
+            let waited = CHANGED.wait_timeout(queue, waits);
+            queue = waited.unwrap_or_else(PoisonError::into_inner).0;
+            continue;
+        }
         let mut text = String::new();
         while let Some(line) = queue.lines.front().filter(|it| text.len() + it.len() <= TOGETHER) {
             text += line;
             queue.lines.pop_front();
         }
-        queue.is_writing = !text.is_empty();
-        if text.is_empty() {
-            CHANGED.notify_all();
-            queue = CHANGED.wait(queue).unwrap_or_else(PoisonError::into_inner);
-            continue;
-        }
         drop(queue);
         let _ = std::io::stderr().lock().write_all(text.as_bytes());
         queue = lock();
         queue.bytes -= text.len();
+        written = Some(Instant::now());
     }
 }
 
@@ -123,6 +147,6 @@ fn priority(fact: &str, words: &str) -> &'static str {
 #[macro_export]
 macro_rules! fact {
     ($fact:literal, $($words:tt)*) => {
-        $crate::journal::lines($fact, [format!($($words)*)])
+        $crate::journal::line($fact, &format!($($words)*))
     };
 }

@@ -137,14 +137,14 @@ impl Lines {
         self.made = self.made.max(last.unwrap_or(0)) + 1;
         line.is_numbered(self.made);
         let end = line.end();
-        let mut held = Held::new(line, end.shown);
-        self.watch(self.made, &mut held);
-        self.held.insert(self.made, held);
+        self.held.insert(self.made, Held::new(line, end.shown));
+        self.watch(self.made);
         (self.made, end)
     }
 
     /// Has the system tell of this line, if that is to be so in another way than before.
-    fn watch(&mut self, id: u64, held: &mut Held) {
+    fn watch(&mut self, id: u64) {
+        let Some(held) = self.held.get_mut(&id) else { return };
         let (fd, writes) = held.waits_for();
         if held.watched != Some((fd, writes)) {
             let watched = self.watched.line(id, fd, writes);
@@ -153,18 +153,12 @@ impl Lines {
         self.expires = self.expires.min(held.line.expires());
     }
 
-    /// Does this with a line, and waits for what that needs then.
-    fn with<T>(&mut self, id: u64, does: impl FnOnce(&mut Lines, &mut Held) -> T) -> Option<T> {
-        let mut held = self.held.remove(&id)?;
-        let done = does(self, &mut held);
-        self.watch(id, &mut held);
-        self.held.insert(id, held);
-        Some(done)
-    }
-
     /// The lines that are read in this turn: those that were put off come first, since else a few
     /// that are always ready would come alone.
     pub fn in_turn(&mut self, ready: &[u64], is_greeting: impl Fn(u64) -> bool) -> Vec<u64> {
+        if let ([], [] | [_]) = (&self.again[..], ready) {
+            return ready.to_vec();
+        }
         let again = std::mem::take(&mut self.again);
         let first: HashSet<u64> = again.iter().copied().collect();
         let others = ready.iter().copied().filter(|id| !first.contains(id));
@@ -178,48 +172,47 @@ impl Lines {
 
     /// Reads what there is of a line, as long as somebody takes it, and says what came.
     pub fn read(&mut self, id: u64, mut takes: impl FnMut(Input<'_>) -> bool) {
-        self.with(id, |lines, held| {
-            let (mut total, mut reads) = (0, 0);
-            loop {
-                let piece = held.read(&mut lines.space);
-                if let Some(end) = held.shows() {
-                    takes(Input::Shown(id, end));
-                }
-                let (count, is_all) = match piece {
-                    Piece::Nothing => break,
-                    Piece::Over(why) => {
-                        takes(Input::Over(id, &why));
-                        break;
-                    }
-                    Piece::Bytes(count, is_all) => (count, is_all),
-                };
-                if !takes(Input::Bytes(id, &lines.space[..count])) || is_all {
-                    break;
-                }
-                (total, reads) = (total + count, reads + 1);
-                if total >= TURN_BYTES || reads >= TURN_READS {
-                    // (by TLS, there may be more of which the system knows nothing)
-                    lines.again.push(id);
-                    break;
-                }
+        let Some(held) = self.held.get_mut(&id) else { return };
+        let (mut total, mut reads) = (0, 0);
+        loop {
+            let piece = held.read(&mut self.space);
+            if let Some(end) = held.shows() {
+                takes(Input::Shown(id, end));
             }
-        });
+            let (count, is_all) = match piece {
+                Piece::Nothing => break,
+                Piece::Over(why) => {
+                    takes(Input::Over(id, &why));
+                    break;
+                }
+                Piece::Bytes(count, is_all) => (count, is_all),
+            };
+            if !takes(Input::Bytes(id, &self.space[..count])) || is_all {
+                break;
+            }
+            (total, reads) = (total + count, reads + 1);
+            if total >= TURN_BYTES || reads >= TURN_READS {
+                // (by TLS, there may be more of which the system knows nothing)
+                self.again.push(id);
+                break;
+            }
+        }
+        self.watch(id);
     }
 
     /// Sends this on a line, behind what is to be written already.
     pub fn send(&mut self, id: u64, chunk: Chunk) {
-        self.with(id, |lines, held| {
+        if let Some(held) = self.held.get_mut(&id) {
             held.says(chunk);
-            lines.written.extend(held.write().map(|done| (id, done)));
-        });
+            self.write(id);
+        }
     }
 
     /// Writes what can be written now.
     pub fn write(&mut self, id: u64) {
-        if self.held.get(&id).is_some_and(Held::has_output) {
-            self.with(id, |lines, held| {
-                lines.written.extend(held.write().map(|done| (id, done)));
-            });
+        if let Some(held) = self.held.get_mut(&id).filter(|it| it.has_output()) {
+            self.written.extend(held.write().map(|done| (id, done)));
+            self.watch(id);
         }
     }
 
@@ -284,7 +277,7 @@ impl Lines {
             }
         }
         for id in self.held.keys().copied().collect::<Vec<_>>() {
-            self.with(id, |_, _| ());
+            self.watch(id);
         }
         inputs
     }

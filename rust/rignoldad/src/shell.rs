@@ -91,7 +91,7 @@ pub fn run(path: &Path, config: Config) -> Result<(), ErrorAt> {
 
 /// Writes a line at once, for trials.
 fn writes(fact: &Fact) {
-    journal::lines(fact.kind(), [fact.to_string()]);
+    journal::line(fact.kind(), &fact.to_string());
     journal::flush();
 }
 
@@ -140,13 +140,18 @@ impl Shell {
         let reads = [signals.reload.as_raw_fd(), signals.end.as_raw_fd()].into_iter();
         let reads = reads.chain(self.threads.descriptor(&self.machine)).map(|fd| (fd, 0, false));
         let others = reads.chain(self.sockets.descriptors(now)).collect();
-        let until = self.sockets.deadline(now).into_iter().chain([self.machine.until()]).min();
+        let asks = self.threads.asks_at(&self.machine, now);
+        let others_due = self.sockets.deadline(now).into_iter().chain(asks);
+        let until = others_due.chain([self.machine.until()]).min();
         let peers = &self.machine.peers;
         self.lines.wait(|it| peers.knows(it), others, until.unwrap_or(now), most)
     }
 
     /// Does all that can be done now. Mostly there is something to read, and nothing else.
     fn turn(&mut self, fired: &Fired, now: Now) -> Result<(), ErrorAt> {
+        for (at, done) in self.threads.applied() {
+            self.step(now, Input::Applied(at, done));
+        }
         let peers = &self.machine.peers;
         for id in self.lines.in_turn(&fired.ready, |id| peers.is_greeting(id)) {
             let (machine, acts) = (&mut self.machine, &mut self.acts);
@@ -221,7 +226,7 @@ impl Shell {
         match act {
             Act::Send(id, chunk) => self.lines.send(id, chunk),
             Act::Close(id) => self.lines.close(id),
-            Act::Fact(fact) => journal::lines(fact.kind(), [fact.to_string()]),
+            Act::Fact(fact) => journal::line(fact.kind(), &fact.to_string()),
             Act::Answer(ticket, response) => {
                 let response = self.labels.response(response);
                 self.sockets.answer(ticket, &response);

@@ -112,9 +112,10 @@ impl Sockets {
     /// told each second or two.
     pub fn keep(&mut self, now: Time, lines: &mut Lines) {
         self.full_until = self.full_until.min(now + FULL);
-        if !self.all().all(Listener::is_in_place) {
-            self.is_forgotten(lines);
+        if self.all().all(Listener::is_in_place) {
+            return self.lost.clear();
         }
+        self.is_forgotten(lines);
         let served = self.servers.iter_mut().map(Server::listener_mut);
         let mut lost = String::new();
         for it in self.listeners.iter_mut().chain(served).filter(|it| !it.is_in_place()) {

@@ -2,17 +2,16 @@
 //! and what came of it an [`Input`].
 use crate::config::Config;
 use crate::disk::{Disk, ASKED};
-use crate::files;
-use crate::hooks;
 use crate::lines::silence;
-use crate::roles::Folders;
+use crate::place::LocalFiles;
 use crate::workers::{Wake, Workers};
-use rignolda_machine::apply;
+use rignolda_machine::apply::{found, Applier, Done};
 use rignolda_machine::machine::{Act, Found, Input, Machine};
-use rignolda_machine::standby;
+use rignolda_machine::standby::{self, Folders};
+use rignolda_machine::Time;
 use rignolda_redis::Stores;
 use rignolda_redis::Worker;
-use rignoldactl::{at, ErrorAt};
+use rignoldactl::{at, sha256, ErrorAt};
 use std::os::unix::io::RawFd;
 
 /// The threads of an agent.
@@ -29,15 +28,20 @@ impl Threads {
     /// Those that an agent has from its start on; and what they find.
     pub fn new(config: &Config, wake: Wake) -> Result<(Threads, Found), ErrorAt> {
         let apply = config.agent.apply.as_ref();
-        let applied = apply.map(|it| apply::Found {
-            floor: files::floor(it),
-            settings: files::settings(it),
-            due: hooks::due(it.folder.as_ref()),
-        });
+        let applied = apply.map(|it| found(&LocalFiles, &it.folder));
         let apply = apply.map(|it| Workers::new(it, wake.clone())).transpose();
-        let folders = Folders::of(config);
+        let root = config.agent.root.as_ref().filter(|root| root.standby);
+        let folders = root.zip(config.agent.apply.as_ref()).map(|(root, apply)| Folders {
+            system: LocalFiles,
+            sha: sha256,
+            root: root.settings.clone(),
+            applied: apply.folder.clone(),
+        });
         let found = Found { applied, standby: folders.as_ref().map(Folders::begun) };
-        let roles = folders.map(|it| it.start(wake.clone())).transpose();
+        let start = |it: Folders<_>, wake: Wake| {
+            Worker::start("standby", move |job| it.work(job), move || wake())
+        };
+        let roles = folders.map(|it| start(it, wake.clone())).transpose();
         let threads = Threads {
             disk: None,
             apply: apply.map_err(at("apply: its threads cannot be started"))?,
@@ -54,15 +58,24 @@ impl Threads {
         self.disk.as_ref()?.descriptor()
     }
 
-    /// What they have done.
+    /// When they are to be asked what they have done, if they do not wake the loop.
+    pub fn asks_at(&self, machine: &Machine, now: Time) -> Option<Time> {
+        let waits = machine.came.applier.as_ref().is_some_and(Applier::waits);
+        self.apply.as_ref()?.takes_at(waits, now)
+    }
+
+    /// What came of what is applied.
+    pub fn applied(&mut self) -> Vec<(usize, Done)> {
+        self.apply.as_mut().map_or(Vec::new(), Workers::done)
+    }
+
+    /// What the others have done.
     pub fn done(&self) -> Vec<Input<'static>> {
         let mut done = Vec::new();
         let disk = self.disk.iter().flat_map(|it| std::iter::from_fn(|| it.done()));
         done.extend(disk.map(Input::Disk));
         let roles = self.roles.iter().flat_map(|it| std::iter::from_fn(|| it.done()));
         done.extend(roles.map(Input::Stood));
-        let apply = self.apply.iter().flat_map(Workers::done);
-        done.extend(apply.map(|(at, it)| Input::Applied(at, it)));
         done
     }
 

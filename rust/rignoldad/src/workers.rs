@@ -1,18 +1,24 @@
 //! The threads that keep files and run hooks: each does one job of [the applier](Applier) after the
 //! other, as it is told, and wakes the loop when it has done one.
-use crate::files::Files;
-use crate::hooks::{self, House};
-use rignolda_machine::apply::{Applier, Done, Job, What, HOOKS};
+use crate::hooks;
+use crate::place::LocalFiles;
+use crate::system::time;
+use rignolda_machine::apply::{Applier, Done, Job, Keeper, What, HOOKS};
 use rignolda_machine::config::Apply;
-use rignolda_machine::settings::is_newer;
 use rignolda_machine::Time;
 use rignolda_redis::Worker;
+use rignoldactl::sha256;
 use std::io;
 use std::sync::Arc;
 use std::thread::Builder;
+use std::time::Duration;
 
 /// A folder that is in the way of a file may be deep. (What is not used takes no memory.)
 const STACK_BYTES: usize = 16 << 20;
+
+/// How soon the loop takes up what came of files, where nothing waits for that: by then it says
+/// upwards what came, and mostly it is awake for something else before.
+const SOON: Duration = Duration::from_millis(100);
 
 /// Wakes the loop.
 pub type Wake = Arc<dyn Fn() + Send + Sync>;
@@ -21,6 +27,8 @@ pub type Wake = Arc<dyn Fn() + Send + Sync>;
 /// hooks has none.
 pub struct Workers {
     all: Vec<Worker<Job, Done>>,
+    /// By when the loop takes up what comes of the job of files, if it does so by itself.
+    takes: Option<Time>,
     folder: String,
     wake: Wake,
 }
@@ -28,7 +36,8 @@ pub struct Workers {
 impl Workers {
     /// Starts the threads. Where one cannot be started, the others end, and nothing was done.
     pub fn new(config: &Apply, wake: Wake) -> io::Result<Workers> {
-        let mut workers = Workers { all: Vec::new(), folder: config.folder.clone(), wake };
+        let folder = config.folder.clone();
+        let mut workers = Workers { all: Vec::new(), takes: None, folder, wake };
         let has_hooks = config.hook.is_some() || !config.hooks.is_empty();
         workers.start(if has_hooks { 1 + HOOKS } else { 1 })?;
         Ok(workers)
@@ -38,19 +47,33 @@ impl Workers {
         while self.all.len() < count {
             let name = if self.all.is_empty() { "files" } else { "hooks" };
             let thread = Builder::new().name(name.into()).stack_size(STACK_BYTES);
-            let (mut files, wake) = (Files::new(self.folder.as_ref()), self.wake.clone());
-            let worker = Worker::start_as(thread, move |job| work(&mut files, job), move || wake());
-            self.all.push(worker?);
+            let mut keeper = Keeper::new(LocalFiles, &self.folder, sha256);
+            let (work, wake) = (move |job| keeper.work(job, time(), hooks::run), self.wake.clone());
+            self.all.push(Worker::start_as(thread, work, move || wake())?);
         }
         Ok(())
     }
 
+    /// When the loop is to take up what came of files, if it is not woken for that: it is where
+    /// something `waits` for it, as a hook may.
+    pub fn takes_at(&self, waits: bool, now: Time) -> Option<Time> {
+        let files = self.all.first()?;
+        let is_later = self.takes.is_none_or(|at| now < at && at <= now + SOON);
+        let is_quiet = is_later && !waits && self.all.len() == 1;
+        match files.be_quiet(is_quiet) {
+            true => Some(now),
+            false => self.takes.filter(|_| is_quiet),
+        }
+    }
+
     /// What came of jobs since this was asked last, and at which worker.
-    pub fn done(&self) -> Vec<(usize, Done)> {
+    pub fn done(&mut self) -> Vec<(usize, Done)> {
         let done = |(at, worker): (usize, _)| {
             std::iter::from_fn(move || Some((at, Worker::done(worker)?)))
         };
-        self.all.iter().enumerate().flat_map(done).collect()
+        let done: Vec<_> = self.all.iter().enumerate().flat_map(done).collect();
+        self.takes.take_if(|_| done.iter().any(|(at, _)| *at == 0));
+        done
     }
 
     /// Has a worker begin a job.
@@ -58,6 +81,15 @@ impl Workers {
         if at > 0 {
             // (the first hook may have come since; where nobody can run it, that is seen)
             let _ = self.start(1 + HOOKS);
+        } else {
+            let now = time();
+            self.takes = match &job.what {
+                What::Rest => None,
+                What::Mark(mark) if mark.goes_on => Some(now + SOON),
+                What::Keep(_, true) => Some(now + SOON),
+                // (more of them follow)
+                _ => Some(now),
+            };
         }
         if let Some(worker) = self.all.get(at) {
             worker.begin(job);
@@ -88,38 +120,6 @@ impl Workers {
     }
 }
 
-/// Does a job to its end.
-fn work(files: &mut Files, Job { what, config, taken }: Job) -> Done {
-    let house = || House::new(config.folder.as_ref(), taken);
-    match what {
-        What::Mark(mark) => {
-            let goes_on = mark.goes_on;
-            match files.begins(mark, config, taken) {
-                Done::Marked(all, is) if goes_on => {
-                    Done::KeptAtOnce(is, files.keep_all(all.in_order()), files.ends())
-                }
-                done => done,
-            }
-        }
-        What::Keep(part, is_last) => {
-            Done::Kept(files.keep_all(part), is_last.then(|| files.ends()))
-        }
-        What::Rest => Done::Rested(files.rest()),
-        What::One(key, change, floor) => {
-            let house = house();
-            match house.floor() {
-                number if is_newer(number, floor) => Done::Newer(number, change),
-                _ => Done::Ran(hooks::run(&house, &config, &key, &change)),
-            }
-        }
-        What::Many(hook, keys, last) => Done::Ran(hooks::run_for(&hook, &house(), &keys, last)),
-        What::Settle(keys) => {
-            hooks::settle(&house(), &keys);
-            Done::Settled
-        }
-    }
-}
-
 #[cfg(test)]
 mod tests {
     use super::*;
@@ -127,6 +127,32 @@ mod tests {
     use rignolda_machine::net::Body;
     use rignolda_machine::settings::{Heard, Meaning};
     use std::collections::BTreeSet;
+    use std::sync::mpsc;
+
+    #[test]
+    fn the_loop_is_woken_for_what_something_waits_for() {
+        let (to, woken) = mpsc::channel();
+        let wake: Wake = Arc::new(move || to.send(()).unwrap());
+        let mut workers = Workers::new(&Apply::default(), wake).unwrap();
+        let keep = |is_last| {
+            let (what, config) = (What::Keep(Vec::new(), is_last), Arc::default());
+            Job { what, config, taken: None }
+        };
+        assert_eq!(workers.takes_at(false, time()), None);
+        workers.begin(0, keep(true));
+        let now = time();
+        assert!(workers.takes_at(false, now).is_some_and(|at| at <= now + SOON));
+        while workers.done().is_empty() {}
+        assert!(woken.try_recv().is_err());
+        // (where it is done already, nobody sleeps)
+        for (is_last, waits) in [(true, true), (false, false)] {
+            workers.begin(0, keep(is_last));
+            if workers.takes_at(waits, time()).is_none() {
+                woken.recv().unwrap();
+            }
+            assert_eq!(workers.done().len(), 1);
+        }
+    }
 
     /// After a fault of the memory, too.
     #[test]

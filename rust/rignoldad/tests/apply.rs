@@ -1,10 +1,9 @@
 //! The files of settings and their hooks.
-use rignolda_machine::apply::{Applied, Applier as Machine, Hook, Outcome};
+use rignolda_machine::apply::{self, found, Applied, Applier as Machine, Hook, Outcome};
 use rignolda_machine::config::Apply;
 use rignolda_machine::net::Body;
 use rignolda_machine::settings::{furthest, Heard, Meaning, Publisher, Table};
-use rignoldad::files::{self, refusal};
-use rignoldad::hooks;
+use rignoldad::place::LocalFiles;
 use rignoldad::workers::Workers;
 use std::cell::Cell;
 use std::collections::BTreeMap;
@@ -90,7 +89,7 @@ struct Applier {
 
 impl Applier {
     fn new(config: &Apply) -> Applier {
-        let machine = Machine::new(config, hooks::due(config.folder.as_ref()));
+        let machine = Machine::new(config, found(&LocalFiles, &config.folder).due);
         let workers = Workers::new(config, Arc::new(|| ())).unwrap();
         let both = Arc::new(Mutex::new((machine, workers)));
         let goes_on = Arc::downgrade(&both);
@@ -122,7 +121,7 @@ impl Applier {
     }
 
     fn floor(&self) -> u64 {
-        files::floor(&self.config)
+        found(&LocalFiles, &self.config.folder).floor
     }
 
     fn applied(&self, sequence: u64) -> u64 {
@@ -180,6 +179,10 @@ impl Bodies for Applier {
         let entries = entries.map(|(key, value)| (key, Some(value)));
         self.says(Meaning::Table(entries.into()), sequence, true, false);
     }
+}
+
+fn refusal(config: &Apply) -> Option<String> {
+    apply::refusal(&LocalFiles, config)
 }
 
 fn start(config: &Apply) -> Applier {

@@ -1,13 +1,24 @@
 //! Files of settings: each is whole, as it was or as it is now.
+use rignolda_machine::apply::{FileSystem, Step};
 use rignoldad::batch::Batch;
-use rignoldad::folder::Folder;
-use rignoldad::place::remove;
+use rignoldad::place::LocalFiles;
 use std::fs::{self, File, Permissions};
 use std::io::Read;
 use std::os::unix::fs::{symlink, PermissionsExt};
 use std::path::{Path, PathBuf};
 use std::sync::atomic::{AtomicBool, AtomicU32, Ordering};
 use std::thread;
+
+type Folder = rignolda_machine::apply::Folder<LocalFiles>;
+
+/// That at this path.
+fn folder_at(path: impl AsRef<Path>) -> Folder {
+    Folder::new(LocalFiles, path.as_ref().display().to_string())
+}
+
+fn remove(path: &Path) -> std::io::Result<()> {
+    LocalFiles.remove(path.to_str().unwrap())
+}
 
 /// A folder of one test, removed at its end.
 struct Place(PathBuf);
@@ -53,7 +64,7 @@ fn set_mode(path: impl AsRef<Path>, mode: u32) {
 #[test]
 fn who_reads_a_file_while_it_is_put_has_the_old_one_whole() {
     let place = Place::new("old");
-    let mut folder = Folder::new(place.0.clone());
+    let mut folder = folder_at(&place.0);
     let mut batch = Batch::default();
     folder.put("a", Some(b"old value"), MODE).unwrap();
     fs::write(place.0.join("b"), "old value").unwrap();
@@ -72,7 +83,7 @@ fn who_reads_a_file_while_it_is_put_has_the_old_one_whole() {
 #[test]
 fn a_file_has_its_mode_whatever_the_mask_of_the_process_is() {
     let place = Place::new("mode");
-    let mut folder = Folder::new(place.0.clone());
+    let mut folder = folder_at(&place.0);
     // (each mask takes some bit of one of these away)
     for mode in [0o666, 0o640, 0o600, 0o777, 0o666] {
         for value in [&b"1"[..], b"2", b"3"] {
@@ -133,7 +144,7 @@ fn nobody_else_can_read_a_private_file_while_it_is_written() {
             }
         });
         // (until somebody has looked in the middle of it often enough, as far as the system lets)
-        let (mut folder, mut seen) = (Folder::new(place.0.clone()), [0, 0]);
+        let (mut folder, mut seen) = (folder_at(&place.0), [0, 0]);
         for _ in 0..60 {
             let writes: [&mut dyn FnMut(); 2] =
                 [&mut || assert!(folder.put("a", Some(&value), 0o600).unwrap()), &mut || {
@@ -160,7 +171,7 @@ fn whatever_is_in_the_way_is_replaced_and_nothing_elsewhere() {
     let place = Place::new("way");
     let elsewhere = place.0.join("elsewhere");
     let path = place.0.join("settings");
-    let mut folder = Folder::new(path.clone());
+    let mut folder = folder_at(&path);
     fs::write(&elsewhere, "mine").unwrap();
     // (the folder is not there yet)
     folder.put("a", Some(b"1"), MODE).unwrap();
@@ -191,7 +202,7 @@ fn whatever_is_in_the_way_is_replaced_and_nothing_elsewhere() {
 fn what_was_put_last_is_looked_at_and_never_believed() {
     let place = Place::new("looks");
     let file = place.0.join("a");
-    let mut folder = Folder::new(place.0.clone());
+    let mut folder = folder_at(&place.0);
     folder.put("a", Some(b"one"), MODE).unwrap();
     let spoil: [&dyn Fn(); 4] = [
         &|| fs::write(&file, "two").unwrap(),
@@ -208,7 +219,7 @@ fn what_was_put_last_is_looked_at_and_never_believed() {
     assert!(folder.differs("a", Some(b"two"), MODE));
     assert!(folder.differs("a", None, MODE));
     // (one that begins anew looks as well)
-    let mut folder = Folder::new(place.0.clone());
+    let mut folder = folder_at(&place.0);
     assert!(!folder.differs("a", Some(b"one"), MODE));
     assert!(folder.differs("a", Some(b"two"), MODE));
 }
@@ -257,7 +268,7 @@ fn those_of_a_batch_that_fail_are_named_and_the_others_are_there() {
 #[test]
 fn what_is_none_of_settings_is_named_and_a_link_to_a_folder_is_no_folder() {
     let place = Place::new("others");
-    let mut folder = Folder::new(place.0.clone());
+    let mut folder = folder_at(&place.0);
     folder.put("a", Some(b"1"), 0o640).unwrap();
     fs::create_dir_all(place.0.join("inner/deep")).unwrap();
     std::os::unix::fs::symlink("inner", place.0.join("link")).unwrap();
@@ -279,7 +290,6 @@ fn what_is_none_of_settings_is_named_and_a_link_to_a_folder_is_no_folder() {
 fn whoever_may_read_the_files_may_list_the_folder() {
     let place = Place::new("listed");
     fs::create_dir_all(&place.0).unwrap();
-    let folder = Folder::new(place.0.clone());
     for (was, of_files, is) in [
         (0o750, 0o640, 0o750),
         (0o700, 0o640, 0o750),
@@ -288,7 +298,8 @@ fn whoever_may_read_the_files_may_list_the_folder() {
         (0o755, 0o640, 0o755),
     ] {
         set_mode(place.0.clone(), was);
-        folder.is_listed_by_readers(of_files).unwrap();
+        let at = place.0.to_str().unwrap();
+        LocalFiles.does(at, Step::Lists(of_files)).unwrap();
         assert_eq!(mode(&place.0), is, "{was:o} {of_files:o}");
     }
 }
@@ -298,7 +309,7 @@ fn the_first_file_is_there_before_any_other_one() {
     let top = std::env::temp_dir().join(format!("rignolda-first-{}", std::process::id()));
     let (path, first) = (top.join("files"), top.join("files/.first"));
     let _ = fs::remove_dir_all(&top);
-    let mut folder = Folder::new(path.clone());
+    let mut folder = folder_at(&path);
     folder.begins_with(".first", b"1".to_vec());
     assert!(folder.open().unwrap() && !folder.open().unwrap());
     let put = |folder: &mut Folder, key| {

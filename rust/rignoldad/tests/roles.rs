@@ -1,6 +1,7 @@
 //! What an agent that may be promoted finds in its folders at a start.
+use rignolda_machine::standby::Folders;
 use rignoldactl::Standby as Role;
-use rignoldad::roles::Folders;
+use rignoldad::place::LocalFiles;
 use std::fs::{self, Permissions};
 use std::os::unix::fs::PermissionsExt;
 
@@ -9,7 +10,8 @@ fn what_is_wrong_with_the_mark_of_a_root_is_said_at_a_start() {
     let root = std::env::temp_dir().join(format!("rignolda-roles-{}", std::process::id()));
     let _ = fs::remove_dir_all(&root);
     fs::create_dir_all(root.join(".root")).unwrap();
-    let folders = Folders { root: root.clone(), applied: root.join("applied") };
+    let [at, applied] = [root.clone(), root.join("applied")].map(|it| it.display().to_string());
+    let folders = Folders { system: LocalFiles, sha: rignoldactl::sha256, root: at, applied };
     let mark = root.join(".root");
     let begun = |words: &str| {
         let begun = folders.begun();

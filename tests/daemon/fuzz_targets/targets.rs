@@ -4,7 +4,7 @@ use rignolda_machine::below::{reports, Below};
 use rignolda_machine::net::parents::NAMES;
 use rignolda_machine::net::wire::{self, take, Expect, Message, REPORT_BYTES, WAY_BYTES};
 use rignolda_machine::net::{
-    Body, Children, End, Output, Parent, Parents, Peers, Setup, Way, BODY_BYTES,
+    Body, Children, End, Output, Parent, Parents, Peers, Setup, Way, BODY_BYTES, NAME_BYTES,
 };
 use rignolda_machine::settings::{Meaning, Table};
 use rignolda_machine::{Ticket, Time};
@@ -133,7 +133,7 @@ fn messages(bytes: &[u8]) {
             }
             // (no hello has more bytes: so what is kept of one is bounded)
             Ok(None) => {
-                let most = if first % 4 == 0 { 17 + 2 * 255 } else { usize::MAX };
+                let most = if first % 4 == 0 { 17 + 2 * NAME_BYTES } else { usize::MAX };
                 return assert!(!is_long && rest.len() < most);
             }
             Err(_) => return,

@@ -47,7 +47,7 @@ impl Applier {
             turn.waits = None;
             let part = turn.left.drain(..turn.left.len().min(PART)).collect();
             What::Keep(part, turn.left.is_empty())
-        } else if !self.holds && !self.files.is_empty() {
+        } else if self.waits() {
             What::Mark(self.begins())
         } else {
             self.rests.take_if(|at| *at <= now || *at > now + LISTS)?;

@@ -28,10 +28,14 @@ impl Applier {
         take(&mut self.facts)
     }
 
+    /// Whether files wait that may be kept.
+    pub fn waits(&self) -> bool {
+        !self.holds && !self.files.is_empty()
+    }
+
     /// Whether files wait or are kept, or something was done.
     pub fn is_busy(&self) -> bool {
-        let waits = !self.holds && !self.files.is_empty();
-        waits || self.turn.is_some() || !self.done.is_empty()
+        self.waits() || self.turn.is_some() || !self.done.is_empty()
     }
 
     /// The oldest number whose files are not kept yet.
@@ -60,7 +64,7 @@ impl Applier {
         Some((before, digest))
     }
 
-    /// The [digest of all files](crate::digest::Digest::whole), where they may be promoted, are
+    /// The [digest of all files](super::Digest::whole), where they may be promoted, are
     /// what bodies said, and nothing waits.
     pub fn whole(&self) -> Option<String> {
         let waits = self.holds || self.turn.is_some() || !self.files.is_empty();

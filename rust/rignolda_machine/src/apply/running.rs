@@ -44,7 +44,8 @@ impl Applier {
     /// What a worker of hooks begins to run, where it has nothing to do: one for many keys, and
     /// else that of the oldest change whose key has none that runs.
     pub(super) fn runs(&mut self, at: usize) -> Option<What> {
-        if self.running[at].is_some() {
+        let is_none = self.hooks.is_empty() && self.runs.is_empty();
+        if is_none || self.running[at].is_some() {
             return None;
         }
         let running = || self.running.iter().flatten();

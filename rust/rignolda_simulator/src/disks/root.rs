@@ -1,5 +1,7 @@
 //! The disk of a root: its folder, and what it keeps of what it published.
-use super::{set, Disk, Put, Settings};
+use super::files::Node;
+use super::{set, Disk, Put, Settings, RECORD};
+use rignolda_machine::apply::FileSystem;
 use rignolda_machine::root::{self, Record};
 use rignolda_machine::settings::{parts, Faults, Found};
 use rignolda_machine::Refused;
@@ -7,22 +9,16 @@ use std::collections::{BTreeMap, BTreeSet};
 
 impl Disk {
     /// What came of a job.
-    pub(super) fn root_works(
-        &mut self,
-        job: root::Job,
-        folder: &mut Settings,
-        now: u64,
-    ) -> root::Done {
+    pub(super) fn root_works(&mut self, job: root::Job, folder: &mut Settings) -> root::Done {
         match job {
             root::Job::Recall => {
-                root::Done::Recalled(self.record.as_deref().and_then(Record::parse))
+                let text = self.files.read(RECORD, usize::MAX).ok();
+                let text = text.and_then(|it| String::from_utf8(it).ok());
+                root::Done::Recalled(text.and_then(|it| Record::parse(&it)))
             }
             root::Job::Keep(text) => {
-                let done = self.refuses(self.fails, now);
-                if done.is_ok() {
-                    self.record = Some(text);
-                }
-                root::Done::Kept(done)
+                let done = self.files.puts(RECORD, Node::File(0o600, text.into()));
+                root::Done::Kept(done.map_err(|error| error.to_string()))
             }
             root::Job::Read => self.reads(folder),
             root::Job::Changed => match self.changed.replace(BTreeSet::new()) {
@@ -32,10 +28,10 @@ impl Disk {
                 }
                 _ => self.reads(folder),
             },
-            root::Job::Write(changes) => self.writes(changes, folder, now),
+            root::Job::Write(changes) => self.writes(changes, folder),
             root::Job::Promote(key) => {
                 let value = folder.get(&key).cloned();
-                self.writes(vec![(parts(&key).0.into(), value), (key, None)], folder, now)
+                self.writes(vec![(parts(&key).0.into(), value), (key, None)], folder)
             }
         }
     }
@@ -47,10 +43,10 @@ impl Disk {
         root::Done::Read(Ok(Found { settings, unread, faults }))
     }
 
-    fn writes(&mut self, changes: Vec<Put>, folder: &mut Settings, now: u64) -> root::Done {
-        let refused = self.refuses(self.fails, now);
+    fn writes(&mut self, changes: Vec<Put>, folder: &mut Settings) -> root::Done {
+        let is_full = self.files.tree().is_full;
         let write = |(key, value): Put| {
-            let done = refused.clone().map_err(Refused::from);
+            let done = if is_full { Err(Refused::from("no space is left")) } else { Ok(()) };
             if done.is_ok() {
                 set(folder, &key, value.clone());
             }

@@ -5,7 +5,7 @@ use rignoldactl::Request;
 
 /// How far two promotions are from each other at least, in milliseconds: by that much their ranks
 /// are in the order of the clock.
-const APART: u64 = 5_000;
+const APART: u64 = 1_000;
 
 impl Faults {
     /// Something is done with them: after how long something is again.
@@ -52,6 +52,6 @@ impl Faults {
         if world.talks {
             eprintln!("{:>9} n{root} ROOTS {what}", world.clock.now());
         }
-        APART + self.roots.below(25_000)
+        APART + if self.roots.once_in(3) { 0 } else { self.roots.below(25_000) }
     }
 }

@@ -1,6 +1,5 @@
 //! Two roots: which of them the truth is of, and what the manual promises of them.
 use super::{Agent, World};
-use crate::disks::Stands;
 use crate::drawn::name;
 use crate::judge::Broken;
 use rignolda_machine::settings::is_newer;
@@ -40,14 +39,8 @@ impl Roots {
     }
 }
 
-/// What the first one and the second one are when all begins.
-pub fn begins(it: usize) -> Stands {
-    if it == 0 {
-        Stands::root(super::START as u64 * 1_000 - 10_000_000)
-    } else {
-        Stands::default()
-    }
-}
+/// The rank of the first one when all begins.
+pub const RANK: u64 = super::START as u64 * 1_000 - 10_000_000;
 
 impl World {
     /// The root: of two, the one that is to go on.
@@ -152,7 +145,7 @@ impl World {
         }
         let has_all = |it: usize| {
             let Some(machine) = &self.agents[it].machine else { return false };
-            let numbers = [machine.came.table.round, self.agents[it].disk.marker];
+            let numbers = [machine.came.table.round, self.agents[it].disk.marker()];
             !numbers.iter().any(|number| is_newer(rank, *number))
         };
         if !(0..self.agents.len()).all(has_all) || !self.wrong().is_empty() {

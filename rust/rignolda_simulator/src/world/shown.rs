@@ -77,14 +77,14 @@ impl World {
 
     /// Whose files are wrong.
     pub fn wrong(&self) -> Vec<usize> {
-        self.judge.wrong(&|it| self.agents[it].disk.files.clone())
+        self.judge.wrong(&|it| self.agents[it].disk.settings())
     }
 
     /// What of these is wrong first.
     pub fn first_wrong(&self, wrong: &[usize]) -> String {
         let first = wrong.first();
         first.map_or_else(String::new, |it| {
-            self.judge.first_wrong(*it, &self.agents[*it].disk.files)
+            self.judge.first_wrong(*it, &self.agents[*it].disk.settings())
         })
     }
 

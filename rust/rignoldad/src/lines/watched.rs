@@ -51,6 +51,9 @@ impl Watched {
         others: Vec<Other>,
         is_lines: impl Fn(RawFd) -> bool,
     ) -> io::Result<()> {
+        if others == self.others {
+            return Ok(());
+        }
         let is_gone = |fd: RawFd| others.iter().all(|it| it.0 != fd) && !is_lines(fd);
         // (if one was closed, the system has forgotten it)
         self.stop(self.others.iter().map(|it| it.0).filter(|fd| is_gone(*fd)));
