@@ -354,7 +354,9 @@ def a_child_whose_reports_are_none_keeps_its_connection_and_is_counted(tree, roo
                 tree.reaches("leaf")
     count = lambda: left.status()["bad_reports"]
     sure(until(lambda: count() > 20), "of", sent, "it counted", count())
-    sure(f"rignolda_bad_reports_total {count()}" in left.counts(), left.counts())
+    # (those that are under way are counted meanwhile)
+    shown = lambda: f"rignolda_bad_reports_total {count()}\n" in left.counts()
+    sure(until(shown), count(), left.counts())
     lines = left.said("report evil sent what is none")
     sure(0 < lines < 40, "of", sent, "reports it wrote", lines, "lines")
     sure(not child.closed.is_set() and not left.said("closed evil"), left.text()[-500:])

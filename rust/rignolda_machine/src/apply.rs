@@ -42,6 +42,7 @@ mod known;
 pub mod marker;
 mod others;
 mod outcome;
+mod part;
 mod pending;
 mod running;
 

@@ -6,7 +6,7 @@
 use std::collections::VecDeque;
 use std::io::Write;
 use std::os::unix::fs::MetadataExt;
-use std::sync::{Condvar, Mutex, MutexGuard, OnceLock, PoisonError};
+use std::sync::{Condvar, Mutex, MutexGuard, OnceLock, PoisonError, TryLockError};
 use std::time::{Duration, Instant};
 use std::{panic, thread};
 
@@ -21,6 +21,8 @@ const WAITING: usize = 256 << 10;
 const GATHERS: Duration = Duration::from_millis(20);
 /// How long the end of the process waits for whoever reads them.
 const PATIENCE: Duration = Duration::from_secs(1);
+/// How often whoever panics tries to have the queue.
+const TRIES: usize = 1_000;
 
 static QUEUE: Mutex<Queue> =
     Mutex::new(Queue { lines: VecDeque::new(), bytes: 0, left_out: 0, hurries: false });
@@ -54,11 +56,14 @@ pub fn line(fact: &str, words: &str) {
     wakes.then(|| CHANGED.notify_all());
 }
 
-/// Starts the thread that writes. What it has gathered is written before a panic ends the process.
+/// Starts the thread that writes. What it has gathered is written before a panic ends the process,
+/// unless whoever panics has the queue itself.
 fn start() -> bool {
     let says = panic::take_hook();
     panic::set_hook(Box::new(move |why| {
-        flush();
+        if is_free() {
+            flush();
+        }
         says(why);
     }));
     thread::Builder::new().name("journal".into()).spawn(write).is_ok()
@@ -83,6 +88,15 @@ pub fn flush() {
     queue.hurries = true;
     CHANGED.notify_all();
     drop(CHANGED.wait_timeout_while(queue, PATIENCE, |queue| queue.bytes > 0));
+}
+
+/// Whether the queue is free, or soon is: others have it for a few moves alone.
+fn is_free() -> bool {
+    (0..TRIES).any(|_| {
+        let is_held = matches!(QUEUE.try_lock(), Err(TryLockError::WouldBlock));
+        is_held.then(thread::yield_now);
+        !is_held
+    })
 }
 
 fn lock() -> MutexGuard<'static, Queue> {
@@ -149,4 +163,19 @@ macro_rules! fact {
     ($fact:literal, $($words:tt)*) => {
         $crate::journal::line($fact, &format!($($words)*))
     };
+}
+
+#[cfg(test)]
+mod tests {
+    use super::*;
+
+    #[test]
+    fn who_panics_with_the_queue_waits_for_nobody() {
+        line("started", "");
+        let panics = thread::spawn(|| {
+            let _queue = lock();
+            panic!("as a test has it");
+        });
+        assert!(panics.join().is_err());
+    }
 }

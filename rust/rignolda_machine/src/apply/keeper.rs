@@ -1,6 +1,7 @@
 //! Keeps the files of a folder as settings are, one job after the other, and answers what each came
 //! to be. What follows from that, [the applier](super::Applier) decides.
 use super::others::Others;
+use super::part::Part;
 use super::pending::{announce, due};
 use super::{marker, Applied, Digest, Done, Ended, FileSystem, Folder, Found, House, Identity};
 use super::{Job, Kept, Mark, Outcome, Step, What, GROUPS, MARKER, PENDING};
@@ -60,47 +61,6 @@ pub fn published(
 /// As what a digest has a value for groups beside others.
 pub fn beside(key: &str) -> String {
     format!("{GROUPS}/{key}")
-}
-
-/// A folder, and the digest of its files that were kept since all were looked at, if it is known.
-#[derive(Debug)]
-struct Part<S: FileSystem> {
-    folder: Folder<S>,
-    digest: Option<Digest>,
-}
-
-impl<S: FileSystem> Part<S> {
-    /// Makes one file what it should be, where it differs, after that is announced; what was put
-    /// last may be believed. Whether the value is that which was put last, whether it differs, and
-    /// whether it could be put, and is what was read of it.
-    fn keep(
-        &mut self,
-        (key, name): (&str, &str),
-        value: Option<&[u8]>,
-        mode: u32,
-        believes: bool,
-        announces: impl FnOnce(&str) -> Result<(), S::Error>,
-    ) -> (bool, bool, Result<bool, S::Error>) {
-        let Part { folder, digest } = self;
-        let put = value.map_or(!folder.knows(key), |value| folder.had(key, value));
-        let had = believes && put;
-        let differs = !had && folder.differs(key, value, mode);
-        let mut done = Ok(true);
-        if differs {
-            done = announces(folder.at()).and_then(|()| folder.put(key, value, mode));
-        }
-        match (digest, value) {
-            (Some(it), _) if differs && !matches!(done, Ok(true)) => match folder.read(key) {
-                Ok(value) => it.set(name, Some(&value)),
-                Err(error) if S::is_missing(&error) => it.unset(name),
-                Err(_) => it.set(name, None),
-            },
-            (Some(it), Some(value)) if !had => it.set(name, Some(value)),
-            (Some(it), None) => it.unset(name),
-            _ => (),
-        }
-        (put, differs, done)
-    }
 }
 
 /// What the worker has: the folder with its files, and what it knows of them.
