@@ -1,11 +1,13 @@
 //! One line for each fact, on the standard error, where systemd's journal takes it.
 //!
-//! Nobody waits for whoever reads them: a thread writes what waits here, and what does not fit is
-//! counted. A line is written at once, unless others were just before: then those that follow are
-//! written together.
+//! Nobody waits for whoever reads them. A socket, such as that of systemd, is given a line at once,
+//! if it has room. Else a thread writes what waits here, and what does not fit is counted: a line is
+//! written at once, unless others were just before: then those that follow are written together.
+use nix::sys::socket::{send, MsgFlags};
 use std::collections::VecDeque;
 use std::io::Write;
-use std::os::unix::fs::MetadataExt;
+use std::os::unix::fs::{FileTypeExt, MetadataExt};
+use std::os::unix::io::AsRawFd;
 use std::sync::{Condvar, Mutex, MutexGuard, OnceLock, PoisonError, TryLockError};
 use std::time::{Duration, Instant};
 use std::{panic, thread};
@@ -21,20 +23,29 @@ const WAITING: usize = 256 << 10;
 const GATHERS: Duration = Duration::from_millis(20);
 /// How long the end of the process waits for whoever reads them.
 const PATIENCE: Duration = Duration::from_secs(1);
+/// Where the system shows what the standard error is.
+const STDERR: &str = "/proc/self/fd/2";
 /// How often whoever panics tries to have the queue.
 const TRIES: usize = 1_000;
 
-static QUEUE: Mutex<Queue> =
-    Mutex::new(Queue { lines: VecDeque::new(), bytes: 0, left_out: 0, hurries: false });
+static QUEUE: Mutex<Queue> = Mutex::new(Queue {
+    lines: VecDeque::new(),
+    bytes: 0,
+    left_out: 0,
+    hurries: false,
+    looks: false,
+});
 static CHANGED: Condvar = Condvar::new();
 
 struct Queue {
-    lines: VecDeque<String>,
+    lines: VecDeque<Vec<u8>>,
     /// How many bytes they have, with those that are being written.
     bytes: usize,
     left_out: u64,
     /// Whether somebody waits until they are written.
     hurries: bool,
+    /// Whether the thread soon looks by itself.
+    looks: bool,
 }
 
 /// Writes a line: what happened, and the words of that. What is no plain text is escaped. It is
@@ -42,7 +53,13 @@ struct Queue {
 pub fn line(fact: &str, words: &str) {
     static THREAD: OnceLock<bool> = OnceLock::new();
     THREAD.get_or_init(start);
-    let (line, mut queue) = (text(fact, words), lock());
+    let (mut line, mut queue) = (text(fact, words).into_bytes(), lock());
+    if queue.bytes == 0 && queue.left_out == 0 {
+        line.drain(..sent(&line));
+    }
+    if line.is_empty() {
+        return;
+    }
     let is_first = queue.lines.is_empty();
     if queue.bytes + line.len() > WAITING {
         queue.left_out += 1;
@@ -50,10 +67,20 @@ pub fn line(fact: &str, words: &str) {
         queue.bytes += line.len();
         queue.lines.push_back(line);
     }
-    let wakes = is_first || queue.bytes >= TOGETHER;
+    let wakes = is_first && !queue.looks || queue.bytes >= TOGETHER;
     drop(queue);
-    // (else the thread looks by itself)
     wakes.then(|| CHANGED.notify_all());
+}
+
+/// How many bytes a socket that reads the lines has room for now, and was given; else none.
+fn sent(line: &[u8]) -> usize {
+    static IS_SOCKET: OnceLock<bool> = OnceLock::new();
+    let is_socket = || std::fs::metadata(STDERR).is_ok_and(|it| it.file_type().is_socket());
+    if !IS_SOCKET.get_or_init(is_socket) {
+        return 0;
+    }
+    let at_once = MsgFlags::MSG_DONTWAIT | MsgFlags::MSG_NOSIGNAL;
+    send(std::io::stderr().as_raw_fd(), line, at_once).unwrap_or(0)
 }
 
 /// Starts the thread that writes. What it has gathered is written before a panic ends the process,
@@ -112,26 +139,30 @@ fn write() {
             let count = std::mem::take(&mut queue.left_out);
             let line = format!("{front}journal {count} lines are left out: they were not read\n");
             queue.bytes += line.len();
-            queue.lines.push_back(line);
+            queue.lines.push_back(line.into_bytes());
         }
         if queue.lines.is_empty() {
             std::mem::take(&mut queue.hurries).then(|| CHANGED.notify_all());
-            queue = CHANGED.wait(queue).unwrap_or_else(PoisonError::into_inner);
-            continue;
         }
         let waits = written.map_or(Duration::ZERO, |at| GATHERS.saturating_sub(at.elapsed()));
         if !waits.is_zero() && !queue.hurries && queue.bytes < TOGETHER {
+            queue.looks = true;
             let waited = CHANGED.wait_timeout(queue, waits);
             queue = waited.unwrap_or_else(PoisonError::into_inner).0;
             continue;
         }
-        let mut text = String::new();
+        queue.looks = false;
+        if queue.lines.is_empty() {
+            queue = CHANGED.wait(queue).unwrap_or_else(PoisonError::into_inner);
+            continue;
+        }
+        let mut text = Vec::new();
         while let Some(line) = queue.lines.front().filter(|it| text.len() + it.len() <= TOGETHER) {
-            text += line;
+            text.extend_from_slice(line);
             queue.lines.pop_front();
         }
         drop(queue);
-        let _ = std::io::stderr().lock().write_all(text.as_bytes());
+        let _ = std::io::stderr().lock().write_all(&text);
         queue = lock();
         queue.bytes -= text.len();
         written = Some(Instant::now());
@@ -142,7 +173,7 @@ fn write() {
 fn priority(fact: &str, words: &str) -> &'static str {
     static IS_READ: OnceLock<bool> = OnceLock::new();
     let is_read = || {
-        let stderr = std::fs::metadata("/proc/self/fd/2").ok()?;
+        let stderr = std::fs::metadata(STDERR).ok()?;
         let stream = std::env::var("JOURNAL_STREAM").ok()?;
         Some(stream == format!("{}:{}", stderr.dev(), stderr.ino()))
     };

@@ -131,6 +131,10 @@ impl FileSystem for LocalFiles {
         })
     }
 
+    fn is_there(&self, path: &str, folder: Identity) -> bool {
+        fs::metadata(path).is_ok_and(|is| is.is_dir() && identity(&is) == folder)
+    }
+
     fn look(&self, path: &str) -> io::Result<Look> {
         fs::symlink_metadata(path).map(|is| Look {
             is_file: is.is_file(),

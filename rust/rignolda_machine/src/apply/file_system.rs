@@ -66,6 +66,11 @@ pub trait FileSystem: Clone + Debug {
     fn open(&self, path: &str, itself: bool) -> Result<Place<Self::Held>, Self::Error>;
     fn open_or_make(&self, path: &str) -> Result<Place<Self::Held>, Self::Error>;
 
+    /// Whether this folder is at a path; a link there is followed.
+    fn is_there(&self, path: &str, folder: Identity) -> bool {
+        self.open(path, false).is_ok_and(|place| place.is == folder)
+    }
+
     /// What is at a path.
     fn look(&self, path: &str) -> Result<Look, Self::Error>;
     /// The names in a folder, and whether each is one of a folder.

@@ -64,6 +64,10 @@ impl<S: FileSystem> Folder<S> {
     /// Opens what is at its path now, and makes it where nothing is, or no folder: whether it is
     /// another folder than the last one.
     pub fn open(&mut self) -> Result<bool, S::Error> {
+        let open = self.is.filter(|_| self.place.is_some());
+        if open.is_some_and(|is| self.system.is_there(&self.path, is)) {
+            return Ok(false);
+        }
         let place = self.system.open_or_make(&self.path)?;
         Ok(self.is_at(place))
     }

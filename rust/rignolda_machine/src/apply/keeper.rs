@@ -274,7 +274,6 @@ impl<S: FileSystem> Keeper<S> {
             self.facts.extend(self.others.may_say(folder, is_whole, now));
         }
         self.may_go = true;
-        folder.close();
         let whole = digest.as_ref().zip(self.grouped.digest.as_ref()).map(|it| it.0.whole(it.1));
         let sum = digest.as_ref().map_or(0, |it| it.sum);
         Ended { is: folder.is(), sum, whole, grouped, facts: take(&mut self.facts) }
@@ -283,6 +282,7 @@ impl<S: FileSystem> Keeper<S> {
     /// Leaves nothing open, and does what may wait: what there is to be said.
     fn rest(&mut self, now: Time) -> Option<Fact> {
         self.marker = S::Marker::default();
+        self.files.folder.close();
         let fact = self.others.say_if_due(&self.files.folder, now);
         if take(&mut self.may_go) {
             self.files.folder.begins_again();
