@@ -4,14 +4,14 @@ use Rattle.std.specs.List.{flat_map, AllByRecursion}
 use Rattle.std.proofs.lemmas.List.{append-nil}
 use Rattle.std.proofs.lemmas.List.Concat.{flat_map-cons}
 use Rattle.rignolda_wire.specs.declared.fault.Fault.{Fault}
-use Rattle.rignolda_wire.specs.declared.fault.Fault.TheVariants.{More, NoHello, NoVersion, NoName, NoMessage, LongBody, LongWay, NoNameOfWay, LongReport}
+use Rattle.rignolda_wire.specs.declared.fault.Fault.TheVariants.{More, NoHello, NoVersion, NoName, NoMessage, LongBody, LongWay, NoNameOfWay, LongReport, LongSignature}
 use Rattle.rignolda_wire.specs.declared.said.Expect.{Expect}
 use Rattle.rignolda_wire.specs.Reading.{message_at}
 use Rattle.rignolda_wire.specs.Said.{IsMessage, Said, spelling}
 use Rattle.rignolda_wire.specs.Seen.{AreBytes}
 use Rattle.rignolda_wire.specs.Streams.{Splits}
 use Rattle.rignolda_wire.proofs.Codecs.{stays}
-use Rattle.rignolda_wire.proofs.Messages.{codec_message}
+use Rattle.rignolda_wire.proofs.Signed.{codec_message}
 use Rattle.rignolda_wire.proofs.Steps.{fault_is, same}
 
 pub again : (expect : Expect) (m : Said) (rest : List ℕ) → IsMessage expect m → message_at expect (spelling m ++ rest) ≡ Ok (m, rest)
@@ -34,6 +34,7 @@ no_more LongBody not_other = absurd (not_other (λ e. cc))
 no_more LongWay not_other = absurd (not_other (λ e. cc))
 no_more NoNameOfWay not_other = absurd (not_other (λ e. cc))
 no_more LongReport not_other = absurd (not_other (λ e. cc))
+no_more LongSignature not_other = absurd (not_other (λ e. cc))
 
 module _ (expect : Expect) (m : Said) (front rest : List ℕ) (is : IsMessage expect m) (whole : spelling m ≡ front ++ rest)
     (some : rest ≢ []) (are : AreBytes front) where

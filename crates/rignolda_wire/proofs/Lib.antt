@@ -4,7 +4,9 @@ pub mod Codecs
 pub mod Parts
 pub mod Others
 pub mod Hellos
+pub mod Choices
 pub mod Messages
+pub mod Signed
 pub mod Fronts
 pub mod Texts
 pub mod Written

@@ -1,42 +1,15 @@
--- What the readers of all other messages do, and that of any message.
-use Rattle.std.proofs.Common.{◌≡◌, ℕ, ◌+◌, ◌^◌, ◌<◌, ◌≤◌, ◌⊎◌, inl, inr, true, false, List, [], ◌++◌, length, refl, sym, ◌∙◌, arith}
-use Rattle.std.specs.Prelude.{◌==◌}
+-- What the readers of all other messages do up to version 4.
+use Rattle.std.proofs.Common.{◌≡◌, ℕ, ◌^◌, ◌<◌, ◌≤◌, inl, inr, true, List, [], ◌∷◌, ◌++◌, length, refl, arith}
 use Rattle.std.specs.Int.{w16, w32, to_be_bytes}
-use Rattle.std.proofs.lemmas.Bool.{eqb-false, eqb-true}
-use Rattle.rignolda_wire.specs.declared.fault.Fault.TheVariants.{LongBody, LongReport, LongWay, NoMessage, NoNameOfWay}
-use Rattle.rignolda_wire.specs.declared.said.Expect.{Expect}
-use Rattle.rignolda_wire.specs.declared.said.Expect.TheVariants.{Hello, Way, Frames, Acks}
+use Rattle.rignolda_wire.specs.declared.fault.Fault.TheVariants.{LongBody, LongReport, LongWay, NoNameOfWay}
+use Rattle.rignolda_wire.specs.declared.said.Expect.TheVariants.{Way, Frames, Acks}
 use Rattle.rignolda_wire.specs.Names.{are_few, are_names}
-use Rattle.rignolda_wire.specs.Reading.{◌>>=◌, Reader, byte_at, candidate_at, child_at, choose, counted_at, frame_at, give, kind_at, limited_at, message_at, names_at, number_at, parent_at, reference_at, refuse, text_at, way_at}
-use Rattle.rignolda_wire.specs.Said.{Framed, IsFrame, IsMessage, IsReference, IsWay, Referred, Routed, Said, ack, after_letter, asks, body_limit, digest_len, frame, frame_bytes, goodbye, head_len, lacks, letter, most, reference_bytes, refers, report, report_limit, spelling, way, way_bytes, way_limit}
-use Rattle.rignolda_wire.proofs.Codecs.{Any, IsCodec, codec_after, codec_choose, codec_give, codec_like, codec_map, codec_refuse, codec_wanted}
-use Rattle.rignolda_wire.proofs.Parts.{codec_byte, codec_number, codec_text, wide16, wide32}
-use Rattle.rignolda_wire.proofs.Others.{codec_counted, codec_limited, long_body, long_report, long_way, no_message, no_name_of_way}
-use Rattle.rignolda_wire.proofs.Hellos.{codec_hello}
-
--- ---- a message by its first letter
-
-abbrev First : ℕ → Said → Type 0
-First first m = (letter m ≡ first) × Any m
-
--- the messages of a letter are those of one kind: that letter has no others among those that may come
-abbrev IsKind : Expect → ℕ → (A : Type 0) → (A → Said) → (A → Type 0) → Type 0
-IsKind expect first A kind Good = (m : Said) → letter m ≡ first → IsMessage expect m → (a : A) × (m ≡ kind a) × Good a
-
-codec_kind : {A : Type 0} {GA : A → Type 0} {sa : A → List ℕ} {j k : ℕ} {r : Reader A} (expect : Expect) (first one : ℕ) (kind : A → Said)
-    → (first == one) ≡ true → j ≤ k → IsCodec A Any GA sa j r
-    → ((a : A) → GA a → (letter (kind a) ≡ one) × IsMessage expect (kind a) × (after_letter (kind a) ≡ sa a))
-    → IsKind expect one A kind GA
-    → IsCodec Said (First first) (IsMessage expect) after_letter k (kind_at kind r)
-codec_kind expect first one kind is less c into back =
-    let e : first ≡ one = eqb-true first one is in
-    codec_like
-    (codec_map (First first) (IsMessage expect) after_letter kind c
-    (λ a good. let (begins, may, spelled) = into a good in ((begins ∙ sym e, tt), may, spelled))
-    (λ m known may. back m (known.0 ∙ e) may))
-    less
-    (λ m known may. (known, may, refl))
-    (λ m known may. (known, may))
+use Rattle.rignolda_wire.specs.Reading.{◌>>=◌, Reader, candidate_at, child_at, counted_at, frame_at, give, kind_at, limited_at, names_at, number_at, parent_at, reference_at, text_at, way_at}
+use Rattle.rignolda_wire.specs.Said.{Framed, IsFrame, IsMessage, IsReference, IsWay, Referred, Routed, Said, ack, asks, body_limit, digest_len, frame, frame_bytes, goodbye, head_len, lacks, letter, reference_bytes, refers, report, report_limit, spelling, way, way_bytes, way_limit}
+use Rattle.rignolda_wire.proofs.Codecs.{Any, IsCodec, codec_after, codec_like, codec_map, codec_wanted}
+use Rattle.rignolda_wire.proofs.Parts.{codec_number, codec_text, wide16, wide32}
+use Rattle.rignolda_wire.proofs.Others.{codec_counted, codec_limited, long_body, long_report, long_way, no_name_of_way}
+use Rattle.rignolda_wire.proofs.Choices.{Choices, IsAmong, IsKind, codec_alone, codec_among, codec_kind}
 
 -- ---- ways
 
@@ -56,7 +29,7 @@ codec_names =
 abbrev routes : ℕ → List ℕ → Routed
 routes cost names = record { cost = cost; names = names }
 
-codec_way : IsCodec Routed Any IsWay way_bytes 8324 way_at
+pub codec_way : IsCodec Routed Any IsWay way_bytes 8324 way_at
 unfolding way_at
 codec_way =
     codec_like (codec_after (λ (w : Routed). w.cost) (λ cost. names_at >>= λ names. give (routes cost names)) (codec_number w16 (2 ^ 16) wide16)
@@ -127,7 +100,7 @@ Known label item len head r = (r.head ≡ head) × ((r.len ≡ len) × ((r.item 
 codec_so_long : (n : ℕ) → IsCodec (List ℕ) Any (λ t. length t ≡ n) (λ t. t) n (text_at n)
 codec_so_long n = codec_text Any (λ t. length t ≡ n) n n (omega arith) (λ t known good. good) (λ t is. (tt, is))
 
-codec_reference : IsCodec Referred Any IsReference reference_bytes 51 reference_at
+pub codec_reference : IsCodec Referred Any IsReference reference_bytes 51 reference_at
 unfolding reference_at
 codec_reference =
     codec_like (codec_after (λ (r : Referred). r.label) (λ label. number_at w32 >>= with_len label) (codec_number w16 (2 ^ 16) wide16)
@@ -150,86 +123,30 @@ reference_of_parent m begins may = absurd may
 
 -- ---- what a candidate says
 
-none_of_candidate : (first : ℕ) → (first == 87) ≡ false → (m : Said) → First first m → IsMessage Way m → ⊥
-none_of_candidate first no_way (way w) known may = eqb-false first 87 no_way (sym known.0)
-none_of_candidate first no_way m known may = absurd may
+abbrev of_candidates : Choices
+of_candidates = (87, kind_at way way_at) ∷ []
 
-codec_candidate : IsCodec Said Any (IsMessage Way) spelling 8325 candidate_at
+among_candidates : (m : Said) → IsMessage Way m → IsAmong (letter m) of_candidates
+among_candidates (way w) may = inl refl
+among_candidates m may = absurd may
+
+pub codec_candidate : IsCodec Said Any (IsMessage Way) spelling 8325 candidate_at
 unfolding candidate_at
 codec_candidate =
-    codec_like (codec_after letter (λ first. choose (first == 87) (kind_at way way_at) (refuse NoMessage)) codec_byte
-    (λ first _. codec_choose (first == 87) (kind_at way way_at) (refuse NoMessage)
-    (λ is. codec_kind {k = 8324} Way first 87 way is (omega arith) codec_way (λ w good. (refl, good, refl)) way_of_candidate)
-    (λ no_way. codec_refuse (First first) (IsMessage Way) after_letter 8324 NoMessage no_message (none_of_candidate first no_way))))
-    (omega arith)
-    (λ m known good. (tt, good.1, refl))
-    (λ m known may. (tt, (low m may, may)))
-  where
-    low : (m : Said) → IsMessage Way m → letter m < 256
-    low (way w) may = omega arith
-    low m may = absurd may
-
--- ---- messages of four kinds
-
--- each that may come has one of four letters
-abbrev Among : Expect → ℕ → ℕ → ℕ → ℕ → Type 0
-Among expect a b c d = (m : Said) → IsMessage expect m → ((letter m ≡ a) ⊎ (letter m ≡ b)) ⊎ ((letter m ≡ c) ⊎ (letter m ≡ d))
-
--- a kind's reader is chosen by its letter
-abbrev Chosen : Expect → ℕ → ℕ → Reader Said → Type 0
-Chosen expect k one r = (first : ℕ) → (first == one) ≡ true → IsCodec Said (First first) (IsMessage expect) after_letter k r
-
-codec_four : (expect : Expect) (k a b c d : ℕ) (ra rb rc rd : Reader Said) → Among expect a b c d → a < 256 → b < 256 → c < 256 → d < 256
-    → Chosen expect k a ra → Chosen expect k b rb → Chosen expect k c rc → Chosen expect k d rd
-    → IsCodec Said Any (IsMessage expect) spelling (1 + k)
-    (byte_at >>= λ first. choose (first == a) ra (choose (first == b) rb (choose (first == c) rc (choose (first == d) rd (refuse NoMessage)))))
-codec_four expect k a b c d ra rb rc rd among low_a low_b low_c low_d is_a is_b is_c is_d =
-    let last : ℕ → Reader Said = λ first. choose (first == d) rd (refuse NoMessage) in
-    let two : ℕ → Reader Said = λ first. choose (first == c) rc (last first) in
-    let three : ℕ → Reader Said = λ first. choose (first == b) rb (two first) in
-    codec_like (codec_after letter (λ first. choose (first == a) ra (three first)) codec_byte
-    (λ first _. codec_choose (first == a) ra (three first) (is_a first)
-    (λ no_a. codec_choose (first == b) rb (two first) (is_b first)
-    (λ no_b. codec_choose (first == c) rc (last first) (is_c first)
-    (λ no_c. codec_choose (first == d) rd (refuse NoMessage) (is_d first)
-    (λ no_d. codec_refuse (First first) (IsMessage expect) after_letter k NoMessage no_message (none first no_a no_b no_c no_d)))))))
-    (omega arith)
-    (λ m known good. (tt, good.1, refl))
-    (λ m known may. (tt, (low m may, may)))
-  where
-    none : (first : ℕ) → (first == a) ≡ false → (first == b) ≡ false → (first == c) ≡ false → (first == d) ≡ false → (m : Said) → First first m → IsMessage expect m → ⊥
-    none first no_a no_b no_c no_d m known may =
-        let is : first ≡ letter m = sym known.0 in
-        elim (among m may) [
-          | inl (inl e) ↦ eqb-false first a no_a (is ∙ e)
-          | inl (inr e) ↦ eqb-false first b no_b (is ∙ e)
-          | inr (inl e) ↦ eqb-false first c no_c (is ∙ e)
-          | inr (inr e) ↦ eqb-false first d no_d (is ∙ e)
-        ]
-
-    low : (m : Said) → IsMessage expect m → letter m < 256
-    low m may =
-        elim (among m may) [
-          | inl (inl e) ↦ omega (arith, e, low_a)
-          | inl (inr e) ↦ omega (arith, e, low_b)
-          | inr (inl e) ↦ omega (arith, e, low_c)
-          | inr (inr e) ↦ omega (arith, e, low_d)
-        ]
-
--- a kind that is its letter alone
-codec_alone : (expect : Expect) (k one : ℕ) (v : Said) → letter v ≡ one → after_letter v ≡ [] → IsMessage expect v
-    → ((m : Said) → letter m ≡ one → IsMessage expect m → m ≡ v) → Chosen expect k one (give v)
-codec_alone expect k one v begins none may only first is =
-    let e : first ≡ one = eqb-true first one is in
-    codec_give (First first) (IsMessage expect) after_letter k v (begins ∙ sym e, tt) may none (λ m known may_m. only m (known.0 ∙ e) may_m)
+    codec_among Way 8324 of_candidates
+    (omega arith, ((λ first is. codec_kind {k = 8324} Way first 87 way is (omega arith) codec_way (λ w good. (refl, good, refl)) way_of_candidate), tt))
+    among_candidates
 
 -- ---- what a parent says
 
-among_parents : Among Frames 70 68 87 81
-among_parents (frame f) may = inl (inl refl)
-among_parents (refers r) may = inl (inr refl)
-among_parents (way w) may = inr (inl refl)
-among_parents asks may = inr (inr refl)
+abbrev of_parents : Choices
+of_parents = (70, kind_at frame frame_at) ∷ (68, kind_at refers reference_at) ∷ (87, kind_at way way_at) ∷ (81, give asks) ∷ []
+
+among_parents : (m : Said) → IsMessage Frames m → IsAmong (letter m) of_parents
+among_parents (frame f) may = inl refl
+among_parents (refers r) may = inr (inl refl)
+among_parents (way w) may = inr (inr (inl refl))
+among_parents asks may = inr (inr (inr (inl refl)))
 among_parents m may = absurd may
 
 asks_of_parent : (m : Said) → letter m ≡ 81 → IsMessage Frames m → m ≡ asks
@@ -239,27 +156,44 @@ asks_of_parent (refers r) begins may = absurd (omega (arith, begins))
 asks_of_parent (way w) begins may = absurd (omega (arith, begins))
 asks_of_parent m begins may = absurd may
 
-codec_parent : IsCodec Said Any (IsMessage Frames) spelling 16777227 parent_at
+pub codec_parent : IsCodec Said Any (IsMessage Frames) spelling 16777227 parent_at
 unfolding parent_at
 codec_parent =
     let k : ℕ = 16777226 in
-    codec_four Frames k 70 68 87 81 (kind_at frame frame_at) (kind_at refers reference_at) (kind_at way way_at) (give asks)
-    among_parents (omega arith) (omega arith) (omega arith) (omega arith)
-    (λ first is. codec_kind {k = k} Frames first 70 frame is (omega arith) codec_frame (λ f good. (refl, good, refl)) frame_of_parent)
-    (λ first is. codec_kind {k = k} Frames first 68 refers is (omega arith) codec_reference (λ r good. (refl, good, refl)) reference_of_parent)
-    (λ first is. codec_kind {k = k} Frames first 87 way is (omega arith) codec_way (λ w good. (refl, good, refl)) way_of_parent)
-    (codec_alone Frames k 81 asks refl refl tt asks_of_parent)
+    codec_among Frames k of_parents (
+      omega arith,
+      (
+        (λ first is. codec_kind {k = k} Frames first 70 frame is (omega arith) codec_frame (λ f good. (refl, good, refl)) frame_of_parent),
+        (
+          omega arith,
+          (
+            (λ first is. codec_kind {k = k} Frames first 68 refers is (omega arith) codec_reference (λ r good. (refl, good, refl)) reference_of_parent),
+            (
+              omega arith,
+              (
+                (λ first is. codec_kind {k = k} Frames first 87 way is (omega arith) codec_way (λ w good. (refl, good, refl)) way_of_parent),
+                (omega arith, (codec_alone Frames k 81 asks refl refl tt asks_of_parent, tt)),
+              ),
+            ),
+          ),
+        ),
+      ),
+    )
+    among_parents
 
 -- ---- what a child says
 
-among_children : Among Acks 65 78 82 71
-among_children (ack label) may = inl (inl refl)
-among_children (lacks label) may = inl (inr refl)
-among_children (report text) may = inr (inl refl)
-among_children goodbye may = inr (inr refl)
+abbrev of_children : Choices
+of_children = (65, kind_at ack (number_at w16)) ∷ (78, kind_at lacks (number_at w16)) ∷ (82, kind_at report (counted_at w32 report_limit LongReport)) ∷ (71, give goodbye) ∷ []
+
+among_children : (m : Said) → IsMessage Acks m → IsAmong (letter m) of_children
+among_children (ack label) may = inl refl
+among_children (lacks label) may = inr (inl refl)
+among_children (report text) may = inr (inr (inl refl))
+among_children goodbye may = inr (inr (inr (inl refl)))
 among_children m may = absurd may
 
-abbrev IsLabel : ℕ → Type 0
+abbrev pub IsLabel : ℕ → Type 0
 IsLabel label = label < 2 ^ 16
 
 abbrev IsReport : List ℕ → Type 0
@@ -293,24 +227,30 @@ report_of_child (lacks label) begins may = absurd (omega (arith, begins))
 report_of_child goodbye begins may = absurd (omega (arith, begins))
 report_of_child m begins may = absurd may
 
-codec_child : IsCodec Said Any (IsMessage Acks) spelling 1048581 child_at
+pub codec_child : IsCodec Said Any (IsMessage Acks) spelling 1048581 child_at
 unfolding child_at
 codec_child =
     let k : ℕ = 1048580 in
     let number = codec_number w16 (2 ^ 16) wide16 in
-    codec_four Acks k 65 78 82 71 (kind_at ack (number_at w16)) (kind_at lacks (number_at w16)) (kind_at report (counted_at w32 report_limit LongReport)) (give goodbye)
-    among_children (omega arith) (omega arith) (omega arith) (omega arith)
-    (λ first is. codec_kind {k = k} Acks first 65 ack is (omega arith) number (λ label low. (refl, low, refl)) ack_of_child)
-    (λ first is. codec_kind {k = k} Acks first 78 lacks is (omega arith) number (λ label low. (refl, low, refl)) lacks_of_child)
-    (λ first is.
-    codec_kind {k = k} Acks first 82 report is (omega arith) (codec_counted w32 (2 ^ 32) report_limit LongReport long_report wide32 (omega arith))
-    (λ text short. (refl, short, refl)) report_of_child)
-    (codec_alone Acks k 71 goodbye refl refl tt goodbye_of_child)
-
--- ---- any message
-
-pub codec_message : (expect : Expect) → IsCodec Said Any (IsMessage expect) spelling (most expect) (message_at expect)
-codec_message Hello = codec_hello
-codec_message Way = codec_candidate
-codec_message Frames = codec_parent
-codec_message Acks = codec_child
+    codec_among Acks k of_children (
+      omega arith,
+      (
+        (λ first is. codec_kind {k = k} Acks first 65 ack is (omega arith) number (λ label low. (refl, low, refl)) ack_of_child),
+        (
+          omega arith,
+          (
+            (λ first is. codec_kind {k = k} Acks first 78 lacks is (omega arith) number (λ label low. (refl, low, refl)) lacks_of_child),
+            (
+              omega arith,
+              (
+                (λ first is.
+                    codec_kind {k = k} Acks first 82 report is (omega arith) (codec_counted w32 (2 ^ 32) report_limit LongReport long_report wide32 (omega arith))
+                    (λ text short. (refl, short, refl)) report_of_child),
+                (omega arith, (codec_alone Acks k 71 goodbye refl refl tt goodbye_of_child, tt)),
+              ),
+            ),
+          ),
+        ),
+      ),
+    )
+    among_children

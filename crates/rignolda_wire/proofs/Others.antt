@@ -5,7 +5,7 @@ use Rattle.std.specs.List.{list_all}
 use Rattle.std.specs.Int.{Width, byte_len, to_be_bytes}
 use Rattle.std.proofs.lemmas.Bool.{eqb-true, le-leb, leb-true}
 use Rattle.rignolda_wire.specs.declared.fault.Fault.{Fault}
-use Rattle.rignolda_wire.specs.declared.fault.Fault.TheVariants.{More, NoHello, NoVersion, NoName, NoMessage, LongBody, LongWay, NoNameOfWay, LongReport}
+use Rattle.rignolda_wire.specs.declared.fault.Fault.TheVariants.{More, NoHello, NoVersion, NoName, NoMessage, LongBody, LongWay, NoNameOfWay, LongReport, LongSignature}
 use Rattle.rignolda_wire.specs.Names.{begins_well, is_name, is_name_byte, is_name_or_none, name_limit}
 use Rattle.rignolda_wire.specs.Reading.{◌>>=◌, Reader, counted_at, letter_at, limited_at, name_at, name_len_at, text_at, version_at, wanted}
 use Rattle.rignolda_wire.specs.Said.{name_bytes}
@@ -35,6 +35,9 @@ no_name_of_way e = cc
 
 pub long_report : LongReport ≢ More
 long_report e = cc
+
+pub long_signature : LongSignature ≢ More
+long_signature e = cc
 
 -- ---- limits
 

@@ -49,5 +49,8 @@ one_more buffer mid all at end text left rest within put ends whole is =
 pub nothing_more : (text : List ℕ) → text ++ [] ≡ text
 nothing_more text = append-nil text
 
+pub behind_both : (x y z : List ℕ) → (x ++ y) ++ z ≡ x ++ (y ++ z)
+behind_both x y z = append_assoc x y z
+
 pub as_long : (x y : List ℕ) → length (x ++ y) ≡ length x + length y
 as_long x y = length-append x y

@@ -10,10 +10,10 @@ use Rattle.rignolda_wire.specs.declared.fault.Fault.TheVariants.{More}
 use Rattle.rignolda_wire.specs.declared.refusal.Refusal.{Refusal}
 use Rattle.rignolda_wire.specs.declared.refusal.Refusal.TheVariants.{NotSaid, OtherName, NoChild, NoParent, Calls, Certificate, Full, Twin}
 use Rattle.rignolda_wire.specs.declared.said.Expect.{Expect}
-use Rattle.rignolda_wire.specs.declared.said.Expect.TheVariants.{Hello, Frames}
-use Rattle.rignolda_wire.specs.Reading.{◌>>=◌, Reader, counted_at, fourth_at, give, greeting_at, hello_at, letter_at, limited_at, message_at, names_at, number_at, parent_at, version_at, way_at}
-use Rattle.rignolda_wire.specs.Refusals.{byte_of, is_look, reason, reason_or_none, refusal_of, refused, told, told_first, told_last}
-use Rattle.rignolda_wire.specs.Said.{Framed, Greeted, IsFrame, IsGreeting, Said, ack, asks, frame, goodbye, hello, lacks, refers, report, spelling, way}
+use Rattle.rignolda_wire.specs.declared.said.Expect.TheVariants.{Hello, Way, NumberedWay, Frames, SignedFrames, Acks}
+use Rattle.rignolda_wire.specs.Reading.{◌>>=◌, Reader, candidate_at, child_at, counted_at, fourth_at, give, greeting_at, hello_at, letter_at, limited_at, message_at, names_at, number_at, numbered_at, numbering_candidate_at, parent_at, signing_parent_at, version_at, way_at}
+use Rattle.rignolda_wire.specs.Refusals.{behind_letter, byte_of, is_look, reason, reason_or_none, refusal_of, refused, told, told_first, told_last}
+use Rattle.rignolda_wire.specs.Said.{Greeted, IsGreeting, IsMessage, Said, ack, asks, filler, frame, goodbye, hello, lacks, numbered, refers, refers_signed, report, signed, spelling, way}
 use Rattle.rignolda_wire.specs.Seen.{AreBytes}
 use Rattle.rignolda_wire.specs.Words.{Headed, down, first_of, head_at, head_of, headed_bytes, hello_of, reports_of, word_at, word_bytes}
 use Rattle.rignolda_wire.proofs.Codecs.{Any, IsCodec, codec_after, codec_map}
@@ -23,7 +23,18 @@ use Rattle.rignolda_wire.proofs.Fronts.{again, spelled}
 
 -- ---- reasons
 
-pub first_understood : (why : Refusal) → refused Hello (told_first why) ≡ Some why
+-- each byte says its reason
+byte_again : (why : Refusal) → refusal_of (byte_of why) ≡ why
+byte_again NotSaid = refl
+byte_again OtherName = refl
+byte_again NoChild = refl
+byte_again NoParent = refl
+byte_again Calls = refl
+byte_again Certificate = refl
+byte_again Full = refl
+byte_again Twin = refl
+
+pub first_understood : (why : Refusal) → refused Hello (told Hello why) ≡ Some why
 first_understood NotSaid = refl
 first_understood OtherName = refl
 first_understood NoChild = refl
@@ -33,18 +44,14 @@ first_understood Certificate = refl
 first_understood Full = refl
 first_understood Twin = refl
 
-pub last_understood : (why : Refusal) → refused Frames (told_last why) ≡ Some why
-last_understood NotSaid = refl
-last_understood OtherName = refl
-last_understood NoChild = refl
-last_understood NoParent = refl
-last_understood Calls = refl
-last_understood Certificate = refl
-last_understood Full = refl
-last_understood Twin = refl
+some_again : (why : Refusal) → (let s : Option Refusal = Some (refusal_of (byte_of why)) in s) ≡ Some why
+some_again why = ap (λ (w : Refusal). Some w) (byte_again why)
+
+pub last_understood : (why : Refusal) → (refused Frames (told Frames why) ≡ Some why) × (refused SignedFrames (told SignedFrames why) ≡ Some why)
+last_understood why = (some_again why, some_again why)
 
 -- no such front is refused, and more has to come
-pub first_waits : (why : Refusal) → message_at Hello (told_first why) ≡ Err More
+first_waits : (why : Refusal) → message_at Hello (told Hello why) ≡ Err More
 unfolding hello_at letter_at fourth_at greeting_at version_at
 first_waits NotSaid = refl
 first_waits OtherName = refl
@@ -55,7 +62,7 @@ first_waits Certificate = refl
 first_waits Full = refl
 first_waits Twin = refl
 
-pub last_waits : (why : Refusal) → message_at Frames (told_last why) ≡ Err More
+last_waits : (why : Refusal) → message_at Frames (told Frames why) ≡ Err More
 unfolding parent_at way_at names_at counted_at limited_at
 last_waits NotSaid = refl
 last_waits OtherName = refl
@@ -65,6 +72,29 @@ last_waits Calls = refl
 last_waits Certificate = refl
 last_waits Full = refl
 last_waits Twin = refl
+
+new_last_waits : (why : Refusal) → message_at SignedFrames (told SignedFrames why) ≡ Err More
+unfolding signing_parent_at numbered_at
+new_last_waits NotSaid = refl
+new_last_waits OtherName = refl
+new_last_waits NoChild = refl
+new_last_waits NoParent = refl
+new_last_waits Calls = refl
+new_last_waits Certificate = refl
+new_last_waits Full = refl
+new_last_waits Twin = refl
+
+nothing_waits : (message_at Way [] ≡ Err More) × ((message_at NumberedWay [] ≡ Err More) × (message_at Acks [] ≡ Err More))
+unfolding candidate_at numbering_candidate_at child_at
+nothing_waits = (refl, (refl, refl))
+
+pub told_waits : (expect : Expect) (why : Refusal) → message_at expect (told expect why) ≡ Err More
+told_waits Hello why = first_waits why
+told_waits Frames why = last_waits why
+told_waits SignedFrames why = new_last_waits why
+told_waits Way why = nothing_waits.0
+told_waits NumberedWay why = nothing_waits.1.0
+told_waits Acks why = nothing_waits.1.1
 
 chosen : (byte n : ℕ) (one other why : Refusal) → cond (byte == n) one other ≡ why → ((byte ≡ n) × (one ≡ why)) ⊎ (other ≡ why)
 chosen byte n one other why is = by_test (byte == n) refl is
@@ -141,13 +171,18 @@ look_is r g n l version why is =
     let (first, second) = both (r == 82) (g == 71) two in
     rw (eqb-true r 82 first, eqb-true g 71 second, eqb-true n 78 third, eqb-true l 76 fourth, eqb-true version 2 fifth) refl
 
+last_was_told : (letter : ℕ) (bytes : List ℕ) (why : Refusal) → why ≢ NotSaid → behind_letter letter bytes ≡ Some why → bytes ≡ told_last letter why
+last_was_told letter [] why said is = absurd cc
+last_was_told letter (first ∷ rest) why said is =
+    let (begins, so) = some_if (first == letter) (reason rest) why is in
+    ap (λ n. n ∷ rest) (eqb-true first letter begins) ∙ ap (λ (text : List ℕ). letter ∷ text) (reason_is rest why said so)
+
 pub was_told : (expect : Expect) (bytes : List ℕ) (why : Refusal) → why ≢ NotSaid → refused expect bytes ≡ Some why → bytes ≡ told expect why
 was_told Hello (r ∷ g ∷ n ∷ l ∷ version ∷ rest) why said is =
     let (look, so) = some_if (is_look r g n l version) (reason_or_none rest) why is in
     look_is r g n l version rest look ∙ ap (λ (text : List ℕ). 82 ∷ 71 ∷ 78 ∷ 76 ∷ 2 ∷ text) (reason_or_none_is rest why said so) ∙ told_so why said
-was_told Frames (w ∷ rest) why said is =
-    let (begins, so) = some_if (w == 87) (reason rest) why is in
-    ap (λ n. n ∷ rest) (eqb-true w 87 begins) ∙ ap (λ (text : List ℕ). 87 ∷ text) (reason_is rest why said so)
+was_told Frames bytes why said is = last_was_told 87 bytes why said is
+was_told SignedFrames bytes why said is = last_was_told 86 bytes why said is
 was_told expect bytes why said is = absurd cc
 
 -- ---- words
@@ -163,6 +198,10 @@ known_hello (Ok (ack l, rest)) x is = absurd cc
 known_hello (Ok (lacks l, rest)) x is = absurd cc
 known_hello (Ok (report t, rest)) x is = absurd cc
 known_hello (Ok (goodbye, rest)) x is = absurd cc
+known_hello (Ok (numbered n, rest)) x is = absurd cc
+known_hello (Ok (signed f, rest)) x is = absurd cc
+known_hello (Ok (refers_signed r, rest)) x is = absurd cc
+known_hello (Ok (filler label, rest)) x is = absurd cc
 known_hello (Err fault) x is = absurd cc
 
 pub word_again : (g : Greeted) (rest : List ℕ) → IsGreeting 1 g → word_at (spelling (hello false g) ++ rest) ≡ Some (g, rest)
@@ -171,8 +210,8 @@ word_again g rest is = ap hello_of (again Hello (hello false g) rest is)
 pub down_again : (g : Greeted) → IsGreeting 1 g → word_at (word_bytes (down g)) ≡ Some (g, [])
 down_again g is = ap word_at (sym (append-nil (spelling (hello false g)))) ∙ word_again g [] is
 
-pub frame_again : (f : Framed) → IsFrame f → message_at Frames (spelling (frame f)) ≡ Ok (frame f, [])
-frame_again f is = ap (message_at Frames) (sym (append-nil (spelling (frame f)))) ∙ again Frames (frame f) [] is
+pub message_again : (expect : Expect) (m : Said) → IsMessage expect m → message_at expect (spelling m) ≡ Ok (m, [])
+message_again expect m is = ap (message_at expect) (sym (append-nil (spelling m))) ∙ again expect m [] is
 
 pub count_again : (n : ℕ) → n < 2 ^ 32 → reports_of (to_be_bytes w32 n) ≡ Some n
 count_again n low = ap (λ (m : ℕ). Some m) (from_be_bytes-to_be_bytes_4 n low)

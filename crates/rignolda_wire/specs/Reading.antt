@@ -10,12 +10,16 @@ use Rattle.rignolda_wire.specs.declared.fault.Fault.{Fault}
 use Rattle.rignolda_wire.specs.declared.fault.Fault.TheVariants.{More, NoHello, NoVersion, NoName}
 use Rattle.rignolda_wire.specs.declared.fault.Fault.TheVariants.{NoMessage, LongBody, LongWay}
 use Rattle.rignolda_wire.specs.declared.fault.Fault.TheVariants.{NoNameOfWay, LongReport}
+use Rattle.rignolda_wire.specs.declared.fault.Fault.TheVariants.{LongSignature}
 use Rattle.rignolda_wire.specs.declared.said.Expect.{Expect}
-use Rattle.rignolda_wire.specs.declared.said.Expect.TheVariants.{Hello, Way, Frames, Acks}
+use Rattle.rignolda_wire.specs.declared.said.Expect.TheVariants.{Hello, Way, NumberedWay, Frames}
+use Rattle.rignolda_wire.specs.declared.said.Expect.TheVariants.{SignedFrames, Acks}
 use Rattle.rignolda_wire.specs.Names.{are_few, are_names, is_name, is_name_or_none, name_limit}
-use Rattle.rignolda_wire.specs.Said.{Framed, Greeted, Referred, Routed, Said, ack, asks, body_limit}
-use Rattle.rignolda_wire.specs.Said.{digest_len, frame, goodbye, head_len, hello, lacks, oldest}
-use Rattle.rignolda_wire.specs.Said.{refers, report, report_limit, way, way_limit}
+use Rattle.rignolda_wire.specs.Said.{Framed, Greeted, Numbered, Referred, Routed, Said, Signed}
+use Rattle.rignolda_wire.specs.Said.{SignedReference, ack, asks, body_limit, digest_len, filler}
+use Rattle.rignolda_wire.specs.Said.{frame, goodbye, head_len, hello, lacks, numbered, oldest}
+use Rattle.rignolda_wire.specs.Said.{refers, refers_signed, report, report_limit, signature_limit}
+use Rattle.rignolda_wire.specs.Said.{signed, way, way_limit}
 
 -- a reader gives what it read, and the bytes after that
 abbrev pub Reader : Type 0 → Type 0
@@ -156,6 +160,42 @@ parent_at = do
       (choose (letter == 87) (kind_at way way_at)
       (choose (letter == 81) (give asks) (refuse NoMessage))))
 
+-- ---- what a parent says from version 5 on
+
+unfoldable pub numbered_at : Reader Numbered
+numbered_at = do
+  number ← number_at w64
+  route ← way_at
+  give (record { number = number; route = route })
+
+unfoldable pub signed_at : Reader Signed
+signed_at = do
+  label ← number_at w16
+  item ← number_at w32
+  signature ← counted_at w16 signature_limit LongSignature
+  body ← counted_at w32 body_limit LongBody
+  give (record { label = label; item = item; signature = signature; body = body })
+
+unfoldable pub signed_reference_at : Reader SignedReference
+signed_reference_at = do
+  reference ← reference_at
+  signature ← counted_at w16 signature_limit LongSignature
+  give (record { reference = reference; signature = signature })
+
+unfoldable pub numbering_candidate_at : Reader Said
+numbering_candidate_at = do
+  letter ← byte_at
+  choose (letter == 86) (kind_at numbered numbered_at) (refuse NoMessage)
+
+unfoldable pub signing_parent_at : Reader Said
+signing_parent_at = do
+  letter ← byte_at
+  choose (letter == 83) (kind_at signed signed_at)
+      (choose (letter == 66) (kind_at refers_signed signed_reference_at)
+      (choose (letter == 86) (kind_at numbered numbered_at)
+      (choose (letter == 69) (kind_at filler (number_at w16))
+      (choose (letter == 81) (give asks) (refuse NoMessage)))))
+
 -- ---- what a child says
 
 unfoldable pub child_at : Reader Said
@@ -170,5 +210,7 @@ child_at = do
 abbrev pub message_at : Expect → Reader Said
 message_at Hello = hello_at
 message_at Way = candidate_at
+message_at NumberedWay = numbering_candidate_at
 message_at Frames = parent_at
+message_at SignedFrames = signing_parent_at
 message_at Acks = child_at

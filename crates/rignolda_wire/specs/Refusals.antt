@@ -10,7 +10,7 @@ use Rattle.rignolda_wire.specs.declared.refusal.Refusal.TheVariants.{NotSaid, Ot
 use Rattle.rignolda_wire.specs.declared.refusal.Refusal.TheVariants.{NoParent, Calls, Certificate}
 use Rattle.rignolda_wire.specs.declared.refusal.Refusal.TheVariants.{Full, Twin}
 use Rattle.rignolda_wire.specs.declared.said.Expect.{Expect}
-use Rattle.rignolda_wire.specs.declared.said.Expect.TheVariants.{Hello, Frames}
+use Rattle.rignolda_wire.specs.declared.said.Expect.TheVariants.{Hello, Frames, SignedFrames}
 
 -- the byte of a reason
 abbrev pub byte_of : Refusal → ℕ
@@ -35,13 +35,13 @@ abbrev pub told_first : Refusal → List ℕ
 told_first NotSaid = 82 ∷ 71 ∷ 78 ∷ 76 ∷ 2 ∷ []
 told_first why = 82 ∷ 71 ∷ 78 ∷ 76 ∷ 2 ∷ 255 ∷ byte_of why ∷ []
 
--- in the place of a frame
-abbrev pub told_last : Refusal → List ℕ
-told_last why = 87 ∷ 255 ∷ byte_of why ∷ []
+-- in the place of a way, behind its letter
+abbrev pub told_last : ℕ → Refusal → List ℕ
+told_last letter why = letter ∷ 255 ∷ byte_of why ∷ []
 
 -- ---- what is understood
 
--- behind a mark that no way and no look has there
+-- behind a mark that no way, no number of a table and no look has there
 abbrev pub reason : List ℕ → Option Refusal
 reason (mark ∷ byte ∷ []) = if mark == 255 then Some (refusal_of byte) else None
 reason bytes = None
@@ -53,14 +53,20 @@ reason_or_none bytes = reason bytes
 abbrev pub is_look : ℕ → ℕ → ℕ → ℕ → ℕ → Bool
 is_look r g n l version = r == 82 && g == 71 && n == 78 && l == 76 && version == 2
 
+abbrev pub behind_letter : ℕ → List ℕ → Option Refusal
+behind_letter letter [] = None
+behind_letter letter (first ∷ why) = if first == letter then reason why else None
+
 abbrev pub refused : Expect → List ℕ → Option Refusal
 refused Hello (r ∷ g ∷ n ∷ l ∷ version ∷ why) =
     if is_look r g n l version then reason_or_none why else None
-refused Frames (w ∷ why) = if w == 87 then reason why else None
+refused Frames bytes = behind_letter 87 bytes
+refused SignedFrames bytes = behind_letter 86 bytes
 refused expect bytes = None
 
 -- what an end is told that expects this
 abbrev pub told : Expect → Refusal → List ℕ
 told Hello why = told_first why
-told Frames why = told_last why
+told Frames why = told_last 87 why
+told SignedFrames why = told_last 86 why
 told expect why = []

@@ -6,7 +6,8 @@ use Rattle.std.specs.Prelude.{◌≡◌, ℕ, ◌^◌, ◌<◌, ◌≤◌, ◌+�
 use Rattle.std.specs.Prelude.{List, [], ◌∷◌, ◌++◌, length}
 use Rattle.std.specs.Int.{w16, w32, w64, to_be_bytes}
 use Rattle.rignolda_wire.specs.declared.said.Expect.{Expect}
-use Rattle.rignolda_wire.specs.declared.said.Expect.TheVariants.{Hello, Way, Frames, Acks}
+use Rattle.rignolda_wire.specs.declared.said.Expect.TheVariants.{Hello, Way, NumberedWay, Frames}
+use Rattle.rignolda_wire.specs.declared.said.Expect.TheVariants.{SignedFrames, Acks}
 use Rattle.rignolda_wire.specs.Names.{are_few, are_names, is_name, is_name_or_none}
 
 -- what an end says first
@@ -35,6 +36,22 @@ pub record Referred : Type 0 where
   pub head : List ℕ
   pub digest : List ℕ
 
+-- from version 5 on: a way, with the number of the last whole table of whoever says it
+pub record Numbered : Type 0 where
+  pub number : ℕ
+  pub route : Routed
+
+-- frames with a signature of their body, which may be empty
+pub record Signed : Type 0 where
+  pub label : ℕ
+  pub item : ℕ
+  pub signature : List ℕ
+  pub body : List ℕ
+
+pub record SignedReference : Type 0 where
+  pub reference : Referred
+  pub signature : List ℕ
+
 pub data Said : Type 0 where
   -- a hello, or a look
   hello : Bool → Greeted → Said
@@ -47,6 +64,11 @@ pub data Said : Type 0 where
   lacks : ℕ → Said
   report : List ℕ → Said
   goodbye : Said
+  numbered : Numbered → Said
+  signed : Signed → Said
+  refers_signed : SignedReference → Said
+  -- a frame of the link alone, which brings no item
+  filler : ℕ → Said
 
 -- ---- the bytes
 
@@ -83,6 +105,21 @@ reference_bytes r =
     to_be_bytes w16 r.label ++ (to_be_bytes w32 r.item
     ++ (to_be_bytes w32 r.len ++ (r.head ++ r.digest)))
 
+abbrev pub numbered_bytes : Numbered → List ℕ
+numbered_bytes n = to_be_bytes w64 n.number ++ way_bytes n.route
+
+-- a signature behind its length
+abbrev pub signature_bytes : List ℕ → List ℕ
+signature_bytes signature = to_be_bytes w16 (length signature) ++ signature
+
+abbrev pub signed_bytes : Signed → List ℕ
+signed_bytes f =
+    to_be_bytes w16 f.label ++ (to_be_bytes w32 f.item
+    ++ (signature_bytes f.signature ++ (to_be_bytes w32 (length f.body) ++ f.body)))
+
+abbrev pub signed_reference_bytes : SignedReference → List ℕ
+signed_reference_bytes r = reference_bytes r.reference ++ signature_bytes r.signature
+
 abbrev pub report_bytes : List ℕ → List ℕ
 report_bytes text = to_be_bytes w32 (length text) ++ text
 
@@ -97,6 +134,10 @@ letter (ack label) = 65
 letter (lacks label) = 78
 letter (report text) = 82
 letter goodbye = 71
+letter (numbered n) = 86
+letter (signed f) = 83
+letter (refers_signed r) = 66
+letter (filler label) = 69
 
 abbrev pub after_letter : Said → List ℕ
 after_letter (hello is_look g) = 71 ∷ 78 ∷ fourth is_look ∷ greeting_bytes g
@@ -108,6 +149,10 @@ after_letter (ack label) = to_be_bytes w16 label
 after_letter (lacks label) = to_be_bytes w16 label
 after_letter (report text) = report_bytes text
 after_letter goodbye = []
+after_letter (numbered n) = numbered_bytes n
+after_letter (signed f) = signed_bytes f
+after_letter (refers_signed r) = signed_reference_bytes r
+after_letter (filler label) = to_be_bytes w16 label
 
 abbrev pub spelling : Said → List ℕ
 spelling m = letter m ∷ after_letter m
@@ -119,7 +164,7 @@ abbrev pub oldest : Bool → ℕ
 oldest true = 2
 oldest false = 1
 
--- the longest body, way and report
+-- the longest body, way, report and signature
 abbrev pub body_limit : ℕ
 body_limit = 16777216
 
@@ -128,6 +173,9 @@ way_limit = 8320
 
 abbrev pub report_limit : ℕ
 report_limit = 1048576
+
+abbrev pub signature_limit : ℕ
+signature_limit = 1024
 
 -- how many bytes of a body a reference has, and how many its digest has
 abbrev pub head_len : ℕ
@@ -162,6 +210,20 @@ pub record IsReference (r : Referred) : Type 0 where
   pub head : length r.head ≡ head_len
   pub digest : length r.digest ≡ digest_len
 
+pub record IsNumbered (n : Numbered) : Type 0 where
+  pub number : n.number < 2 ^ 64
+  pub route : IsWay n.route
+
+pub record IsSigned (f : Signed) : Type 0 where
+  pub label : f.label < 2 ^ 16
+  pub item : f.item < 2 ^ 32
+  pub signature : length f.signature ≤ signature_limit
+  pub short : length f.body ≤ body_limit
+
+pub record IsSignedReference (r : SignedReference) : Type 0 where
+  pub reference : IsReference r.reference
+  pub signature : length r.signature ≤ signature_limit
+
 -- it is one of the messages that may come next
 abbrev pub IsMessage : Expect → Said → Type 0
 IsMessage Hello (hello is_look g) = IsGreeting (oldest is_look) g
@@ -170,6 +232,12 @@ IsMessage Frames (way w) = IsWay w
 IsMessage Frames (frame f) = IsFrame f
 IsMessage Frames (refers r) = IsReference r
 IsMessage Frames asks = Unit {0}
+IsMessage NumberedWay (numbered n) = IsNumbered n
+IsMessage SignedFrames (numbered n) = IsNumbered n
+IsMessage SignedFrames (signed f) = IsSigned f
+IsMessage SignedFrames (refers_signed r) = IsSignedReference r
+IsMessage SignedFrames (filler label) = label < 2 ^ 16
+IsMessage SignedFrames asks = Unit {0}
 IsMessage Acks (ack label) = label < 2 ^ 16
 IsMessage Acks (lacks label) = label < 2 ^ 16
 IsMessage Acks (report text) = length text ≤ report_limit
@@ -181,4 +249,6 @@ abbrev pub most : Expect → ℕ
 most Hello = 145
 most Way = 5 + way_limit
 most Frames = 11 + body_limit
+most NumberedWay = 13 + way_limit
+most SignedFrames = 13 + signature_limit + body_limit
 most Acks = 5 + report_limit

@@ -6,10 +6,15 @@ use Rattle.rignolda_wire.specs.declared.said.FrameHead.{FrameHead}
 use Rattle.rignolda_wire.specs.declared.said.Greeting.{Greeting}
 use Rattle.rignolda_wire.specs.declared.said.Message.{Message}
 use Rattle.rignolda_wire.specs.declared.said.Message.TheVariants as messages
+use Rattle.rignolda_wire.specs.declared.said.NumberedWay.{NumberedWay}
 use Rattle.rignolda_wire.specs.declared.said.Reference.{Reference}
+use Rattle.rignolda_wire.specs.declared.said.SignedFrame.{SignedFrame}
+use Rattle.rignolda_wire.specs.declared.said.SignedReference.{SignedReference}
 use Rattle.rignolda_wire.specs.declared.said.Way.{Way}
-use Rattle.rignolda_wire.specs.Said.{Framed, Greeted, Referred, Routed, Said, ack, asks, frame}
-use Rattle.rignolda_wire.specs.Said.{goodbye, hello, lacks, refers, report, way}
+use Rattle.rignolda_wire.specs.Said.{Framed, Greeted, Numbered, Referred, Routed, Said, Signed, ack}
+use Rattle.rignolda_wire.specs.Said.{asks, filler, frame, goodbye, hello, lacks, numbered, refers}
+use Rattle.rignolda_wire.specs.Said.{refers_signed, report, signed, way}
+use Rattle.rignolda_wire.specs.Said as said
 use Rattle.rignolda_wire.specs.Words.{Headed}
 
 -- each is a byte
@@ -49,6 +54,20 @@ referred r = record {
   digest = r.digest.now;
 }
 
+abbrev pub numbering : NumberedWay → Numbered
+numbering n = record { number = n.number; route = routed n.way }
+
+abbrev pub signing : SignedFrame → Signed
+signing f = record {
+  label = f.label;
+  item = f.item;
+  signature = f.signature.now;
+  body = f.body.now;
+}
+
+abbrev pub signing_reference : SignedReference → said.SignedReference
+signing_reference r = record { reference = referred r.reference; signature = r.signature.now }
+
 abbrev pub said_of : Message → Said
 said_of (messages.Hello g) = hello false (greeted g)
 said_of (messages.Look g) = hello true (greeted g)
@@ -60,3 +79,7 @@ said_of (messages.Ack label) = ack label
 said_of (messages.Lacks label) = lacks label
 said_of (messages.Report text) = report text.now
 said_of messages.Goodbye = goodbye
+said_of (messages.NumberedWay n) = numbered (numbering n)
+said_of (messages.SignedFrame f) = signed (signing f)
+said_of (messages.SignedReference r) = refers_signed (signing_reference r)
+said_of (messages.Filler label) = filler label

@@ -1,5 +1,5 @@
--- What links in a store show. A parent's word is its hello, and behind it the frame of its sender,
--- if there is one. A child's word is its hello, and how often it has set its report.
+-- What links in a store show. A parent's word is its hello, and behind it what its sender sends,
+-- if that is anything. A child's word is its hello, and how often it has set its report.
 -- Example: Behind the hello of a child that has set three reports are the bytes 0, 0, 0, 3.
 -- Source: this project's own.
 use Rattle.std.specs.Prelude.{ℕ, ◌==◌, nat_le, ◌&&◌, Bool, if◌then◌else◌}
@@ -8,18 +8,18 @@ use Rattle.std.specs.Int.{w16, w32, from_be_bytes, to_be_bytes}
 use Rattle.rignolda_wire.specs.declared.fault.Fault.{Fault}
 use Rattle.rignolda_wire.specs.declared.said.Expect.TheVariants.{Hello}
 use Rattle.rignolda_wire.specs.Reading.{◌>>=◌, Reader, give, letter_at, message_at, number_at}
-use Rattle.rignolda_wire.specs.Said.{Framed, Greeted, Said, frame, hello, spelling}
+use Rattle.rignolda_wire.specs.Said.{Greeted, Said, hello, spelling}
 use Rattle.rignolda_wire.specs.Writing.{frame_head, is_short}
 
--- a parent's word, with and without a frame, and a child's
+-- a parent's word, with and without a frame, a reference or a filler, and a child's
 pub data Word : Type 0 where
   down : Greeted → Word
-  down_with : Greeted → Framed → Word
+  down_with : Greeted → Said → Word
   up : Greeted → ℕ → Word
 
 abbrev pub word_bytes : Word → List ℕ
 word_bytes (down g) = spelling (hello false g)
-word_bytes (down_with g f) = spelling (hello false g) ++ spelling (frame f)
+word_bytes (down_with g m) = spelling (hello false g) ++ spelling m
 word_bytes (up g reports) = spelling (hello false g) ++ to_be_bytes w32 reports
 
 -- ---- what is read of them

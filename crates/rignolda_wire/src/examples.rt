@@ -3,16 +3,20 @@
 
 ghost use Rattle.std.specs.Prelude.{◌≡◌, ◌++◌, List, [], ◌∷◌, Ok, Err, Some, None, false, true};
 ghost use Rattle.rignolda_wire.specs.declared.fault.Fault.TheVariants.{LongBody, LongReport};
-ghost use Rattle.rignolda_wire.specs.declared.fault.Fault.TheVariants.{LongWay, More};
+ghost use Rattle.rignolda_wire.specs.declared.fault.Fault.TheVariants.{LongSignature, LongWay};
+ghost use Rattle.rignolda_wire.specs.declared.fault.Fault.TheVariants.{More};
 ghost use Rattle.rignolda_wire.specs.declared.fault.Fault.TheVariants.{NoHello, NoMessage, NoName};
 ghost use Rattle.rignolda_wire.specs.declared.fault.Fault.TheVariants.{NoNameOfWay};
 ghost use Rattle.rignolda_wire.specs.declared.fault.Fault.TheVariants.{NoVersion};
 ghost use Rattle.rignolda_wire.specs.declared.refusal.Refusal.TheVariants.{Full, NotSaid};
-ghost use Rattle.rignolda_wire.specs.declared.said.Expect.TheVariants.{Acks, Frames, Hello, Way};
+ghost use Rattle.rignolda_wire.specs.declared.said.Expect.TheVariants.{Acks, Frames, Hello};
+ghost use Rattle.rignolda_wire.specs.declared.said.Expect.TheVariants.{NumberedWay, SignedFrames};
+ghost use Rattle.rignolda_wire.specs.declared.said.Expect.TheVariants.{Way};
 ghost use Rattle.rignolda_wire.specs.Reading.{message_at};
-ghost use Rattle.rignolda_wire.specs.Refusals.{refused, told_first, told_last};
-ghost use Rattle.rignolda_wire.specs.Said.{Greeted, Said, ack, asks, frame, goodbye, hello};
-ghost use Rattle.rignolda_wire.specs.Said.{lacks, refers, report, spelling, way};
+ghost use Rattle.rignolda_wire.specs.Refusals.{refused, told};
+ghost use Rattle.rignolda_wire.specs.Said.{Greeted, Referred, Routed, Said, ack, asks, filler};
+ghost use Rattle.rignolda_wire.specs.Said.{frame, goodbye, hello, lacks, numbered, refers};
+ghost use Rattle.rignolda_wire.specs.Said.{refers_signed, report, signed, spelling, way};
 ghost use Rattle.rignolda_wire.specs.Versions.{versions_of};
 
 /// What messages say, and each byte of them.
@@ -54,6 +58,36 @@ pub fn spelled_out()
         × (message_at Frames way_text ≡ Ok (w, []))
         × (spelling f ≡ frame_text) × (message_at Frames frame_text ≡ Ok (f, []))
         × (message_at Frames (81 ∷ 70 ∷ []) ≡ Ok (asks, 70 ∷ [])) }
+    // From version 5 on it says the same way with the number 9 of its last whole table, that frame
+    // with the signature `us`, and a filler of label 9.
+    ensures signed { let n : Said = numbered (record {
+      number = 9;
+      route = record { cost = 2; names = 104 ∷ 117 ∷ 98 ∷ 10 ∷ 114 ∷ [] };
+    }) in
+        let f : Said = signed (record {
+          label = 3;
+          item = 7;
+          signature = 117 ∷ 115 ∷ [];
+          body = 98 ∷ [];
+        }) in
+        let way_text = 86 ∷ 0 ∷ 0 ∷ 0 ∷ 0 ∷ 0 ∷ 0 ∷ 0 ∷ 9
+        ∷ 0 ∷ 2 ∷ 0 ∷ 5 ∷ 104 ∷ 117 ∷ 98 ∷ 10 ∷ 114 ∷ [] in
+        let frame_text = 83 ∷ 0 ∷ 3 ∷ 0 ∷ 0 ∷ 0 ∷ 7 ∷ 0 ∷ 2 ∷ 117 ∷ 115
+        ∷ 0 ∷ 0 ∷ 0 ∷ 1 ∷ 98 ∷ [] in
+        (spelling n ≡ way_text) × (message_at NumberedWay way_text ≡ Ok (n, []))
+        × (message_at SignedFrames way_text ≡ Ok (n, []))
+        × (spelling f ≡ frame_text) × (message_at SignedFrames frame_text ≡ Ok (f, []))
+        × (message_at SignedFrames (69 ∷ 0 ∷ 9 ∷ 81 ∷ []) ≡ Ok (filler 9, 81 ∷ [])) }
+    // A reference has its signature behind the digest.
+    ensures signed_references { let r : Referred = record {
+      label = 3;
+      item = 7;
+      len = 5;
+      head = 84 ∷ [];
+      digest = 1 ∷ 2 ∷ [];
+    } in
+        spelling (refers_signed (record { reference = r; signature = 117 ∷ 115 ∷ [] }))
+        ≡ 66 ∷ 0 ∷ 3 ∷ 0 ∷ 0 ∷ 0 ∷ 7 ∷ 0 ∷ 0 ∷ 0 ∷ 5 ∷ 84 ∷ 1 ∷ 2 ∷ 0 ∷ 2 ∷ 117 ∷ 115 ∷ [] }
     // A child acknowledges label 258, lacks the body of label 9, reports two bytes, and says
     // goodbye.
     ensures children { (spelling (ack 258) ≡ 65 ∷ 1 ∷ 2 ∷ [])
@@ -61,8 +95,9 @@ pub fn spelled_out()
         × (spelling (report (91 ∷ 93 ∷ [])) ≡ 82 ∷ 0 ∷ 0 ∷ 0 ∷ 2 ∷ 91 ∷ 93 ∷ [])
         × (message_at Acks (71 ∷ 65 ∷ []) ≡ Ok (goodbye, 65 ∷ [])) }
     // There is no room for another child.
-    ensures refusals { (told_first Full ≡ 82 ∷ 71 ∷ 78 ∷ 76 ∷ 2 ∷ 255 ∷ 6 ∷ [])
-        × (told_last Full ≡ 87 ∷ 255 ∷ 6 ∷ [])
+    ensures refusals { (told Hello Full ≡ 82 ∷ 71 ∷ 78 ∷ 76 ∷ 2 ∷ 255 ∷ 6 ∷ [])
+        × (told Frames Full ≡ 87 ∷ 255 ∷ 6 ∷ [])
+        × (told SignedFrames Full ≡ 86 ∷ 255 ∷ 6 ∷ [])
         × (refused Hello (82 ∷ 71 ∷ 78 ∷ 76 ∷ 2 ∷ 255 ∷ 99 ∷ []) ≡ Some NotSaid)
         × (refused Frames (87 ∷ []) ≡ None) }
 {}
@@ -92,10 +127,16 @@ pub fn faults_worked_out()
         × (message_at Way (87 ∷ 0 ∷ 1 ∷ 32 ∷ 128 ∷ []) ≡ Err More)
         × (message_at Way (87 ∷ 0 ∷ 1 ∷ 0 ∷ 0 ∷ []) ≡ Err NoNameOfWay)
         × (message_at Way (87 ∷ 0 ∷ 1 ∷ 0 ∷ 3 ∷ 97 ∷ 10 ∷ 10 ∷ []) ≡ Err NoNameOfWay)
+        × (message_at SignedFrames (83 ∷ (item ++ (4 ∷ 1 ∷ []))) ≡ Err LongSignature)
+        × (message_at SignedFrames (83 ∷ (item ++ (4 ∷ 0 ∷ []))) ≡ Err More)
         × (message_at Acks (82 ∷ 0 ∷ 16 ∷ 0 ∷ 1 ∷ []) ≡ Err LongReport)
         × (message_at Acks (82 ∷ 0 ∷ 16 ∷ 0 ∷ 0 ∷ []) ≡ Err More) }
-    // A candidate says no frame, a child no way, and a parent acknowledges nothing.
+    // A candidate says no frame, a child no way, and a parent acknowledges nothing. What is of
+    // version 5 does not come before, and what that replaces does not come after.
     ensures others { (message_at Way (70 ∷ []) ≡ Err NoMessage)
+        × (message_at Frames (86 ∷ []) ≡ Err NoMessage)
+        × (message_at SignedFrames (70 ∷ []) ≡ Err NoMessage)
+        × (message_at SignedFrames (87 ∷ []) ≡ Err NoMessage)
         × (message_at Acks (87 ∷ []) ≡ Err NoMessage)
         × (message_at Acks (81 ∷ []) ≡ Err NoMessage)
         × (message_at Frames (65 ∷ []) ≡ Err NoMessage) }

@@ -20,4 +20,6 @@ pub enum Fault {
     NoNameOfWay,
     /// A report has more than 1 MiB.
     LongReport,
+    /// A signature has more than 1,024 bytes.
+    LongSignature,
 }

@@ -28,8 +28,11 @@ mod writing;
 pub use fault::Fault;
 pub use names::is_name;
 pub use reading::message;
-pub use refusal::{Refusal, refused, write_last_refusal, write_refusal};
-pub use said::{Expect, Frame, FrameHead, Greeting, Message, Reference, Way};
+pub use refusal::{Refusal, refused, write_refusal};
+pub use said::{
+    Expect, Frame, FrameHead, Greeting, Message, NumberedWay, Reference, SignedFrame,
+    SignedReference, Way,
+};
 pub use spoken::{range, versions};
 pub use words::{frame_head, reports, word, write_up};
 pub use writing::write_head;

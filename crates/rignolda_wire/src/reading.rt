@@ -1,15 +1,17 @@
 ghost use Rattle.std.specs.Prelude.{◌≡◌, List, MatchResult, Ok, Err};
-ghost use Rattle.std.specs.Int.{w16};
 ghost use Rattle.rignolda_wire.specs.Names.{is_name, is_name_or_none};
-ghost use Rattle.rignolda_wire.specs.Said.{way_limit};
-ghost use Rattle.rignolda_wire.specs.declared.fault.Fault.TheVariants.{LongWay};
 ghost use Rattle.rignolda_wire.specs.Reading as reads;
-ghost use Rattle.rignolda_wire.specs.Seen.{Reads, framed, greeted, referred, routed, said_of};
+ghost use Rattle.rignolda_wire.specs.Seen.{Reads, framed, greeted, numbering, referred, routed};
+ghost use Rattle.rignolda_wire.specs.Seen.{said_of, signing, signing_reference};
 
 use crate::fault::Fault;
-use crate::fields::{byte_at, counted_at, limited_at, text_at, u16_at, u32_at, u64_at};
+use crate::fields::{
+    byte_at, counted_at, limited_at, short_text_at, text_at, u16_at, u32_at, u64_at,
+};
 use crate::names::{NAME_LIMIT, is_name, is_name_or_none, names_in};
-use crate::said::{Expect, Frame, Greeting, Message, Reference, Way};
+use crate::said::{
+    Expect, Frame, Greeting, Message, NumberedWay, Reference, SignedFrame, SignedReference, Way,
+};
 
 /// The oldest version of a hello, and of a look.
 const OLDEST: u8 = 1;
@@ -26,6 +28,9 @@ const NAMES_LIMIT: usize = 128;
 
 /// The longest report, in bytes.
 pub(crate) const REPORT_LIMIT: u32 = 1_048_576;
+
+/// The longest signature, in bytes.
+pub(crate) const SIGNATURE_LIMIT: u16 = 1_024;
 
 /// How many bytes of a body a reference has, and how many its digest has.
 pub(crate) const HEAD_LEN: usize = 9;
@@ -172,23 +177,11 @@ fn reference_at(bytes: &[u8]) -> Result<(Reference<'_>, &[u8]), Fault>
     Ok((reference, rest))
 }
 
-#[tactic(auto, unfolding(crate::specs::Reading::counted_at, crate::specs::Reading::limited_at))]
-fn way_text_at(bytes: &[u8]) -> Result<(&[u8], &[u8]), Fault>
-    ensures { Reads (λ x. (x.0.now, x.1.now)) result
-        (reads.counted_at w16 way_limit LongWay bytes.now) }
-{
-    let (len, rest) = u16_at(bytes)?;
-    if len > WAY_LIMIT {
-        return Err(Fault::LongWay);
-    }
-    text_at(usize::from(len), rest)
-}
-
 #[tactic(auto, unfolding(crate::specs::Reading::names_at))]
 fn names_at(bytes: &[u8]) -> Result<(&[u8], &[u8]), Fault>
     ensures { Reads (λ x. (x.0.now, x.1.now)) result (reads.names_at bytes.now) }
 {
-    let (names, rest) = way_text_at(bytes)?;
+    let (names, rest) = short_text_at(WAY_LIMIT, Fault::LongWay, bytes)?;
     let (count, each) = names_in(names);
     if count > NAMES_LIMIT {
         return Err(Fault::LongWay);
@@ -233,6 +226,77 @@ fn parent_at(bytes: &[u8]) -> Result<(Message<'_>, &[u8]), Fault>
     }
 }
 
+// ---- What a parent says from version 5 on
+
+#[tactic(auto, unfolding(crate::specs::Reading::numbered_at))]
+fn numbered_way_at(bytes: &[u8]) -> Result<(NumberedWay<'_>, &[u8]), Fault>
+    ensures { Reads (λ x. (numbering x.0, x.1.now)) result (reads.numbered_at bytes.now) }
+{
+    let (number, rest) = u64_at(bytes)?;
+    let (way, rest) = way_at(rest)?;
+    Ok((NumberedWay { number, way }, rest))
+}
+
+#[tactic(auto, unfolding(crate::specs::Reading::signed_at))]
+fn signed_frame_at(bytes: &[u8]) -> Result<(SignedFrame<'_>, &[u8]), Fault>
+    ensures { Reads (λ x. (signing x.0, x.1.now)) result (reads.signed_at bytes.now) }
+{
+    let (label, rest) = u16_at(bytes)?;
+    let (item, rest) = u32_at(rest)?;
+    let (signature, rest) = short_text_at(SIGNATURE_LIMIT, Fault::LongSignature, rest)?;
+    let (body, rest) = counted_at(BODY_LIMIT, Fault::LongBody, rest)?;
+    let frame = SignedFrame {
+        label,
+        item,
+        signature,
+        body,
+    };
+    Ok((frame, rest))
+}
+
+#[tactic(auto, unfolding(crate::specs::Reading::signed_reference_at))]
+fn signed_reference_at(bytes: &[u8]) -> Result<(SignedReference<'_>, &[u8]), Fault>
+    ensures { Reads (λ x. (signing_reference x.0, x.1.now)) result
+        (reads.signed_reference_at bytes.now) }
+{
+    let (reference, rest) = reference_at(bytes)?;
+    let (signature, rest) = short_text_at(SIGNATURE_LIMIT, Fault::LongSignature, rest)?;
+    let reference = SignedReference {
+        reference,
+        signature,
+    };
+    Ok((reference, rest))
+}
+
+#[tactic(auto, unfolding(crate::specs::Reading::numbering_candidate_at))]
+fn numbering_candidate_at(bytes: &[u8]) -> Result<(Message<'_>, &[u8]), Fault>
+    ensures { Reads (λ x. (said_of x.0, x.1.now)) result (reads.numbering_candidate_at bytes.now) }
+{
+    let (byte, rest) = byte_at(bytes)?;
+    match byte {
+        b'V' => numbered_way_at(rest).map(|(way, rest)| (Message::NumberedWay(way), rest)),
+        _ => Err(Fault::NoMessage),
+    }
+}
+
+#[tactic(auto, unfolding(crate::specs::Reading::signing_parent_at))]
+fn signing_parent_at(bytes: &[u8]) -> Result<(Message<'_>, &[u8]), Fault>
+    ensures { Reads (λ x. (said_of x.0, x.1.now)) result (reads.signing_parent_at bytes.now) }
+{
+    let (byte, rest) = byte_at(bytes)?;
+    match byte {
+        b'S' => signed_frame_at(rest).map(|(frame, rest)| (Message::SignedFrame(frame), rest)),
+        b'B' => signed_reference_at(rest).map(|(it, rest)| (Message::SignedReference(it), rest)),
+        b'V' => numbered_way_at(rest).map(|(way, rest)| (Message::NumberedWay(way), rest)),
+        b'E' => {
+            let (label, rest) = u16_at(rest)?;
+            Ok((Message::Filler(label), rest))
+        }
+        b'Q' => Ok((Message::ReportRequest, rest)),
+        _ => Err(Fault::NoMessage),
+    }
+}
+
 // ---- What a child says
 
 #[tactic(auto, unfolding(crate::specs::Reading::child_at))]
@@ -268,7 +332,9 @@ pub fn message(expect: Expect, bytes: &[u8]) -> Result<(Message<'_>, &[u8]), Fau
     match expect {
         Expect::Hello => hello_at(bytes),
         Expect::Way => candidate_at(bytes),
+        Expect::NumberedWay => numbering_candidate_at(bytes),
         Expect::Frames => parent_at(bytes),
+        Expect::SignedFrames => signing_parent_at(bytes),
         Expect::Acks => child_at(bytes),
     }
 }

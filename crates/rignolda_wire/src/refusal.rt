@@ -1,6 +1,5 @@
 ghost use Rattle.std.specs.Prelude.{◌≡◌, nat_le, List, length};
-ghost use Rattle.rignolda_wire.specs.Refusals.{byte_of, reason, reason_or_none, refusal_of};
-ghost use Rattle.rignolda_wire.specs.Refusals.{told_first, told_last};
+ghost use Rattle.rignolda_wire.specs.Refusals.{byte_of, reason, reason_or_none, refusal_of, told};
 ghost use Rattle.rignolda_wire.specs.Refusals as refusals;
 ghost use Rattle.rignolda_wire.specs.Writing.{after_writing, end_of};
 
@@ -28,7 +27,8 @@ pub enum Refusal {
     Twin,
 }
 
-/// What stands before a reason: no way costs so much, and no look has such a rank.
+/// What stands before a reason: no way costs so much, no table has such a number, and no look has
+/// such a rank.
 const REFUSED: u8 = 255;
 
 /// The version in front of a reason, by which a connection begins.
@@ -93,33 +93,31 @@ pub fn refused(expect: Expect, bytes: &[u8]) -> Option<Refusal>
 {
     match (expect, bytes) {
         (Expect::Hello, [b'R', b'G', b'N', b'L', FIRST, why @ ..]) => reason_or_none(why),
-        (Expect::Frames, [b'W', why @ ..]) => reason(why),
+        (Expect::Frames, [b'W', why @ ..]) | (Expect::SignedFrames, [b'V', why @ ..]) => {
+            reason(why)
+        }
         _ => None,
     }
 }
 
-/// Writes what an end is told that is refused before a link begins, into the buffer from its front
-/// on, and gives its end; or gives nothing, if there is no room.
-pub fn write_refusal(buffer: &mut [u8], why: Refusal) -> Option<usize>
+/// Writes what an end is told that expects this and is refused, into the buffer from its front on,
+/// and gives its end; or gives nothing, if there is no room. In the place of a hello or of a parent's
+/// messages it is told why; else it is told nothing.
+pub fn write_refusal(buffer: &mut [u8], expect: Expect, why: Refusal) -> Option<usize>
     ensures end { result
-        ≡ end_of (nat_le (length (told_first why)) (length buffer.old)) (told_first why) }
-    ensures text { buffer.new ≡ after_writing (nat_le (length (told_first why)) (length buffer.old))
-        buffer.old (told_first why) }
+        ≡ end_of (nat_le (length (told expect why)) (length buffer.old)) (told expect why) }
+    ensures text { buffer.new
+        ≡ after_writing (nat_le (length (told expect why)) (length buffer.old)) buffer.old
+        (told expect why) }
 {
-    match why {
-        Refusal::NotSaid => put_if_room(buffer, &[b'R', b'G', b'N', b'L', FIRST]),
-        _ => {
+    match (expect, why) {
+        (Expect::Hello, Refusal::NotSaid) => put_if_room(buffer, &[b'R', b'G', b'N', b'L', FIRST]),
+        (Expect::Hello, _) => {
             let told = [b'R', b'G', b'N', b'L', FIRST, REFUSED, why.byte()];
             put_if_room(buffer, &told)
         }
+        (Expect::Frames, _) => put_if_room(buffer, &[b'W', REFUSED, why.byte()]),
+        (Expect::SignedFrames, _) => put_if_room(buffer, &[b'V', REFUSED, why.byte()]),
+        _ => put_if_room(buffer, &[]),
     }
-}
-
-/// The same of what a child is told whose link ends.
-pub fn write_last_refusal(buffer: &mut [u8], why: Refusal) -> Option<usize>
-    ensures end { result ≡ end_of (nat_le 3 (length buffer.old)) (told_last why) }
-    ensures text { buffer.new
-        ≡ after_writing (nat_le 3 (length buffer.old)) buffer.old (told_last why) }
-{
-    put_if_room(buffer, &[b'W', REFUSED, why.byte()])
 }

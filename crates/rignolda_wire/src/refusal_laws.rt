@@ -7,13 +7,15 @@ ghost use Rattle.rignolda_wire.specs.declared.refusal.Refusal.{Refusal};
 ghost use Rattle.rignolda_wire.specs.declared.refusal.Refusal.TheVariants.{NotSaid};
 ghost use Rattle.rignolda_wire.specs.declared.said.Expect.{Expect};
 ghost use Rattle.rignolda_wire.specs.declared.said.Expect.TheVariants.{Frames, Hello};
+ghost use Rattle.rignolda_wire.specs.declared.said.Expect.TheVariants.{SignedFrames};
 ghost use Rattle.rignolda_wire.specs.Reading.{message_at};
-ghost use Rattle.rignolda_wire.specs.Refusals.{refused, told, told_first, told_last};
+ghost use Rattle.rignolda_wire.specs.Refusals.{refused, told};
 
 /// Each reason that is told is understood, before a link and at its end.
 pub fn what_is_told_is_understood()
-    ensures first { (why : Refusal) → refused Hello (told_first why) ≡ Some why }
-    ensures last { (why : Refusal) → refused Frames (told_last why) ≡ Some why }
+    ensures first { (why : Refusal) → refused Hello (told Hello why) ≡ Some why }
+    ensures last { (why : Refusal) → (refused Frames (told Frames why) ≡ Some why)
+        × (refused SignedFrames (told SignedFrames why) ≡ Some why) }
 {}
 
 /// A reason that is understood was told: no other bytes say it.
@@ -24,6 +26,5 @@ pub fn what_is_understood_was_told()
 
 /// Whoever knows no reasons has the front of a message, of which more has to come.
 pub fn what_is_told_is_no_message()
-    ensures first { (why : Refusal) → message_at Hello (told_first why) ≡ Err More }
-    ensures last { (why : Refusal) → message_at Frames (told_last why) ≡ Err More }
+    ensures { (expect : Expect) (why : Refusal) → message_at expect (told expect why) ≡ Err More }
 {}

@@ -5,8 +5,12 @@ pub enum Expect {
     Hello,
     /// The way of a candidate.
     Way,
+    /// The same, from version 5 on.
+    NumberedWay,
     /// The messages of a parent.
     Frames,
+    /// The same, from version 5 on.
+    SignedFrames,
     /// Those of a child.
     Acks,
 }
@@ -72,6 +76,37 @@ pub struct Reference<'a> {
     pub digest: &'a [u8],
 }
 
+/// A way, from version 5 on.
+#[derive(Clone, Copy)]
+pub struct NumberedWay<'a> {
+    /// The number of the last whole table of whoever says it, or 0.
+    pub number: u64,
+    /// The way.
+    pub way: Way<'a>,
+}
+
+/// A frame, from version 5 on.
+#[derive(Clone, Copy)]
+pub struct SignedFrame<'a> {
+    /// Its label.
+    pub label: u16,
+    /// Its item.
+    pub item: u32,
+    /// What vouches for the body, at most 1,024 bytes; nothing, where nobody does.
+    pub signature: &'a [u8],
+    /// The body beside the item.
+    pub body: &'a [u8],
+}
+
+/// A frame without its body, from version 5 on.
+#[derive(Clone, Copy)]
+pub struct SignedReference<'a> {
+    /// What the child may know the body by.
+    pub reference: Reference<'a>,
+    /// What vouches for the body, as in a [`SignedFrame`].
+    pub signature: &'a [u8],
+}
+
 /// What a connection brings, as it lies in the bytes that came.
 #[derive(Clone, Copy)]
 pub enum Message<'a> {
@@ -95,4 +130,12 @@ pub enum Message<'a> {
     Report(&'a [u8]),
     /// A child takes another parent.
     Goodbye,
+    /// A parent's way, from version 5 on.
+    NumberedWay(NumberedWay<'a>),
+    /// A frame, from version 5 on.
+    SignedFrame(SignedFrame<'a>),
+    /// A frame without its body, from version 5 on.
+    SignedReference(SignedReference<'a>),
+    /// A frame of the link alone: its label. It is acknowledged, and brings no item.
+    Filler(u16),
 }

@@ -1,11 +1,11 @@
 use crate::{
     Expect, Fault, Greeting, Refusal, frame_head, is_name, message, range, refused, reports,
-    versions, word, write_head, write_last_refusal, write_refusal, write_up,
+    versions, word, write_head, write_refusal, write_up,
 };
 
 /// Messages as `tests/daemon/protocol.py` makes them by Python's `struct`, and how many
 /// bytes each has before the names, the body or the text at its end.
-static MESSAGES: [(Expect, &[u8], usize); 10] = [
+static MESSAGES: [(Expect, &[u8], usize); 15] = [
     (
         Expect::Hello,
         b"RGND\x01\x00\x00\x00\x00\x00\x00\x01\x02\x00\x07\x01a\x03hub",
@@ -29,6 +29,24 @@ static MESSAGES: [(Expect, &[u8], usize); 10] = [
         52,
     ),
     (Expect::Frames, b"Q", 1),
+    (
+        Expect::NumberedWay,
+        b"V\x00\x00\x00\x00\x00\x00\x00\x09\x00\x02\x00\x05hub\nr",
+        13,
+    ),
+    (
+        Expect::SignedFrames,
+        b"S\x00\x03\x00\x00\x00\x07\x00\x02us\x00\x00\x00\x01b",
+        15,
+    ),
+    (
+        Expect::SignedFrames,
+        b"B\x00\x03\x0a\x0b\x0c\x0d\x00\x00\x00\x05T\x00\x00\x00\x00\x00\x00\x00\x09\
+          66666666666666666666666666666666\x00\x02us",
+        56,
+    ),
+    (Expect::SignedFrames, b"E\x00\x09", 3),
+    (Expect::SignedFrames, b"Q", 1),
     (Expect::Acks, b"A\x01\x02", 3),
     (Expect::Acks, b"N\x00\x09", 3),
     (Expect::Acks, b"R\x00\x00\x00\x02[]", 5),
@@ -66,7 +84,7 @@ fn reads_and_writes_each_message(rt: HostRuntime) {
 }
 
 /// What is refused, and of what more has to come, as the pages say.
-static FAULTS: [(Expect, &[u8], Fault); 18] = [
+static FAULTS: [(Expect, &[u8], Fault); 25] = [
     (Expect::Hello, b"GET / HTTP/1.1\r\n", Fault::NoHello),
     (Expect::Hello, b"", Fault::More),
     (Expect::Hello, b"RGND\x00", Fault::NoVersion),
@@ -106,6 +124,25 @@ static FAULTS: [(Expect, &[u8], Fault); 18] = [
         b"D\x00\x00\x00\x00\x00\x00\xff\xff\xff\xff",
         Fault::LongBody,
     ),
+    (Expect::Frames, b"V", Fault::NoMessage),
+    (Expect::NumberedWay, b"W", Fault::NoMessage),
+    (Expect::SignedFrames, b"F", Fault::NoMessage),
+    (
+        Expect::SignedFrames,
+        b"S\x00\x00\x00\x00\x00\x00\x04\x01",
+        Fault::LongSignature,
+    ),
+    (
+        Expect::SignedFrames,
+        b"S\x00\x00\x00\x00\x00\x00\x04\x00",
+        Fault::More,
+    ),
+    (
+        Expect::SignedFrames,
+        b"S\x00\x00\x00\x00\x00\x00\x00\x00\x01\x00\x00\x01",
+        Fault::LongBody,
+    ),
+    (Expect::SignedFrames, b"E\x00", Fault::More),
     (Expect::Acks, b"W", Fault::NoMessage),
     (Expect::Acks, b"R\x00\x10\x00\x01", Fault::LongReport),
     (Expect::Acks, b"R\x00\x10\x00\x00", Fault::More),
@@ -155,21 +192,20 @@ fn reads_words_of_stores(rt: HostRuntime) {
     assert!(rt; reports(b"\x00\x00\x00\x03\x00").is_none());
 }
 
-/// Whether this reason is told so before a link, and understood.
-fn is_understood(why: Refusal, told: &[u8]) -> bool {
+/// Whether an end that expects this is told this reason so, and understands it.
+fn is_understood(expect: Expect, why: Refusal, told: &[u8]) -> bool {
     let mut buffer = [0u8; 8];
-    write_refusal(&mut buffer, why) == Some(told.len())
+    write_refusal(&mut buffer, expect, why) == Some(told.len())
         && begins_alike(&buffer, told, told.len())
-        && refused(Expect::Hello, told) == Some(why)
+        && refused(expect, told) == Some(why)
 }
 
 #[test]
 fn says_why_an_end_is_refused(rt: HostRuntime) {
-    assert!(rt; is_understood(Refusal::NotSaid, b"RGNL\x02"));
-    assert!(rt; is_understood(Refusal::Full, b"RGNL\x02\xff\x06"));
-    let mut buffer = [0u8; 3];
-    assert!(rt; write_last_refusal(&mut buffer, Refusal::Twin) == Some(3));
-    assert!(rt; refused(Expect::Frames, &buffer) == Some(Refusal::Twin));
+    assert!(rt; is_understood(Expect::Hello, Refusal::NotSaid, b"RGNL\x02"));
+    assert!(rt; is_understood(Expect::Hello, Refusal::Full, b"RGNL\x02\xff\x06"));
+    assert!(rt; is_understood(Expect::Frames, Refusal::Twin, b"W\xff\x07"));
+    assert!(rt; is_understood(Expect::SignedFrames, Refusal::Twin, b"V\xff\x07"));
     assert!(rt; refused(Expect::Hello, b"RGNL\x02\xff\x63") == Some(Refusal::NotSaid));
     assert!(rt; refused(Expect::Acks, b"RGNL\x02").is_none());
 }

@@ -3,10 +3,9 @@
 
 ghost use Rattle.std.specs.Prelude.{◌≡◌, ◌<◌, ◌^◌, ◌++◌, ℕ, List, [], Ok, Some, false};
 ghost use Rattle.std.specs.Int.{w32, to_be_bytes};
-ghost use Rattle.rignolda_wire.specs.declared.said.Expect.TheVariants.{Frames};
+ghost use Rattle.rignolda_wire.specs.declared.said.Expect.{Expect};
 ghost use Rattle.rignolda_wire.specs.Reading.{message_at};
-ghost use Rattle.rignolda_wire.specs.Said.{Framed, Greeted, IsFrame, IsGreeting};
-ghost use Rattle.rignolda_wire.specs.Said.{frame, hello, spelling};
+ghost use Rattle.rignolda_wire.specs.Said.{Greeted, IsGreeting, IsMessage, Said, hello, spelling};
 ghost use Rattle.rignolda_wire.specs.Seen.{AreBytes};
 ghost use Rattle.rignolda_wire.specs.Words.{Headed, down, down_with, head_of, headed_bytes};
 ghost use Rattle.rignolda_wire.specs.Words.{reports_of, up, word_at, word_bytes};
@@ -17,13 +16,13 @@ pub fn a_word_is_read()
         → word_at (spelling (hello false g) ++ rest) ≡ Some (g, rest) }
 {}
 
-/// So each word comes apart into what it was made of: a parent's into its hello and the frame, and
-/// a child's into its hello and the count.
+/// So each word comes apart into what it was made of: a parent's into its hello and a frame, or
+/// whatever else may be expected there, and a child's into its hello and the count.
 pub fn words_come_apart()
     ensures down { (g : Greeted) → IsGreeting 1 g → word_at (word_bytes (down g)) ≡ Some (g, []) }
-    ensures down_with { (g : Greeted) (f : Framed) → IsGreeting 1 g → IsFrame f
-        → (word_at (word_bytes (down_with g f)) ≡ Some (g, spelling (frame f)))
-        × (message_at Frames (spelling (frame f)) ≡ Ok (frame f, [])) }
+    ensures down_with { (expect : Expect) (g : Greeted) (m : Said) → IsGreeting 1 g
+        → IsMessage expect m → (word_at (word_bytes (down_with g m)) ≡ Some (g, spelling m))
+        × (message_at expect (spelling m) ≡ Ok (m, [])) }
     ensures up { (g : Greeted) (reports : ℕ) → IsGreeting 1 g → reports < 2 ^ 32
         → (word_at (word_bytes (up g reports)) ≡ Some (g, to_be_bytes w32 reports))
         × (reports_of (to_be_bytes w32 reports) ≡ Some reports) }

@@ -2,15 +2,19 @@ ghost use Rattle.std.specs.Prelude.{◌≡◌, ◌+◌, ◌≤◌, ◌∷◌, tr
 ghost use Rattle.std.specs.Int.{w16, to_be_bytes};
 ghost use Rattle.rignolda_wire.specs.Names.{name_limit};
 ghost use Rattle.rignolda_wire.specs.Said as said;
-ghost use Rattle.rignolda_wire.specs.Said.{body_limit, fourth, hello, refers, report};
-ghost use Rattle.rignolda_wire.specs.Said.{report_limit, way_limit};
-ghost use Rattle.rignolda_wire.specs.Seen.{framed, greeted, referred, routed, said_of};
+ghost use Rattle.rignolda_wire.specs.Said.{body_limit, fourth, hello, numbered, refers};
+ghost use Rattle.rignolda_wire.specs.Said.{refers_signed, report, report_limit, signature_limit};
+ghost use Rattle.rignolda_wire.specs.Said.{signed, way_limit};
+ghost use Rattle.rignolda_wire.specs.Seen.{framed, greeted, numbering, referred, routed, said_of};
+ghost use Rattle.rignolda_wire.specs.Seen.{signing, signing_reference};
 ghost use Rattle.rignolda_wire.specs.Writing.{after_writing, end_of, head_bytes, is_short};
-ghost use Rattle.rignolda_wire.specs.Writing.{is_written, joined, with_text};
+ghost use Rattle.rignolda_wire.specs.Writing.{is_reference, is_written, joined, with_text};
 
 use crate::names::NAME_LIMIT;
-use crate::reading::{BODY_LIMIT, DIGEST_LEN, HEAD_LEN, REPORT_LIMIT, WAY_LIMIT};
-use crate::said::{Frame, Greeting, Message, Reference, Way};
+use crate::reading::{BODY_LIMIT, DIGEST_LEN, HEAD_LEN, REPORT_LIMIT, SIGNATURE_LIMIT, WAY_LIMIT};
+use crate::said::{
+    Frame, Greeting, Message, NumberedWay, Reference, SignedFrame, SignedReference, Way,
+};
 
 /// Writes a text into the buffer from this place on, and gives its end.
 pub(crate) fn put(buffer: &mut [u8], at: usize, text: &[u8]) -> usize
@@ -132,6 +136,63 @@ fn put_report_head(buffer: &mut [u8], text: &[u8]) -> usize
     put_all(buffer, &[b"R", &(text.len() as u32).to_be_bytes()])
 }
 
+#[tactic(auto, using(crate::proofs::Texts::nothing_more))]
+fn put_numbered_way_head(buffer: &mut [u8], it: &NumberedWay<'_>) -> usize
+    requires short { length it.now.way.names.now ≤ way_limit }
+    requires room { length (head_bytes (numbered (numbering it.now))) ≤ length buffer.old }
+    ensures end { result ≡ length (head_bytes (numbered (numbering it.now))) }
+    ensures text { buffer.new ≡ with_text buffer.old 0 (head_bytes (numbered (numbering it.now))) }
+{
+    let (number, cost) = (it.number.to_be_bytes(), it.way.cost.to_be_bytes());
+    let len = (it.way.names.len() as u16).to_be_bytes();
+    put_all(buffer, &[b"V", &number, &cost, &len])
+}
+
+#[tactic(auto, using(crate::proofs::Texts::nothing_more))]
+fn put_signed_frame_head(buffer: &mut [u8], it: &SignedFrame<'_>) -> usize
+    requires vouched { length it.now.signature.now ≤ signature_limit }
+    requires short { length it.now.body.now ≤ body_limit }
+    requires room { length (head_bytes (signed (signing it.now))) ≤ length buffer.old }
+    ensures end { result ≡ length (head_bytes (signed (signing it.now))) }
+    ensures text { buffer.new ≡ with_text buffer.old 0 (head_bytes (signed (signing it.now))) }
+{
+    let (label, item) = (it.label.to_be_bytes(), it.item.to_be_bytes());
+    let signature_len = (it.signature.len() as u16).to_be_bytes();
+    let len = (it.body.len() as u32).to_be_bytes();
+    put_all(
+        buffer,
+        &[b"S", &label, &item, &signature_len, it.signature, &len],
+    )
+}
+
+#[tactic(auto, using(crate::proofs::Texts::nothing_more, crate::proofs::Texts::behind_both))]
+fn put_signed_reference(buffer: &mut [u8], it: &SignedReference<'_>) -> usize
+    requires vouched { length it.now.signature.now ≤ signature_limit }
+    requires room { length (head_bytes (refers_signed (signing_reference it.now)))
+        ≤ length buffer.old }
+    ensures end { result ≡ length (head_bytes (refers_signed (signing_reference it.now))) }
+    ensures text { buffer.new
+        ≡ with_text buffer.old 0 (head_bytes (refers_signed (signing_reference it.now))) }
+{
+    let reference = &it.reference;
+    let (label, item) = (reference.label.to_be_bytes(), reference.item.to_be_bytes());
+    let len = reference.len.to_be_bytes();
+    let signature_len = (it.signature.len() as u16).to_be_bytes();
+    put_all(
+        buffer,
+        &[
+            b"B",
+            &label,
+            &item,
+            &len,
+            reference.head,
+            reference.digest,
+            &signature_len,
+            it.signature,
+        ],
+    )
+}
+
 fn put_head(buffer: &mut [u8], message: &Message<'_>) -> usize
     requires short { is_short (said_of message.now) ≡ true }
     requires room { length (head_bytes (said_of message.now)) ≤ length buffer.old }
@@ -149,7 +210,18 @@ fn put_head(buffer: &mut [u8], message: &Message<'_>) -> usize
         Message::Lacks(label) => put_label(buffer, b'N', label),
         Message::Report(report) => put_report_head(buffer, report),
         Message::Goodbye => put(buffer, 0, b"G"),
+        Message::NumberedWay(way) => put_numbered_way_head(buffer, &way),
+        Message::SignedFrame(frame) => put_signed_frame_head(buffer, &frame),
+        Message::SignedReference(reference) => put_signed_reference(buffer, &reference),
+        Message::Filler(label) => put_label(buffer, b'E', label),
     }
+}
+
+/// Whether a reference has the front and the digest of a body.
+fn is_reference(it: &Reference<'_>) -> bool
+    ensures { result ≡ is_reference (referred it.now) }
+{
+    it.head.len() == HEAD_LEN && it.digest.len() == DIGEST_LEN
 }
 
 /// Whether each length is within its limit.
@@ -162,9 +234,21 @@ fn is_short(message: &Message<'_>) -> bool
         }
         Message::Way(way) => way.names.len() <= usize::from(WAY_LIMIT),
         Message::Frame(frame) => frame.body.len() <= BODY_LIMIT as usize,
-        Message::Reference(it) => it.head.len() == HEAD_LEN && it.digest.len() == DIGEST_LEN,
+        Message::Reference(it) => is_reference(&it),
         Message::Report(report) => report.len() <= REPORT_LIMIT as usize,
-        Message::ReportRequest | Message::Ack(_) | Message::Lacks(_) | Message::Goodbye => true,
+        Message::NumberedWay(it) => it.way.names.len() <= usize::from(WAY_LIMIT),
+        Message::SignedFrame(it) => {
+            it.signature.len() <= usize::from(SIGNATURE_LIMIT)
+                && it.body.len() <= BODY_LIMIT as usize
+        }
+        Message::SignedReference(it) => {
+            is_reference(&it.reference) && it.signature.len() <= usize::from(SIGNATURE_LIMIT)
+        }
+        Message::ReportRequest
+        | Message::Ack(_)
+        | Message::Lacks(_)
+        | Message::Goodbye
+        | Message::Filler(_) => true,
     }
 }
 
@@ -178,13 +262,16 @@ fn len_of_head(message: &Message<'_>) -> usize
         Message::Way(_) | Message::Report(_) => 5,
         Message::Frame(_) => 11,
         Message::Reference(_) => 11 + HEAD_LEN + DIGEST_LEN,
-        Message::Ack(_) | Message::Lacks(_) => 3,
+        Message::NumberedWay(_) => 13,
+        Message::SignedFrame(it) => 13 + it.signature.len(),
+        Message::SignedReference(it) => 13 + HEAD_LEN + DIGEST_LEN + it.signature.len(),
+        Message::Ack(_) | Message::Lacks(_) | Message::Filler(_) => 3,
         Message::ReportRequest | Message::Goodbye => 1,
     }
 }
 
 /// Writes the head of a message into the buffer, and gives its end: all but the body of a frame,
-/// the names of a way and the text of a report, which follow it. It gives nothing and leaves the
+/// the names of a way and the text of a report, signed and numbered ones too, which follow it. It gives nothing and leaves the
 /// buffer as it was, if there is no room, or a length of the message is not within its limit.
 pub fn write_head(buffer: &mut [u8], message: &Message<'_>) -> Option<usize>
     ensures end { result ≡ end_of (is_written buffer.old (said_of message.now))

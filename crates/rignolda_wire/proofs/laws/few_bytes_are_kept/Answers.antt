@@ -1,4 +1,4 @@
-use Rattle.rignolda_wire.proofs.Messages.{codec_message}
+use Rattle.rignolda_wire.proofs.Signed.{codec_message}
 use Rattle.rignolda_wire.proofs.laws.few_bytes_are_kept.Goals as goal
 
 pub returns : goal.returns

@@ -1,4 +1,4 @@
-use Rattle.rignolda_wire.proofs.Messages.{codec_message}
+use Rattle.rignolda_wire.proofs.Signed.{codec_message}
 use Rattle.rignolda_wire.proofs.laws.what_is_refused_stays_refused.Goals as goal
 
 pub returns : goal.returns
