@@ -226,7 +226,7 @@ bool rignolda_waits_on_left_out(rignolda_waits *waits, uint64_t first, uint64_t 
 /*
  * What goes over a connection, byte for byte, as the crate rignolda_wire defines it. What may come
  * has a byte: 'H' for a hello, 'W' for the way of a candidate, 'F' for what a parent says, 'A' for
- * what a child says. The laws are those of the module laws of that crate: what is spelled is read,
+ * what a child says; from version 5 on 'V' in place of 'W', and 'S' of 'F'. The laws are those of the module laws of that crate: what is spelled is read,
  * whatever follows it; what is read was spelled so; what is refused stays refused; while more has
  * to come there are few bytes; and what is written is read.
  */
@@ -234,12 +234,14 @@ bool rignolda_waits_on_left_out(rignolda_waits *waits, uint64_t first, uint64_t 
 /*
  * A message in front of some bytes. Its kind is 'H' for a hello, 'L' a look, 'W' a way, 'F' a
  * frame, 'D' a frame without its body, 'Q' the request of a whole report, 'A' an acknowledgement,
- * 'N' a frame that is lacking, 'R' a report, 'G' a goodbye. Its texts are both names; the names of
- * a way, with a line feed between two; the body; the front of a body (9 bytes) and its SHA-256; the
- * report. They lie within the bytes. What a message of its kind does not have is 0.
+ * 'N' a frame that is lacking, 'R' a report, 'G' a goodbye; from version 5 on 'V' a way, 'S' a
+ * frame, 'B' a frame without its body, 'E' a filler, which brings no item. Its texts are both names;
+ * the names of a way, with a line feed between two; the body; the front of a body (9 bytes) and its
+ * SHA-256; the report. They lie within the bytes. What a message of its kind does not have is 0.
  */
 typedef struct rignolda_message {
     uint64_t life;        /* of a hello and of a look */
+    uint64_t table;       /* of a way of 'V': the number of the last whole table */
     uint32_t item;        /* of a frame, with and without its body */
     uint32_t body_length; /* how long the body of a frame is that comes without it */
     uint16_t label;       /* the label, or what a way costs */
@@ -249,6 +251,8 @@ typedef struct rignolda_message {
     size_t first_length;
     size_t second; /* where the second one begins */
     size_t second_length;
+    size_t signature; /* where the signature begins, of 'S' and 'B' */
+    size_t signature_length;
     size_t end; /* where the next message begins */
 } rignolda_message;
 
@@ -256,19 +260,20 @@ typedef struct rignolda_message {
  * Returns 0 if there is a message in front of these bytes that may come, after writing it; 1 if
  * more has to come; else the first of these faults that is met: 2 no hello, 3 a version that nobody
  * speaks, 4 no name, 5 no message that may come, 6 a body over 16 MiB, 7 a way over 8,320 bytes or
- * 128 names, 8 no name of a way, 9 a report over 1 MiB.
+ * 128 names, 8 no name of a way, 9 a report over 1 MiB, 10 a signature over 1,024 bytes.
  */
 uint8_t rignolda_message_read(uint8_t expect, const uint8_t *bytes, size_t length,
                               rignolda_message *message);
 
 /*
- * Writes the message that says this and has these texts, whatever the struct says of their places:
+ * Writes the message that says this, with these texts and this signature, wherever they lie:
  * all but the text at the end of a way, a frame or a report, which follows. Returns its end; or 0
  * where there is no room, the kind is none or a text is too long, and then it wrote nothing.
  */
 size_t rignolda_message_write(uint8_t *buffer, size_t size, const rignolda_message *message,
                               const uint8_t *first, size_t first_length, const uint8_t *second,
-                              size_t second_length);
+                              size_t second_length, const uint8_t *signature,
+                              size_t signature_length);
 
 /*
  * Whether the head of a frame is in front, whatever length it says of its body, after writing its
@@ -285,8 +290,9 @@ bool rignolda_frame_head(const uint8_t *bytes, size_t length, rignolda_message *
 uint8_t rignolda_refusal_read(uint8_t expect, const uint8_t *bytes, size_t length);
 
 /*
- * Writes what an end is told that expects a hello or frames and is refused for this reason. Returns
- * its end, or 0 where there is no room, or nothing is told.
+ * Writes what an end is told that expects this and is refused for this reason: in the place of a
+ * hello or of what a parent says why, and else nothing. Returns its end, or 0 where there is no
+ * room, or nothing is told.
  */
 size_t rignolda_refusal_write(uint8_t *buffer, size_t size, uint8_t expect, uint8_t why);
 

@@ -21,6 +21,7 @@ from pathlib import Path
 from programs import TOP
 
 MACHINE = TOP / "rust/rignolda_machine"
+VECTORS = TOP / "docs/schema/wire.txt"
 # Those of the daemon's modules that wire.rs needs, and what else of net.rs.
 OF_NET = "error", "parents", "proved", "refusal", "wire"
 ITEMS = re.compile(r"^(?:#\[derive\([^\n]*\)\]\n)?(?:pub )?"
@@ -114,6 +115,34 @@ KINDS = {
 }
 
 
+# ---- Version 5
+
+def numbered_way(rest):
+    return f"numbered-way {rest.number(8)} {way(rest)[4:]}"
+
+
+def signature(rest):
+    return f"[{rest.counted(2, 1024, 'LongSignature').hex()}]"
+
+
+def signed_frame(rest):
+    head = f"signed-frame {rest.number(2)} {rest.number(4)} {signature(rest)}"
+    return f"{head} [{rest.counted(4, 1 << 24, 'LongBody').hex()}]"
+
+
+def signed_reference(rest):
+    return f"signed-{reference(rest)} {signature(rest)}"
+
+
+KINDS |= {
+    "NumberedWay": {b"V": numbered_way},
+    "SignedFrames": {b"S": signed_frame, b"B": signed_reference, b"V": numbered_way,
+                     b"E": lambda rest: f"filler {rest.number(2)}", b"Q": lambda rest: "request"},
+}
+CODES = ["", "1", "NoHello", "NoVersion", "NoName", "NoMessage", "LongBody", "LongWay",
+         "NoNameOfWay", "LongReport", "LongSignature"]
+
+
 def message(rest, expect):
     if expect == "Hello":
         return hello(rest)
@@ -138,8 +167,8 @@ def some(it):
     return "None" if it is None else f"Some({it})"
 
 
-def answer(expect, pieces):
-    """What compared.rs is to say of a stream, and the kinds of that."""
+def heard(expect, pieces):
+    """The messages of a stream, at last why it has no more, and the bytes that are left."""
     told, left, last = [], b"", ""
     for piece in pieces:
         rest, at = Rest(left + piece), 0
@@ -152,6 +181,16 @@ def answer(expect, pieces):
         if last:
             told.append(last)
             break
+    return told, left, last
+
+
+def answer(expect, pieces):
+    """What compared.rs is to say of a stream, and the kinds of that."""
+    told, left, last = heard(expect, pieces)
+    if expect in ("NumberedWay", "SignedFrames"):
+        code = CODES.index(last) if last else 1
+        words = "".join(f"{it}; " for it in (told[:-1] if last else told))
+        return f"{words}{code} {left.hex()}", {f"{it.split()[0]} (5)" for it in told}
     head = [int.from_bytes(left[a:b], "big") for a, b in ((1, 3), (3, 7), (7, 11))]
     head = tuple(head) if left[:1] == b"F" and len(left) > 10 else None
     name = str(bool(NAME.fullmatch(left.decode("latin-1")))).lower()
@@ -164,6 +203,9 @@ def answer(expect, pieces):
 
 # ---- The streams
 
+EXPECTED = ["Hello", "Way", "Frames", "Acks", "NumberedWay", "SignedFrames"]
+
+
 def number(draw, digits, most=None):
     return draw.randrange(most or 1 << 8 * digits).to_bytes(digits, "big")
 
@@ -175,29 +217,33 @@ def name(draw):
 
 def drawn(draw, expect):
     """A message that may come, if its names are some."""
-    kind = draw.choice({"Hello": "HL", "Way": "W", "Frames": "WDQFFF", "Acks": "NRGAA"}[expect])
+    kind = draw.choice({"Hello": "HL", "Way": "W", "Frames": "WDQFFF", "Acks": "NRGAA",
+                        "NumberedWay": "V", "SignedFrames": "VBEQSSS"}[expect])
     letter = kind.encode()
     if kind in "HL":
         names = [bytes([len(it)]) + it for it in (name(draw), name(draw))]
         numbers = number(draw, 1, 6) + number(draw, 10)
         return (b"RGND" if kind == "H" else b"RGNL") + numbers + b"".join(names)
-    if kind == "W":
+    if kind in "WV":
+        letter += number(draw, 8) if kind == "V" else b""
         count = draw.choice([0, draw.randint(127, 130), *[draw.randint(1, 5)] * 8])
         names = b"\n".join(name(draw) for _ in range(count))[:65535]
         return letter + number(draw, 2) + len(names).to_bytes(2, "big") + names
-    if kind == "D":
+    vouches = draw.randbytes(draw.choice([0, 72, draw.randint(1_022, 1_026)]))
+    vouches = len(vouches).to_bytes(2, "big") + vouches if kind in "BS" else b""
+    if kind in "DB":
         length = draw.choice([(1 << 24) - 1 + draw.randrange(3), draw.randrange(99)])
-        return letter + number(draw, 6) + length.to_bytes(4, "big") + draw.randbytes(41)
-    if kind in "FR":
+        return letter + number(draw, 6) + length.to_bytes(4, "big") + draw.randbytes(41) + vouches
+    if kind in "FRS":
         text = draw.randbytes(draw.randrange(40))
-        head = number(draw, 6) if kind == "F" else b""
-        return letter + head + len(text).to_bytes(4, "big") + text
-    return letter + (number(draw, 2) if kind in "NA" else b"")
+        head = number(draw, 6) if kind in "FS" else b""
+        return letter + head + vouches + len(text).to_bytes(4, "big") + text
+    return letter + (number(draw, 2) if kind in "NAE" else b"")
 
 
 def stream(draw, expect):
     """Some messages or what an end is told that is refused, spoilt or cut now and then."""
-    told = [draw.choice([b"RGNL\2", b"W"]) + bytes([255, draw.randrange(9)]), b"RGNL\2"]
+    told = [draw.choice([b"RGNL\2", b"W", b"V"]) + bytes([255, draw.randrange(9)]), b"RGNL\2"]
     if draw.randrange(6):
         told = [drawn(draw, expect) for _ in range(draw.randint(1, 4))]
     data = bytearray(b"".join(told[:4]) if len(told) != 2 else draw.choice(told))
@@ -249,10 +295,18 @@ def main():
         print("nothing was compared: there is no rustc\n0 passed, 0 failed")
         return
     draw, lines, wanted, counts = random.Random(7), [], [], collections.Counter()
+    for line in VECTORS.read_text().splitlines():
+        if not line.startswith("#"):
+            expect, digits, says = line.split(maxsplit=2)
+            data = bytes.fromhex(digits)
+            lines.append(f"{expect} {digits}")
+            is_right = heard(expect, [data])[0] == [says]
+            wanted.append(answer(expect, [data])[0] if is_right else says)
+            counts["vector"] += 1
     for _ in range(int(sys.argv[1]) if sys.argv[1:] else 60_000):
-        kind = draw.choice(["Hello", "Way", "Frames", "Acks"])
+        kind = draw.choice(EXPECTED)
         data = stream(draw, kind)
-        expect = kind if draw.randrange(8) else draw.choice(["Hello", "Way", "Frames", "Acks"])
+        expect = kind if draw.randrange(8) else draw.choice(EXPECTED)
         came = list(pieces(draw, data))
         lines.append(" ".join([expect, *(it.hex() for it in came)]))
         says, kinds = answer(expect, came)

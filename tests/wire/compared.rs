@@ -2,7 +2,7 @@
 //! come, in hexadecimal digits; its answer has the messages, and what becomes of the bytes that are
 //! left. `BUT` stands behind a message that is not written as it came.
 use super::wire::{self, Expect, Hello, Message};
-use super::is_name;
+use super::{is_name, proved};
 use std::fmt::Write;
 
 fn bytes(digits: &str) -> Vec<u8> {
@@ -76,9 +76,66 @@ fn answer(expect: Expect, pieces: &[&str]) -> String {
     format!("{told}{} {why:?} {:?} {name}", digits(&input), wire::head(&input))
 }
 
+extern "C" {
+    fn rignolda_message_read(
+        expect: u8,
+        bytes: *const u8,
+        length: usize,
+        it: &mut proved::Message,
+    ) -> u8;
+}
+
+/// What the archive makes of a stream of version 5, which the daemon does not speak yet: of each
+/// message its kind, numbers and texts, and at last what the archive answered.
+fn newest(expect: u8, pieces: &[&str]) -> String {
+    let (mut input, mut told, mut code) = (Vec::new(), String::new(), 1);
+    for piece in pieces {
+        input.extend(bytes(piece));
+        loop {
+            let mut it = proved::Message::default();
+            // SAFETY: the bytes and the message are lent for the call.
+            code = unsafe { rignolda_message_read(expect, input.as_ptr(), input.len(), &mut it) };
+            if code != 0 {
+                break;
+            }
+            let texts = it.texts.map(|[at, length]| input[at..at + length].to_vec());
+            let [first, second, signature] = [0, 1, 2].map(|at: usize| &texts[at][..]);
+            let mut head = vec![0; it.end];
+            let end = proved::write(&mut head, &it, [first, second, signature]);
+            let tail: &[u8] = if matches!(it.kind, b'V' | b'S') { first } else { &[] };
+            let is_well = [&head[..end], tail].concat() == input[..it.end];
+            let [one, other, vouches] = [first, second, signature].map(digits);
+            let proved::Message { label, item, body_length: length, .. } = it;
+            let says = match it.kind {
+                b'V' => {
+                    let names = String::from_utf8_lossy(first).replace('\n', " ");
+                    format!("numbered-way {} {label} {names}", it.table)
+                }
+                b'S' => format!("signed-frame {label} {item} [{vouches}] [{one}]"),
+                b'B' => {
+                    format!("signed-reference {label} {item} {length} {one} {other} [{vouches}]")
+                }
+                b'E' => format!("filler {label}"),
+                _ => "request".into(),
+            };
+            write!(told, "{says}{}; ", if is_well { "" } else { " BUT" }).unwrap();
+            input.drain(..it.end);
+        }
+        if code != 1 {
+            break;
+        }
+    }
+    format!("{told}{code} {}", digits(&input))
+}
+
 pub fn main() {
     for line in std::io::stdin().lines().map(Result::unwrap) {
         let (expect, pieces) = line.split_once(' ').unwrap();
+        let of_newest = [("NumberedWay", b'V'), ("SignedFrames", b'S')];
+        if let Some((_, byte)) = of_newest.iter().find(|it| it.0 == expect) {
+            println!("{}", newest(*byte, &pieces.split(' ').collect::<Vec<_>>()));
+            continue;
+        }
         let all = [Expect::Hello, Expect::Way, Expect::Frames, Expect::Acks];
         let expect = all.into_iter().find(|it| format!("{it:?}") == expect).unwrap();
         println!("{}", answer(expect, &pieces.split(' ').collect::<Vec<_>>()));

@@ -1,16 +1,17 @@
 ghost use Rattle.std.specs.Prelude.{◌≡◌, nat_le, List, length};
 ghost use Rattle.std.specs.Option.{option_map};
 ghost use Rattle.rignolda_wire.specs.Refusals.{refusal_of};
-ghost use Rattle.rignolda_wire.specs.Seen.{greeted, said_of};
+ghost use Rattle.rignolda_wire.specs.Seen.{greeted, referred, said_of, signing};
 ghost use Rattle.rignolda_wire.specs.Versions.{range_of};
 ghost use Rattle.rignolda_wire.specs.Writing.{after_writing, end_of};
 ghost use Rattle.rignolda_settings_c.specs.Messages.{end_code, expect_named, greeted_with};
-ghost use Rattle.rignolda_settings_c.specs.Messages.{said_with, told_as, written, written_end};
+ghost use Rattle.rignolda_settings_c.specs.Messages.{referred_with, said_with, signed_with};
+ghost use Rattle.rignolda_settings_c.specs.Messages.{told_as, written, written_end};
 
 use crate::messages::{WireMessage, expect_named};
 use rignolda_wire::{
-    Expect, Frame, Greeting, Message, Reference, Refusal, Way, range, write_head,
-    write_last_refusal, write_refusal,
+    Frame, Greeting, Message, NumberedWay, Reference, Refusal, SignedFrame, SignedReference, Way,
+    range, write_head, write_refusal,
 };
 
 /// The hello, or look, that says this and has these names.
@@ -26,9 +27,38 @@ pub(crate) fn greeting<'a>(it: &WireMessage, from: &'a [u8], to: &'a [u8]) -> Gr
     }
 }
 
-/// The message that says this and has these texts.
-fn message<'a>(it: &WireMessage, first: &'a [u8], second: &'a [u8]) -> Option<Message<'a>>
-    ensures { option_map (λ m. said_of m) result ≡ said_with it.now first.now second.now }
+fn reference<'a>(it: &WireMessage, head: &'a [u8], digest: &'a [u8]) -> Reference<'a>
+    ensures { referred result ≡ referred_with it.now head.now digest.now }
+{
+    Reference {
+        label: it.label,
+        item: it.item,
+        len: it.body_length,
+        head,
+        digest,
+    }
+}
+
+fn signed_frame<'a>(it: &WireMessage, signature: &'a [u8], body: &'a [u8]) -> SignedFrame<'a>
+    ensures { signing result ≡ signed_with it.now signature.now body.now }
+{
+    SignedFrame {
+        label: it.label,
+        item: it.item,
+        signature,
+        body,
+    }
+}
+
+/// The message that says this and has these texts and this signature.
+fn message<'a>(
+    it: &WireMessage,
+    first: &'a [u8],
+    second: &'a [u8],
+    signature: &'a [u8],
+) -> Option<Message<'a>>
+    ensures { option_map (λ m. said_of m) result
+        ≡ said_with it.now first.now second.now signature.now }
 {
     match it.kind {
         b'H' => Some(Message::Hello(greeting(it, first, second))),
@@ -42,36 +72,46 @@ fn message<'a>(it: &WireMessage, first: &'a [u8], second: &'a [u8]) -> Option<Me
             item: it.item,
             body: first,
         })),
-        b'D' => Some(Message::Reference(Reference {
-            label: it.label,
-            item: it.item,
-            len: it.body_length,
-            head: first,
-            digest: second,
-        })),
+        b'D' => Some(Message::Reference(reference(it, first, second))),
         b'Q' => Some(Message::ReportRequest),
         b'A' => Some(Message::Ack(it.label)),
         b'N' => Some(Message::Lacks(it.label)),
         b'R' => Some(Message::Report(first)),
         b'G' => Some(Message::Goodbye),
+        b'V' => Some(Message::NumberedWay(NumberedWay {
+            number: it.table,
+            way: Way {
+                cost: it.label,
+                names: first,
+            },
+        })),
+        b'S' => Some(Message::SignedFrame(signed_frame(it, signature, first))),
+        b'B' => Some(Message::SignedReference(SignedReference {
+            reference: reference(it, first, second),
+            signature,
+        })),
+        b'E' => Some(Message::Filler(it.label)),
         _ => None,
     }
 }
 
-/// Writes the message that says this and has these texts, from the front of the buffer on: all of
-/// it but the text at the end of a way, a frame or a report, which follows. It returns its end; or
-/// 0 where there is no room, the kind is none, or a text is too long.
+/// Writes the message that says this and has these texts and this signature, from the front of the
+/// buffer on: all of it but the text at the end of a way, a frame or a report, which follows. It
+/// returns its end; or 0 where there is no room, the kind is none, or a text is too long.
 #[unsafe(no_mangle)]
 pub extern "C" fn rignolda_message_write(
     buffer: &mut [u8],
     head: &WireMessage,
     first: &[u8],
     second: &[u8],
+    signature: &[u8],
 ) -> usize
-    ensures end { result ≡ written_end buffer.old (said_with head.now first.now second.now) }
-    ensures text { buffer.new ≡ written buffer.old (said_with head.now first.now second.now) }
+    ensures end { result ≡ written_end buffer.old
+        (said_with head.now first.now second.now signature.now) }
+    ensures text { buffer.new ≡ written buffer.old
+        (said_with head.now first.now second.now signature.now) }
 {
-    match message(head, first, second) {
+    match message(head, first, second, signature) {
         None => 0,
         Some(message) => write_head(buffer, &message).unwrap_or(0),
     }
@@ -87,9 +127,8 @@ pub extern "C" fn rignolda_refusal_write(buffer: &mut [u8], expect: u8, why: u8)
         buffer.new ≡ after_writing (nat_le (length text) (length buffer.old)) buffer.old text }
 {
     match expect_named(expect) {
-        Some(Expect::Hello) => write_refusal(buffer, Refusal::of(why)).unwrap_or(0),
-        Some(Expect::Frames) => write_last_refusal(buffer, Refusal::of(why)).unwrap_or(0),
-        _ => 0,
+        None => 0,
+        Some(expect) => write_refusal(buffer, expect, Refusal::of(why)).unwrap_or(0),
     }
 }
 

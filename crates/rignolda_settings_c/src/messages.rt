@@ -1,14 +1,16 @@
 ghost use Rattle.std.specs.Prelude.{◌≡◌, List, []};
 ghost use Rattle.rignolda_wire.specs.Names.{is_name as names_one};
-ghost use Rattle.rignolda_wire.specs.Said.{refers};
-ghost use Rattle.rignolda_wire.specs.Seen.{greeted, referred, said_of};
+ghost use Rattle.rignolda_wire.specs.Said.{refers_signed, signed};
+ghost use Rattle.rignolda_wire.specs.Seen.{greeted, referred, said_of, signing, signing_reference};
 ghost use Rattle.rignolda_wire.specs.Versions.{range_of, versions_of};
 ghost use Rattle.rignolda_settings_c.specs.Messages.{Read, expect_named, read_as, reason_code};
+ghost use Rattle.rignolda_settings_c.specs.Messages.{reference_of};
 ghost use Rattle.rignolda_settings_c.specs.Messages.{refused_as, said_by, shown_of};
 ghost use Rattle.rignolda_settings_c.specs.Messages as defined;
 
 use rignolda_wire::{
-    Expect, Fault, Greeting, Message, Reference, is_name, message, range, refused, versions,
+    Expect, Fault, Greeting, Message, Reference, SignedFrame, SignedReference, is_name, message,
+    range, refused, versions,
 };
 
 /// A message in front of some bytes, as C sees it: what it says beside its texts, where these lie
@@ -18,6 +20,8 @@ use rignolda_wire::{
 pub struct WireMessage {
     /// Of a hello and of a look.
     pub life: u64,
+    /// The number of the last whole table, of a way from version 5 on.
+    pub table: u64,
     /// Of a frame, with and without its body.
     pub item: u32,
     /// How long the body of a frame is that comes without it.
@@ -36,9 +40,17 @@ pub struct WireMessage {
     pub second: usize,
     /// How long it is.
     pub second_length: usize,
+    /// Where the signature begins.
+    pub signature: usize,
+    /// How long it is.
+    pub signature_length: usize,
     /// Where the next message begins.
     pub end: usize,
 }
+
+/// Where the signature of a frame without its body begins: behind 11 bytes, the front of the body,
+/// its digest and the length.
+const SIGNATURE_OF_A_REFERENCE: usize = 54;
 
 /// There is a message.
 const FOUND: u8 = 0;
@@ -55,6 +67,8 @@ pub(crate) fn expect_named(byte: u8) -> Option<Expect>
         b'W' => Some(Expect::Way),
         b'F' => Some(Expect::Frames),
         b'A' => Some(Expect::Acks),
+        b'V' => Some(Expect::NumberedWay),
+        b'S' => Some(Expect::SignedFrames),
         _ => None,
     }
 }
@@ -72,6 +86,7 @@ fn fault_code(fault: Fault) -> u8
         Fault::LongWay => 7,
         Fault::NoNameOfWay => 8,
         Fault::LongReport => 9,
+        Fault::LongSignature => 10,
     }
 }
 
@@ -81,6 +96,7 @@ pub(crate) fn empty(kind: u8, label: u16) -> WireMessage
 {
     WireMessage {
         life: 0,
+        table: 0,
         item: 0,
         body_length: 0,
         label,
@@ -90,6 +106,8 @@ pub(crate) fn empty(kind: u8, label: u16) -> WireMessage
         first_length: 0,
         second: 0,
         second_length: 0,
+        signature: 0,
+        signature_length: 0,
         end: 0,
     }
 }
@@ -111,8 +129,8 @@ fn greeting(kind: u8, it: &Greeting<'_>) -> WireMessage
 }
 
 /// A frame without its body, of which the front and the digest lie behind 11 bytes.
-fn reference(it: &Reference<'_>) -> WireMessage
-    ensures { result ≡ shown_of (refers (referred it.now)) }
+fn reference(kind: u8, it: &Reference<'_>) -> WireMessage
+    ensures { result ≡ reference_of kind (referred it.now) }
 {
     let front = it.head.len();
     WireMessage {
@@ -122,7 +140,33 @@ fn reference(it: &Reference<'_>) -> WireMessage
         first_length: front,
         second: 11 + front,
         second_length: it.digest.len(),
-        ..empty(b'D', it.label)
+        ..empty(kind, it.label)
+    }
+}
+
+/// A frame with a signature, which lies behind 9 bytes, in front of the body.
+fn signed_frame(it: &SignedFrame<'_>) -> WireMessage
+    ensures { result ≡ shown_of (signed (signing it.now)) }
+{
+    let len = it.signature.len();
+    WireMessage {
+        item: it.item,
+        first: 13 + len,
+        first_length: it.body.len(),
+        signature: 9,
+        signature_length: len,
+        ..empty(b'S', it.label)
+    }
+}
+
+/// A frame without its body, with a signature behind the digest.
+fn signed_reference(it: &SignedReference<'_>) -> WireMessage
+    ensures { result ≡ shown_of (refers_signed (signing_reference it.now)) }
+{
+    WireMessage {
+        signature: SIGNATURE_OF_A_REFERENCE,
+        signature_length: it.signature.len(),
+        ..reference(b'B', &it.reference)
     }
 }
 
@@ -144,7 +188,7 @@ pub(crate) fn shown(message: &Message<'_>) -> WireMessage
             first_length: it.body.len(),
             ..empty(b'F', it.label)
         },
-        Message::Reference(it) => reference(&it),
+        Message::Reference(it) => reference(b'D', &it),
         Message::ReportRequest => empty(b'Q', 0),
         Message::Ack(label) => empty(b'A', label),
         Message::Lacks(label) => empty(b'N', label),
@@ -154,11 +198,21 @@ pub(crate) fn shown(message: &Message<'_>) -> WireMessage
             ..empty(b'R', 0)
         },
         Message::Goodbye => empty(b'G', 0),
+        Message::NumberedWay(it) => WireMessage {
+            table: it.number,
+            first: 13,
+            first_length: it.way.names.len(),
+            ..empty(b'V', it.way.cost)
+        },
+        Message::SignedFrame(it) => signed_frame(&it),
+        Message::SignedReference(it) => signed_reference(&it),
+        Message::Filler(label) => empty(b'E', label),
     }
 }
 
 /// Reads the message in front of the bytes, where this may come: 'H' a hello, 'W' the way of a
-/// candidate, 'F' what a parent says, 'A' what a child says. It returns 0, after writing what is
+/// candidate, 'F' what a parent says, 'A' what a child says; from version 5 on 'V' the way of a
+/// candidate, and 'S' what a parent says. It returns 0, after writing what is
 /// there; 1 where more has to come; or the number of the first fault.
 #[tactic(auto, using(crate::proofs::Places::found_there, crate::proofs::Places::within))]
 #[unsafe(no_mangle)]

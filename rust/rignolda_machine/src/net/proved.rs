@@ -14,17 +14,18 @@ const LONGEST: usize = 160;
 #[derive(Default)]
 pub(super) struct Message {
     pub(super) life: u64,
+    pub(super) table: u64,
     pub(super) item: u32,
     pub(super) body_length: u32,
     pub(super) label: u16,
     pub(super) version: u8,
     pub(super) kind: u8,
-    /// Where each of its texts begins, and how long it is.
-    pub(super) texts: [[usize; 2]; 2],
+    /// Where each of its texts begins, and how long it is; the last one is a signature.
+    pub(super) texts: [[usize; 2]; 3],
     pub(super) end: usize,
 }
 
-const _: () = assert!(core::mem::size_of::<Message>() == 64);
+const _: () = assert!(core::mem::size_of::<Message>() == 88);
 
 type Bytes = *const u8;
 
@@ -39,6 +40,8 @@ unsafe extern "C" {
         first_length: usize,
         second: Bytes,
         second_length: usize,
+        signature: Bytes,
+        signature_length: usize,
     ) -> usize;
     fn rignolda_frame_head(bytes: Bytes, length: usize, it: &mut Message) -> bool;
     fn rignolda_refusal_read(expect: u8, bytes: Bytes, length: usize) -> u8;
@@ -61,7 +64,7 @@ unsafe extern "C" {
 }
 
 /// A message that is in front of some bytes, its texts as they lie there, and the bytes after it.
-pub(super) type Found<'a> = (Message, [&'a [u8]; 2], &'a [u8]);
+pub(super) type Found<'a> = (Message, [&'a [u8]; 3], &'a [u8]);
 
 fn found(it: Message, bytes: &[u8]) -> Found<'_> {
     let texts = it.texts.map(|[at, length]| bytes.get(at..at + length).unwrap_or_default());
@@ -123,11 +126,11 @@ pub(super) fn is_name(bytes: &[u8]) -> bool {
 
 /// Writes a message with these texts, all of it but the text at the end of a way, a frame or a
 /// report. Where its end is, or 0 where it has no spelling or no room.
-pub(super) fn write(buffer: &mut [u8], it: &Message, [first, second]: [&[u8]; 2]) -> usize {
+pub(super) fn write(buffer: &mut [u8], it: &Message, texts: [&[u8]; 3]) -> usize {
     let (to, size) = (buffer.as_mut_ptr(), buffer.len());
-    let (one, other) = (first.as_ptr(), second.as_ptr());
+    let [(a, len_a), (b, len_b), (c, len_c)] = texts.map(|text| (text.as_ptr(), text.len()));
     // SAFETY: all of these are lent for the call, which writes into the buffer alone.
-    unsafe { rignolda_message_write(to, size, it, one, first.len(), other, second.len()) }
+    unsafe { rignolda_message_write(to, size, it, a, len_a, b, len_b, c, len_c) }
 }
 
 /// What a call writes into a buffer with ample room.
@@ -137,9 +140,9 @@ fn written(write: impl FnOnce(&mut [u8]) -> usize) -> Vec<u8> {
     buffer[..end].to_vec()
 }
 
-/// The same, as bytes.
-pub(super) fn bytes(it: &Message, texts: [&[u8]; 2]) -> Vec<u8> {
-    written(|buffer| write(buffer, it, texts))
+/// The same, as bytes, without a signature.
+pub(super) fn bytes(it: &Message, [first, second]: [&[u8]; 2]) -> Vec<u8> {
+    written(|buffer| write(buffer, it, [first, second, &[]]))
 }
 
 /// The word of a child.

@@ -32,6 +32,8 @@
 //! look, and its [range](Hello::versions) in place of the label: in a look, as its answer does, and
 //! where it is the parent. What follows has the version in common.
 //!
+//! Version 5 is fixed, and not spoken yet: `docs/FORMATS.md` has it.
+//!
 //! All these bytes are read and written by proved calls. What is too long for its message is
 //! written as no bytes.
 //!
@@ -202,8 +204,8 @@ impl Hello {
         [self.from.as_bytes(), self.to.as_bytes()]
     }
 
-    fn of(Shown { life, label, version, .. }: Shown, names: [&[u8]; 2]) -> Hello {
-        let [from, to] = names.map(|name| text(name).into());
+    fn of(Shown { life, label, version, .. }: Shown, [from, to, _]: [&[u8]; 3]) -> Hello {
+        let [from, to] = [from, to].map(|name| text(name).into());
         Hello { version, life, label, from, to }
     }
 }
@@ -234,7 +236,7 @@ pub fn frame(label: u16, body: &Body) -> Vec<u8> {
 pub(super) fn frame_head(label: u16, body: &Body) -> [u8; FRAME_HEAD] {
     let mut bytes = [0; FRAME_HEAD];
     let it = Shown { item: body.item, ..labelled(b'F', label) };
-    proved::write(&mut bytes, &it, [&body.bytes, &[]]);
+    proved::write(&mut bytes, &it, [&body.bytes, &[], &[]]);
     bytes
 }
 
@@ -320,7 +322,7 @@ pub(super) fn message(bytes: &[u8], expect: Expect) -> Result<Option<(Message, &
     Ok(proved::message(expect, bytes)?.map(of))
 }
 
-fn of((it, texts @ [first, second], rest): Found<'_>) -> (Message, &[u8]) {
+fn of((it, texts @ [first, second, _], rest): Found<'_>) -> (Message, &[u8]) {
     let Shown { label, item, body_length: length, .. } = it;
     let message = match it.kind {
         b'H' => Message::Hello(Hello::of(it, texts)),
