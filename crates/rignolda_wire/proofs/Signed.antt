@@ -10,7 +10,7 @@ use Rattle.rignolda_wire.proofs.Codecs.{Any, IsCodec, codec_after, codec_like, c
 use Rattle.rignolda_wire.proofs.Parts.{codec_number, wide16, wide32, wide64}
 use Rattle.rignolda_wire.proofs.Others.{codec_counted, long_body, long_signature}
 use Rattle.rignolda_wire.proofs.Hellos.{codec_hello}
-use Rattle.rignolda_wire.proofs.Choices.{Choices, IsAmong, IsKind, codec_alone, codec_among, codec_kind}
+use Rattle.rignolda_wire.proofs.Choices.{Choices, Chosen, IsAmong, IsKind, codec_alone, codec_among, codec_kind}
 use Rattle.rignolda_wire.proofs.Messages.{IsLabel, codec_candidate, codec_child, codec_parent, codec_reference, codec_way}
 
 -- ---- ways with a number
@@ -105,6 +105,14 @@ among_parents (filler label) may = inr (inr (inr (inl refl)))
 among_parents asks may = inr (inr (inr (inr (inl refl))))
 among_parents m may = absurd may
 
+asks_of_parent : (m : Said) → letter m ≡ 81 → IsMessage SignedFrames m → m ≡ asks
+asks_of_parent asks begins may = refl
+asks_of_parent (signed f) begins may = absurd (omega (arith, begins))
+asks_of_parent (refers_signed r) begins may = absurd (omega (arith, begins))
+asks_of_parent (numbered n) begins may = absurd (omega (arith, begins))
+asks_of_parent (filler label) begins may = absurd (omega (arith, begins))
+asks_of_parent m begins may = absurd may
+
 frame_of_parent : IsKind SignedFrames 83 Signed signed IsSigned
 frame_of_parent (signed f) begins may = (f, refl, may)
 frame_of_parent (refers_signed r) begins may = absurd (omega (arith, begins))
@@ -137,44 +145,23 @@ filler_of_parent (numbered n) begins may = absurd (omega (arith, begins))
 filler_of_parent asks begins may = absurd (omega (arith, begins))
 filler_of_parent m begins may = absurd may
 
-asks_of_parent : (m : Said) → letter m ≡ 81 → IsMessage SignedFrames m → m ≡ asks
-asks_of_parent asks begins may = refl
-asks_of_parent (signed f) begins may = absurd (omega (arith, begins))
-asks_of_parent (refers_signed r) begins may = absurd (omega (arith, begins))
-asks_of_parent (numbered n) begins may = absurd (omega (arith, begins))
-asks_of_parent (filler label) begins may = absurd (omega (arith, begins))
-asks_of_parent m begins may = absurd may
+is_frame : Chosen SignedFrames 16778252 83 (kind_at signed signed_at)
+is_frame first is = codec_kind {k = 16778252} SignedFrames first 83 signed is (omega arith) codec_signed (λ f good. (refl, good, refl)) frame_of_parent
+
+is_reference : Chosen SignedFrames 16778252 66 (kind_at refers_signed signed_reference_at)
+is_reference first is = codec_kind {k = 16778252} SignedFrames first 66 refers_signed is (omega arith) codec_signed_reference (λ r good. (refl, good, refl)) reference_of_parent
+
+is_way : Chosen SignedFrames 16778252 86 (kind_at numbered numbered_at)
+is_way first is = codec_kind {k = 16778252} SignedFrames first 86 numbered is (omega arith) codec_numbered (λ n good. (refl, good, refl)) way_of_parent
+
+is_filler : Chosen SignedFrames 16778252 69 (kind_at filler (number_at w16))
+is_filler first is = codec_kind {k = 16778252} SignedFrames first 69 filler is (omega arith) (codec_number w16 (2 ^ 16) wide16) (λ label low. (refl, low, refl)) filler_of_parent
 
 codec_parent_5 : IsCodec Said Any (IsMessage SignedFrames) spelling 16778253 signing_parent_at
 unfolding signing_parent_at
 codec_parent_5 =
-    let k : ℕ = 16778252 in
-    codec_among SignedFrames k of_parents (
-      omega arith,
-      (
-        (λ first is. codec_kind {k = k} SignedFrames first 83 signed is (omega arith) codec_signed (λ f good. (refl, good, refl)) frame_of_parent),
-        (
-          omega arith,
-          (
-            (λ first is. codec_kind {k = k} SignedFrames first 66 refers_signed is (omega arith) codec_signed_reference (λ r good. (refl, good, refl)) reference_of_parent),
-            (
-              omega arith,
-              (
-                (λ first is. codec_kind {k = k} SignedFrames first 86 numbered is (omega arith) codec_numbered (λ n good. (refl, good, refl)) way_of_parent),
-                (
-                  omega arith,
-                  (
-                    (λ first is. codec_kind {k = k} SignedFrames first 69 filler is (omega arith) (codec_number w16 (2 ^ 16) wide16) (λ label low. (refl, low, refl)) filler_of_parent),
-                    (omega arith, (codec_alone SignedFrames k 81 asks refl refl tt asks_of_parent, tt)),
-                  ),
-                ),
-              ),
-            ),
-          ),
-        ),
-      ),
-    )
-    among_parents
+    let is_request : Chosen SignedFrames 16778252 81 (give asks) = codec_alone SignedFrames 16778252 81 asks refl refl tt asks_of_parent in
+    codec_among SignedFrames 16778252 of_parents (omega arith, (is_frame, (omega arith, (is_reference, (omega arith, (is_way, (omega arith, (is_filler, (omega arith, (is_request, tt)))))))))) among_parents
 
 -- ---- any message
 

@@ -168,6 +168,11 @@ numbered_at = do
   route ← way_at
   give (record { number = number; route = route })
 
+unfoldable pub numbering_candidate_at : Reader Said
+numbering_candidate_at = do
+  letter ← byte_at
+  choose (letter == 86) (kind_at numbered numbered_at) (refuse NoMessage)
+
 unfoldable pub signed_at : Reader Signed
 signed_at = do
   label ← number_at w16
@@ -181,11 +186,6 @@ signed_reference_at = do
   reference ← reference_at
   signature ← counted_at w16 signature_limit LongSignature
   give (record { reference = reference; signature = signature })
-
-unfoldable pub numbering_candidate_at : Reader Said
-numbering_candidate_at = do
-  letter ← byte_at
-  choose (letter == 86) (kind_at numbered numbered_at) (refuse NoMessage)
 
 unfoldable pub signing_parent_at : Reader Said
 signing_parent_at = do

@@ -237,6 +237,17 @@ fn numbered_way_at(bytes: &[u8]) -> Result<(NumberedWay<'_>, &[u8]), Fault>
     Ok((NumberedWay { number, way }, rest))
 }
 
+#[tactic(auto, unfolding(crate::specs::Reading::numbering_candidate_at))]
+fn numbering_candidate_at(bytes: &[u8]) -> Result<(Message<'_>, &[u8]), Fault>
+    ensures { Reads (λ x. (said_of x.0, x.1.now)) result (reads.numbering_candidate_at bytes.now) }
+{
+    let (byte, rest) = byte_at(bytes)?;
+    match byte {
+        b'V' => numbered_way_at(rest).map(|(way, rest)| (Message::NumberedWay(way), rest)),
+        _ => Err(Fault::NoMessage),
+    }
+}
+
 #[tactic(auto, unfolding(crate::specs::Reading::signed_at))]
 fn signed_frame_at(bytes: &[u8]) -> Result<(SignedFrame<'_>, &[u8]), Fault>
     ensures { Reads (λ x. (signing x.0, x.1.now)) result (reads.signed_at bytes.now) }
@@ -266,17 +277,6 @@ fn signed_reference_at(bytes: &[u8]) -> Result<(SignedReference<'_>, &[u8]), Fau
         signature,
     };
     Ok((reference, rest))
-}
-
-#[tactic(auto, unfolding(crate::specs::Reading::numbering_candidate_at))]
-fn numbering_candidate_at(bytes: &[u8]) -> Result<(Message<'_>, &[u8]), Fault>
-    ensures { Reads (λ x. (said_of x.0, x.1.now)) result (reads.numbering_candidate_at bytes.now) }
-{
-    let (byte, rest) = byte_at(bytes)?;
-    match byte {
-        b'V' => numbered_way_at(rest).map(|(way, rest)| (Message::NumberedWay(way), rest)),
-        _ => Err(Fault::NoMessage),
-    }
 }
 
 #[tactic(auto, unfolding(crate::specs::Reading::signing_parent_at))]
