@@ -1,8 +1,8 @@
 //! One line for each fact, on the standard error, where systemd's journal takes it.
 //!
 //! Nobody waits for whoever reads them. A socket, such as that of systemd, is given a line at once,
-//! if it has room. Else a thread writes what waits here, and what does not fit is counted: a line is
-//! written at once, unless others were just before: then those that follow are written together.
+//! if it has room. Else a thread writes what waits here, and what does not fit is counted. A line
+//! is written at once, unless others were just before: then those that follow are written together.
 use nix::sys::socket::{send, MsgFlags};
 use std::collections::VecDeque;
 use std::io::Write;
