@@ -326,8 +326,8 @@ impl List<'_> {
         }
         link.times = link.times.saturating_add(1);
         link.sent = link.sent.or(Some(now));
-        let body = link.held.clone()?;
-        debug_assert_eq!(body.item, frame.item);
+        // (the item is that of the proved list, and the body was beside it: else nothing is sent)
+        let body = link.held.clone().filter(|body| body.item == frame.item)?;
         Some(Polled {
             label: frame.label,
             body,

@@ -76,3 +76,31 @@ impl Relay {
         ])
     }
 }
+
+#[cfg(test)]
+mod tests {
+    use super::*;
+    use crate::net::Body;
+    use crate::prelude::*;
+
+    /// Else it would go out with its own item, which fits, and nobody below could tell.
+    #[test]
+    fn a_body_that_lies_beside_another_item_is_not_sent() {
+        let now = Time::default();
+        let mut relay = Relay::root(8);
+        relay.add("child", now);
+        for table in ["one", "two"] {
+            relay.publish(&Arc::new(Body::of(table.into())));
+            relay.last_is_a_table();
+            relay.publish(&Arc::new(Body::of(b"more".to_vec())));
+            if table == "one" {
+                relay.bodies.swap(0, 1);
+            }
+            let label = relay.greeted("child", 1, 0, None, now).map(|_| relay.poll("child", now));
+            let sent = label.flatten().map(|(_, body)| body.bytes.clone());
+            assert_eq!(sent.as_deref(), (table == "two").then_some(&b"two"[..]));
+            // (as whoever takes nothing, it begins anew at the next table)
+            relay.begin_anew("child", now);
+        }
+    }
+}
