@@ -22,7 +22,6 @@ pub mod operators;
 pub mod page;
 pub mod place;
 pub mod reach;
-pub mod renews;
 pub mod shell;
 pub mod sockets;
 pub mod system;

@@ -9,6 +9,7 @@
 use crate::{fact, system};
 use rignolda_machine::net::parents::NONE;
 use rignolda_machine::net::{Address, Parent, Way};
+use rignolda_machine::outside::{is_lost, pause, worse, Alone, Judge, Misses, Round};
 use rignolda_machine::Time;
 use rignolda_tls::{ask, By, Looked, Looker, Maker, Own, Tls};
 use rignoldactl::{Request, Response};
@@ -18,15 +19,6 @@ use std::sync::{mpsc, Arc, Mutex, MutexGuard, PoisonError};
 use std::thread;
 use std::time::Duration;
 
-mod judge;
-
-use judge::{worse, Judge, Round};
-
-/// How often it looks; if it listens nowhere, since then less can be wrong, and has a parent; and
-/// how soon again after it failed.
-const EVERY: Duration = Duration::from_secs(10);
-const EVERY_OF_LEAF: Duration = Duration::from_secs(30);
-const AGAIN: Duration = Duration::from_secs(5);
 /// How long a look takes at most, also on a machine that has much else to do.
 const WITHIN: Duration = Duration::from_secs(10);
 /// At which of its looks it comes by TLS, and with its certificate, too, since each of that costs
@@ -35,14 +27,6 @@ const BY_TLS: u64 = 6;
 const NAMED: u64 = 30;
 /// For how long it waits to be told that there was no room: the loop counts that as it comes to it.
 const TOLD: Duration = Duration::from_secs(3);
-/// After how long without a look the thread itself counts as lost.
-const LOST: Duration = Duration::from_secs(180);
-/// For how long an agent has no parent before it looks for one by new connections; and how often
-/// it then does.
-const ALONE: Duration = Duration::from_secs(180);
-const ALONE_EVERY: Duration = Duration::from_secs(60);
-/// How often in turn it finds one that answers before it ends.
-const FINDS: u32 = 2;
 const STACK_BYTES: usize = 512 << 10;
 
 /// What is looked at, and what is known of it.
@@ -69,11 +53,9 @@ struct Shared {
 /// Looks at the agent from outside.
 pub struct Reach {
     shared: Arc<Shared>,
-    /// Since when it has no parent, and how often parents had answered then.
-    alone: Option<(Time, u64)>,
-    /// When it looked for one last, what that found, and how often in turn.
-    sought: Option<(Time, mpsc::Receiver<bool>)>,
-    finds: u32,
+    alone: Alone,
+    /// What the last look for a parent finds.
+    found: Option<mpsc::Receiver<bool>>,
 }
 
 impl Reach {
@@ -98,7 +80,7 @@ impl Reach {
             looked: AtomicU64::new(0),
             is_unwelcome: AtomicBool::new(false),
         });
-        let reach = Reach { shared, alone: None, sought: None, finds: 0 };
+        let reach = Reach { shared, alone: Alone::default(), found: None };
         reach.reload(tls, maker);
         let shared = reach.shared.clone();
         let work = move || shared.work();
@@ -128,8 +110,7 @@ impl Reach {
     /// Whether it can be reached, as far as is known.
     pub fn is_sound(&self, now: Time) -> bool {
         let looked = Duration::from_millis(self.shared.looked.load(Ordering::Relaxed));
-        let is_lost = now.since(self.shared.begun) > looked + LOST;
-        self.shared.is_sound.load(Ordering::Relaxed) && !is_lost
+        self.shared.is_sound.load(Ordering::Relaxed) && !is_lost(self.shared.begun + looked, now)
     }
 
     /// Whether an end did not answer since this was asked last, though it was reached.
@@ -148,24 +129,16 @@ impl Reach {
         now: Time,
     ) -> bool {
         self.shared.is_alone.store(!has_parent, Ordering::Relaxed);
-        if has_parent || self.alone.is_none_or(|(since, before)| before != answers || since > now) {
-            (self.alone, self.finds) = ((!has_parent).then_some((now, answers)), 0);
-            return false;
+        let found = self.found.as_ref().and_then(|found| found.try_recv().ok());
+        let misses = self.alone.misses((has_parent, answers), found, now);
+        if misses == Misses::Looks {
+            self.seek(tls, parents);
         }
-        let found = self.sought.as_ref().and_then(|(_, found)| found.try_recv().ok());
-        if let Some(found) = found {
-            self.finds = if found { self.finds + 1 } else { 0 };
-        }
-        let is_long = self.alone.is_some_and(|(since, _)| now >= since + ALONE);
-        let is_due = self.sought.as_ref().is_none_or(|(at, _)| now >= *at + ALONE_EVERY);
-        if is_long && is_due {
-            self.seek(tls, parents, now);
-        }
-        self.finds >= FINDS
+        misses == Misses::Ends
     }
 
     /// Looks at the parents, in a thread that nobody waits for.
-    fn seek(&mut self, tls: Option<&Tls>, parents: &[Parent<Address>], now: Time) {
+    fn seek(&mut self, tls: Option<&Tls>, parents: &[Parent<Address>]) {
         let (to, found) = mpsc::channel();
         let (name, tls, parents) = (self.shared.name.clone(), tls.cloned(), parents.to_vec());
         let seek = move || {
@@ -177,7 +150,7 @@ impl Reach {
         };
         // (without a thread nothing is found)
         let _ = thread::Builder::new().name("parents".into()).stack_size(STACK_BYTES).spawn(seek);
-        self.sought = Some((now, found));
+        self.found = Some(found);
     }
 }
 
@@ -220,13 +193,8 @@ impl Shared {
             if matches!(round, Round::Reached(false) | Round::Failed(_)) {
                 self.is_unwelcome.store(true, Ordering::Relaxed);
             }
-            thread::sleep(match is_sound {
-                true if self.listens.is_empty() && !self.is_alone.load(Ordering::Relaxed) => {
-                    EVERY_OF_LEAF
-                }
-                true => EVERY,
-                false => AGAIN,
-            });
+            let is_leaf = self.listens.is_empty() && !self.is_alone.load(Ordering::Relaxed);
+            thread::sleep(pause(is_sound, is_leaf));
         }
     }
 
@@ -320,6 +288,7 @@ impl Shared {
 mod tests {
     use super::*;
     use rignolda_machine::net::wire::{self, Expect, Hello, Message};
+    use rignolda_machine::outside::{ALONE, ALONE_EVERY};
     use std::io::{Read, Write};
     use std::net::TcpListener;
     use std::sync::atomic::AtomicU32;
@@ -360,16 +329,13 @@ mod tests {
             [Parent { name: Some(name.into()), address: Some(at.0.clone()), price: None }];
         (0..600).step_by(2).find(|seconds| {
             let now = begun + Duration::from_secs(*seconds);
-            let was_sought = reach.sought.as_ref().map(|it| it.0);
             let told = (false, answers(*seconds));
             let misses = reach.misses(told, None, &parents, now);
             // (here a look is over before the next second)
-            if let Some((at, found)) = &mut reach.sought {
-                if was_sought != Some(*at) {
-                    let (to, again) = mpsc::channel();
-                    let _ = to.send(found.recv().unwrap_or(false));
-                    *found = again;
-                }
+            if let Some(it) = reach.found.as_ref().and_then(|found| found.recv().ok()) {
+                let (to, again) = mpsc::channel();
+                let _ = to.send(it);
+                reach.found = Some(again);
             }
             misses
         })

@@ -9,15 +9,15 @@ use crate::journal;
 use crate::label::Labels;
 use crate::lines::{self, Fired, Lines};
 use crate::reach::Reach;
-use crate::renews::{self, Renews};
 use crate::sockets::Sockets;
 use crate::system::{self, notify, Signals};
 use crate::threads::Threads;
 use rignolda_machine::came::Trace;
 use rignolda_machine::machine::{Act, Input, Machine, Now};
+use rignolda_machine::renews::Renews;
 use rignolda_machine::{Fact, Time};
 use rignolda_tls::Own;
-use rignoldactl::{at, ErrorAt};
+use rignoldactl::{at, sha256, ErrorAt};
 use std::io::{self, Read};
 use std::os::unix::io::AsRawFd;
 use std::path::{Path, PathBuf};
@@ -120,7 +120,7 @@ impl Shell {
             threads,
             answers: Answers::default(),
             reach: reach.map_err(at("its thread cannot be started"))?,
-            renews: Renews::new(drawn, renews::seconds("RIGNOLDA_RENEWS"), now.at),
+            renews: Renews::new(drawn, system::seconds("RIGNOLDA_RENEWS"), sha256, now.at),
             reload_failed: String::new(),
             labels: Labels::new(
                 [system::random(), system::random()].map(Result::unwrap_or_default),

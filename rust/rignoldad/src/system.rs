@@ -1,6 +1,5 @@
 //! What an agent asks of the system that it runs on, besides sockets and files.
 use crate::journal;
-use crate::renews;
 use nix::time::{clock_gettime, ClockId};
 use rignolda_machine::machine::{Host, Now};
 use rignolda_machine::Time;
@@ -83,10 +82,15 @@ pub fn unix_now() -> i64 {
     i64::try_from(now().unix.as_secs()).unwrap_or(i64::MAX)
 }
 
+/// So many seconds of the environment, for trials.
+pub fn seconds(name: &str) -> Option<Duration> {
+    std::env::var(name).ok()?.parse().ok().map(Duration::from_secs)
+}
+
 /// What a machine gives an agent.
 pub fn host() -> io::Result<Host> {
     // (the others are for children that came, files and control)
-    let restarts = renews::seconds("RIGNOLDA_RESTARTS");
+    let restarts = seconds("RIGNOLDA_RESTARTS");
     Ok(Host { drawn: random()?, waiting: descriptors() / 4, restarts, sha256 })
 }
 

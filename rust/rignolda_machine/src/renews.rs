@@ -1,24 +1,21 @@
 //! When an agent makes anew what it made once, and uses only if somebody connects: a fault of the
 //! memory that no look sees ends with that.
-use rignolda_machine::restarts::part_of;
-use rignolda_machine::Time;
-use rignoldactl::{sha256, short};
-use std::time::Duration;
+use crate::restarts::part_of;
+use crate::sha::short;
+use crate::{Sha256, Time};
+use core::time::Duration;
 
 /// What is made once and used if somebody connects is made anew so often at least, and at a moment
 /// that is drawn.
 const HOUR: Duration = Duration::from_secs(3_600);
 /// For how long all new connections fail before that, and how often it is at most.
 const MINUTE: Duration = Duration::from_secs(60);
-/// So many seconds of the environment, for trials.
-pub fn seconds(name: &str) -> Option<Duration> {
-    std::env::var(name).ok()?.parse().ok().map(Duration::from_secs)
-}
 
 /// When listeners, control sockets and contexts of TLS are made anew.
 #[derive(Debug)]
 pub struct Renews {
     often: Duration,
+    sha: Sha256,
     drawn: u64,
     next: Time,
     last: Option<Time>,
@@ -26,15 +23,15 @@ pub struct Renews {
 
 impl Renews {
     /// At moments that are drawn by this number.
-    pub fn new(drawn: u64, often: Option<Duration>, now: Time) -> Renews {
+    pub fn new(drawn: u64, often: Option<Duration>, sha: Sha256, now: Time) -> Renews {
         let often = often.unwrap_or(HOUR);
-        let mut renews = Renews { often, drawn, next: now, last: None };
+        let mut renews = Renews { often, sha, drawn, next: now, last: None };
         renews.next = now + renews.pause();
         renews
     }
 
     fn pause(&mut self) -> Duration {
-        self.drawn = short(&sha256(&[&self.drawn.to_be_bytes()]));
+        self.drawn = short(&(self.sha)(&[&self.drawn.to_be_bytes()]));
         self.often / 2 + part_of(self.often / 2, self.drawn)
     }
 
@@ -56,11 +53,14 @@ impl Renews {
 #[cfg(test)]
 mod tests {
     use super::*;
+    use crate::prelude::*;
+    use crate::sha::sha256;
 
     #[test]
     fn what_is_made_once_is_made_anew_within_an_hour_and_at_another_moment_each_time() {
-        let begun = crate::system::time();
-        let (mut renews, mut now, mut pauses) = (Renews::new(7, None, begun), begun, Vec::new());
+        let begun = Time::after(HOUR);
+        let mut renews = Renews::new(7, None, sha256, begun);
+        let (mut now, mut pauses) = (begun, Vec::new());
         for _ in 0..50 {
             let before = now;
             while !renews.are_due(None, false, now) {
@@ -81,8 +81,8 @@ mod tests {
 
     #[test]
     fn what_is_made_once_is_made_anew_if_all_connections_fail_but_once_a_minute_at_most() {
-        let begun = crate::system::time();
-        let mut renews = Renews::new(7, None, begun);
+        let begun = Time::after(HOUR);
+        let mut renews = Renews::new(7, None, sha256, begun);
         let at = |seconds| begun + Duration::from_secs(seconds);
         let rows = [
             (0, Some(0), false, false),
