@@ -30,6 +30,11 @@
  *     those of strays and of all that came before the round, are behind the table's (less than half
  *     of all numbers; at exactly half neither is behind), if every item reads as a body, and if the
  *     round is after the items that can be missing.
+ *   - what_is_left_out_is_made_up_for: by the next whole table that is taken.
+ *   - what_fits_is_a_table, counts_follow_the_settings (of the module room_laws): settings fit
+ *     exactly if they are one whole table, and counts stay those of the settings.
+ *   - files_never_go_back (of the module marker_laws): whatever the processes remember that keep
+ *     files, and between whichever acts they are ended, if each marks the folder first.
  * Those of what a root publishes, of the module root_laws:
  *   - numbers_rise_by_one: from every bit pattern of a publisher, while no agent says a newer
  *     number; a_round_ends: unless tables are held, or a shorter round is asked for;
@@ -141,6 +146,30 @@ void rignolda_taker_init(rignolda_taker *taker, uint64_t floor);
  */
 void rignolda_taker_hears(rignolda_taker *taker, uint8_t kind, uint64_t number,
                           rignolda_taker_heard *heard);
+
+/* What it was told was left out, for want of room: the next whole table makes up for it. */
+void rignolda_taker_misses(rignolda_taker *taker);
+
+/* What a whole table takes. Nothing of it has to be right. */
+typedef struct rignolda_room {
+    uint64_t settings; /* how many settings there are */
+    uint64_t bytes;    /* how many bytes the entries of all of them have */
+} rignolda_room;
+
+/*
+ * A setting is set or unset: its entry had so many bytes, and has so many now. One that is not
+ * there has none.
+ */
+void rignolda_room_change(rignolda_room *room, uint64_t had, uint64_t has);
+
+/* Whether all these settings are one whole table: at most 65,536, in at most 16 MiB. */
+bool rignolda_room_fits(const rignolda_room *room);
+
+/*
+ * Whether a folder whose marker has this number, or 0 where it has none, may be marked with that
+ * one, before files are put in it. Else its files are from a later body, and none is to be put.
+ */
+bool rignolda_may_mark(uint64_t marker, uint64_t number);
 
 /*
  * What a root remembers of what it published, to be made by rignolda_publisher_init. Its settings,

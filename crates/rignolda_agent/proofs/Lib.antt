@@ -6,6 +6,8 @@ mod Waiting
 mod Above
 mod AheadOfHeard
 mod Quarters
+mod Markers
+mod Rooms
 mod Runs
 pub mod ForCallers
 mod Steps

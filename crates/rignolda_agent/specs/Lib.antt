@@ -14,5 +14,7 @@ pub mod Publishers
 pub mod Runs
 pub mod Merging
 pub mod Waiting
+pub mod Rooms
+pub mod Markers
 pub mod Parents
 pub mod Ways

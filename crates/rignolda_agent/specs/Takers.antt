@@ -68,6 +68,10 @@ after_if false t kind number = t
 abbrev pub after : Taker → Kind → ℕ → Taker
 after t kind number = after_if (takes t number) t kind number
 
+-- after something of what was told was left out: the next table makes up for it
+abbrev pub missing : Taker → Taker
+missing t = record t { whole = false }
+
 -- after the process was started again: its files are there, with their number
 abbrev pub restarted : Taker → Taker
 restarted t = record { number = 0; floor = t.floor; whole = false; in_a_round = false }

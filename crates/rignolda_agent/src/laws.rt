@@ -6,6 +6,7 @@ ghost use Rattle.std.specs.Prelude.{length, map, take, true, false};
 ghost use Rattle.std.specs.List.{AllByRecursion};
 ghost use Rattle.stab_settings.specs.Refreshes.{reached};
 ghost use Rattle.stab_treecore.specs.TreeLaw.{CompleteLaw, HalfTreeLawAt, TreeLaw};
+ghost use Rattle.rignolda_agent.specs.declared.body.Kind.{Kind};
 ghost use Rattle.rignolda_agent.specs.declared.body.Kind.TheVariants.{Table};
 ghost use Rattle.rignolda_agent.specs.BodySpelling.{Body};
 ghost use Rattle.rignolda_agent.specs.Agents.{Agent, LacksNothing, Settings, WaitsWell, applied};
@@ -17,7 +18,7 @@ ghost use Rattle.rignolda_agent.specs.Publishers.{Publisher, gone_above};
 ghost use Rattle.rignolda_agent.specs.Rounds.{AllNear, IsNear, IsReady, IsRound, IsRun, IsWithin};
 ghost use Rattle.rignolda_agent.specs.Rounds.{NeverFall};
 ghost use Rattle.rignolda_agent.specs.Rounds.{is_behind, last_number};
-ghost use Rattle.rignolda_agent.specs.Takers.{takes};
+ghost use Rattle.rignolda_agent.specs.Takers.{Taker, after, fills, is_table, looks, takes};
 
 /// Nothing older is applied after what is newer: whatever an agent remembers, whatever bodies come
 /// and however often its process starts again, the numbers that its files come to never fall, if
@@ -92,6 +93,16 @@ pub fn two_rounds_bring_the_settings_of_the_last_item()
         → AllByRecursion (SaysBehind reading table.number) garbage
         → AllByRecursion (λ b. is_behind table.number b.number ≡ true) first
         → (hears_items reading agent received).files ≡ tell_all at_root bodies) }
+{}
+
+/// What is left out is made up for: nothing counts as whole until the next whole table that is
+/// taken, and with that one all files are looked at.
+pub fn what_is_left_out_is_made_up_for()
+    ensures stays { (t : Taker) (kind : Kind) (number : ℕ)
+        → t.whole ≡ false → is_table kind ≡ false → (after t kind number).whole ≡ false }
+    ensures ends { (t : Taker) (number : ℕ) → t.whole ≡ false → takes t number ≡ true
+        → (fills t number ≡ true) × (looks t number ≡ true)
+        × ((after t Table number).whole ≡ true) }
 {}
 
 /// The root goes on above what it heard: the number after the furthest of those that agents have is

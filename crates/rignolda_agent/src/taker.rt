@@ -1,7 +1,8 @@
 ghost use Rattle.std.specs.Prelude.{◌≡◌, ◌&&◌, not, true, false};
 ghost use Rattle.rignolda_agent.specs.declared.body.Kind.{Kind};
 ghost use Rattle.rignolda_agent.specs.Takers.{Taker as TakerState, after, after_if, drops, fills};
-ghost use Rattle.rignolda_agent.specs.Takers.{follows, is_held, is_table, looks, restarted, takes};
+ghost use Rattle.rignolda_agent.specs.Takers.{follows, is_held, is_table, looks, missing};
+ghost use Rattle.rignolda_agent.specs.Takers.{restarted, takes};
 ghost use Rattle.rignolda_agent.specs.Structs.{taker_of};
 
 use crate::body::Kind;
@@ -75,6 +76,13 @@ impl Taker {
             whole: 0,
             in_a_round: 0,
         }
+    }
+
+    /// What it was told was left out, for want of room: something is missing.
+    pub fn misses(&mut self)
+        ensures { taker_of self.new ≡ missing (taker_of self.old) }
+    {
+        self.whole = 0;
     }
 
     fn is_held(&self, number: u64) -> bool

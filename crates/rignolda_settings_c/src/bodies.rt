@@ -78,8 +78,8 @@ fn fault_code(fault: Fault) -> u8
     }
 }
 
-/// Reads the bytes beside an item, all of them, and returns 0 if they are a body that fits it, after
-/// writing the head; else it returns the number of the first fault.
+/// Reads the bytes beside an item, all of them, and returns 0 if they are a body that fits it,
+/// after writing the head; else it returns the number of the first fault.
 #[unsafe(no_mangle)]
 pub extern "C" fn rignolda_body_check(item: u32, bytes: &[u8], found: &mut BodyHead) -> u8
     ensures code { result ≡ check_code (heard item bytes.now) }

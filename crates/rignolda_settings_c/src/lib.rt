@@ -2,8 +2,8 @@
 //! them an agent takes, what waits there to be applied, and what a root publishes; and the messages
 //! in which bodies travel, as bytes. `include/rignolda_settings.h` declares what is exported here.
 //!
-//! No call reads, writes, waits, takes memory or looks at a clock, and none has a `requires`. What a
-//! call refuses it leaves as it was, and it then returns 0, but for the check of a body and the
+//! No call reads, writes, waits, takes memory or looks at a clock, and none has a `requires`. What
+//! a call refuses it leaves as it was, and it then returns 0, but for the check of a body and the
 //! reader of messages, which return 0 where there is one, and the reader of a refusal.
 #![tactic(auto)]
 
@@ -12,6 +12,7 @@ mod buffers;
 mod message_buffers;
 mod messages;
 mod publisher;
+mod room;
 mod taker;
 mod waits;
 mod words;
@@ -30,9 +31,10 @@ pub use publisher::{
     rignolda_publisher_init, rignolda_publisher_is_in_a_round, rignolda_publisher_next,
     rignolda_publisher_publish, rignolda_publisher_waits,
 };
+pub use room::{rignolda_room_change, rignolda_room_fits};
 pub use taker::{
-    TakerHeard, rignolda_number_further, rignolda_number_is_newer, rignolda_number_next,
-    rignolda_taker_hears, rignolda_taker_init,
+    TakerHeard, rignolda_may_mark, rignolda_number_further, rignolda_number_is_newer,
+    rignolda_number_next, rignolda_taker_hears, rignolda_taker_init, rignolda_taker_misses,
 };
 pub use waits::{rignolda_waits_on_change, rignolda_waits_on_left_out};
 pub use words::{

@@ -212,8 +212,8 @@ pub(crate) fn shown(message: &Message<'_>) -> WireMessage
 
 /// Reads the message in front of the bytes, where this may come: 'H' a hello, 'W' the way of a
 /// candidate, 'F' what a parent says, 'A' what a child says; from version 5 on 'V' the way of a
-/// candidate, and 'S' what a parent says. It returns 0, after writing what is
-/// there; 1 where more has to come; or the number of the first fault.
+/// candidate, and 'S' what a parent says. It returns 0, after writing what is there; 1 where more
+/// has to come; or the number of the first fault.
 #[tactic(auto, using(crate::proofs::Places::found_there, crate::proofs::Places::within))]
 #[unsafe(no_mangle)]
 pub extern "C" fn rignolda_message_read(expect: u8, bytes: &[u8], found: &mut WireMessage) -> u8

@@ -2,12 +2,13 @@ ghost use Rattle.std.specs.Prelude.{◌≡◌, None};
 ghost use Rattle.rignolda_agent.specs.Numbers.{further as further_of, is_newer as newer};
 ghost use Rattle.rignolda_agent.specs.Numbers.{next as after_number};
 ghost use Rattle.rignolda_agent.specs.Structs.{taker_of};
-ghost use Rattle.rignolda_agent.specs.Takers.{Taker as TakerState, restarted};
+ghost use Rattle.rignolda_agent.specs.Markers.{may_mark as may};
+ghost use Rattle.rignolda_agent.specs.Takers.{Taker as TakerState, missing, restarted};
 ghost use Rattle.rignolda_settings_c.specs.Calls.{kind_named};
 ghost use Rattle.rignolda_settings_c.specs.Heard.{after_read, told};
 
 use crate::bodies::kind_named;
-use rignolda_agent::{Taker, further, is_newer, next};
+use rignolda_agent::{Taker, further, is_newer, may_mark, next};
 
 /// What is to be done about a body that came: 1 for yes and 0 for no, in each.
 #[repr(C)]
@@ -65,6 +66,23 @@ pub extern "C" fn rignolda_taker_hears(
             looks: u8::from(it.looks),
         };
     }
+}
+
+/// What it was told was left out, for want of room: a whole table makes up for it.
+#[unsafe(no_mangle)]
+pub extern "C" fn rignolda_taker_misses(taker: &mut Taker)
+    ensures { taker_of taker.new ≡ missing (taker_of taker.old) }
+{
+    taker.misses();
+}
+
+/// Whether a folder whose marker has this number, or 0 if it has none, may be marked with that one,
+/// before files are put in it. Else its files are from a later body.
+#[unsafe(no_mangle)]
+pub extern "C" fn rignolda_may_mark(marker: u64, number: u64) -> bool
+    ensures { result ≡ may marker number }
+{
+    may_mark(marker, number)
 }
 
 /// Whether the second number is newer than the first.

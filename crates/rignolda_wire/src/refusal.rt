@@ -101,8 +101,8 @@ pub fn refused(expect: Expect, bytes: &[u8]) -> Option<Refusal>
 }
 
 /// Writes what an end is told that expects this and is refused, into the buffer from its front on,
-/// and gives its end; or gives nothing, if there is no room. In the place of a hello or of a parent's
-/// messages it is told why; else it is told nothing.
+/// and gives its end; or gives nothing, if there is no room. In the place of a hello or of a
+/// parent's messages it is told why; else it is told nothing.
 pub fn write_refusal(buffer: &mut [u8], expect: Expect, why: Refusal) -> Option<usize>
     ensures end { result
         ≡ end_of (nat_le (length (told expect why)) (length buffer.old)) (told expect why) }

@@ -271,8 +271,9 @@ fn len_of_head(message: &Message<'_>) -> usize
 }
 
 /// Writes the head of a message into the buffer, and gives its end: all but the body of a frame,
-/// the names of a way and the text of a report, signed and numbered ones too, which follow it. It gives nothing and leaves the
-/// buffer as it was, if there is no room, or a length of the message is not within its limit.
+/// the names of a way and the text of a report, signed and numbered ones too, which follow it. It
+/// gives nothing and leaves the buffer as it was, if there is no room, or a length of the message is
+/// not within its limit.
 pub fn write_head(buffer: &mut [u8], message: &Message<'_>) -> Option<usize>
     ensures end { result ≡ end_of (is_written buffer.old (said_of message.now))
         (head_bytes (said_of message.now)) }

@@ -25,7 +25,7 @@
 //! ```
 #![warn(missing_docs)]
 use crate::net::wire::HEAD_BYTES;
-use crate::net::{Body, BODY_BYTES};
+use crate::net::Body;
 use crate::prelude::*;
 use alloc::collections::BTreeMap;
 use alloc::sync::Arc;
@@ -239,8 +239,8 @@ pub struct Table {
     pub strays: u64,
     /// How often a number was left out before a body that is no whole table.
     pub gaps: u64,
-    /// How many bytes all settings take.
-    bytes: usize,
+    /// What all settings take.
+    room: proved::Room,
 }
 
 impl Table {
@@ -269,7 +269,7 @@ impl Table {
                 self.full = false;
                 let keys = entries.iter().map(|it| (it.0.to_owned(), entry_bytes(it)));
                 self.keys = keys.collect();
-                self.bytes = self.keys.values().sum();
+                self.room = self.keys.values().copied().collect();
             }
             Meaning::Changes(entries) => entries.iter().for_each(|it| {
                 self.changed = sequence;
@@ -277,8 +277,7 @@ impl Table {
                     Some(_) => self.keys.insert(it.0.to_owned(), entry_bytes(it)),
                     None => self.keys.remove(it.0),
                 };
-                self.bytes += it.1.map_or(0, |_| entry_bytes(it));
-                self.bytes = self.bytes.saturating_sub(old.unwrap_or(0));
+                self.room.change(old.unwrap_or(0), it.1.map_or(0, |_| entry_bytes(it)));
             }),
             Meaning::Harmless => (),
         }
@@ -287,23 +286,20 @@ impl Table {
 
     /// What a body says is left out, for want of room: a whole table is waited for.
     pub fn misses(&mut self) {
-        self.taker.lacks();
+        self.taker.misses();
         self.full = true;
     }
 
     /// Whether there is room for these changes.
     fn has_room(&self, entries: &[Entry<'_>]) -> bool {
-        let (mut count, mut bytes) = (self.keys.len(), self.bytes + HEAD);
+        let mut room = self.room;
         for it in entries {
-            let old = self.keys.get(it.0);
-            count =
-                (count + usize::from(it.1.is_some())).saturating_sub(usize::from(old.is_some()));
-            bytes += it.1.map_or(0, |_| entry_bytes(it));
-            bytes = bytes.saturating_sub(old.copied().unwrap_or(0));
+            let old = self.keys.get(it.0).copied();
+            room.change(old.unwrap_or(0), it.1.map_or(0, |_| entry_bytes(it)));
         }
-        count <= SETTINGS && bytes <= BODY_BYTES
+        room.fits()
     }
 }
 
 rignolda::spoils! { Heard { takes, drops, applies, fills, looks } }
-rignolda::spoils! { Table { taker, heard, round, keys, changed, full, strays, gaps, bytes } }
+rignolda::spoils! { Table { taker, heard, round, keys, changed, full, strays, gaps, room } }

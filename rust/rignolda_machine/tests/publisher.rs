@@ -12,10 +12,10 @@ fn there_is_room_for_what_a_whole_table_has_room_for() {
         state = state.wrapping_mul(6_364_136_223_846_793_005).wrapping_add(1);
         (state >> 33) % bound
     };
-    let none = Publisher::bytes_of(&BTreeMap::new());
     let all_bytes = |lengths: &BTreeMap<String, usize>| {
         let entries = lengths.iter();
-        none + entries.map(|(key, length)| key.len() + length + 6).sum::<usize>()
+        // (a kind, a number and a count come first)
+        13 + entries.map(|(key, length)| key.len() + length + 6).sum::<usize>()
     };
     let mut lengths: BTreeMap<String, usize> = BTreeMap::new();
     for step in 0..600 {
@@ -39,7 +39,9 @@ fn there_is_room_for_what_a_whole_table_has_room_for() {
         }
         lengths = then;
     }
-    assert_eq!(Publisher::bytes_of(publisher.settings()), all_bytes(&lengths));
+    let table = publisher.next(100).expect("a table comes first");
+    assert!(table.is_table);
+    assert_eq!(table.body.bytes.len(), all_bytes(&lengths));
 }
 
 /// Many files that change at once are each asked about: that must not look at all the others.
@@ -57,7 +59,8 @@ fn whether_there_is_room_is_known_at_once() {
         };
         (0..5).map(|_| once()).min().unwrap_or(Duration::ZERO)
     };
-    let whole = took(&|| assert!(Publisher::bytes_of(&all) > 0));
+    let bytes = || all.iter().map(|(key, value)| key.len() + value.len()).sum::<usize>();
+    let whole = took(&|| assert!(bytes() > 0));
     let asked = took(&|| (0..200).for_each(|_| assert!(publisher.has_room("k7", b"12"))));
     assert!(asked < whole * 20, "200 times {:?}, and to count all once {:?}", asked, whole);
 }

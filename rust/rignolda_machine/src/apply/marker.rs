@@ -2,7 +2,7 @@
 //! files are.
 use super::{FileSystem, Folder, MARKER};
 use crate::prelude::*;
-use crate::settings::is_newer;
+use crate::settings::proved::may_mark;
 
 /// How many bytes it has: all digits that a number may have, and the end of the line. So whoever is
 /// ended while it is written in place leaves a whole one, and a full disk is no hindrance.
@@ -43,7 +43,7 @@ pub fn write<S: FileSystem>(
 ) -> Result<Option<u64>, S::Error> {
     let (path, text) = (folder.file(MARKER), text(floor));
     let is = number(system.read_marker(open, &path));
-    if is_newer(is, floor) {
+    if !may_mark(is, floor) {
         return Ok(Some(is));
     }
     system.write_marker(open, &path, &text).map(|()| None)

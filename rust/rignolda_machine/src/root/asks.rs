@@ -1,7 +1,6 @@
 //! How much waits for the disk of what was asked for.
-use crate::net::BODY_BYTES;
 use crate::prelude::*;
-use crate::settings::{entry_bytes, Publisher, SETTINGS};
+use crate::settings::{entry_bytes, Publisher};
 
 /// How many changes wait at most, of whatever keys.
 const CHANGES: usize = 1 << 12;
@@ -42,14 +41,12 @@ impl Asks {
     /// Whether there is room for one more beside these settings and what waits.
     pub fn has_room(&self, settings: &BTreeMap<String, Vec<u8>>, more: Cost) -> bool {
         let Cost { changes, keys, bytes } = self.0;
-        // (one alone was looked at already, with what it takes the place of)
-        let fits = |all: [usize; 3], most| all.into_iter().fold(0, usize::saturating_add) <= most;
-        let has_keys = || more.keys == 0 || fits([settings.len(), keys, more.keys], SETTINGS);
-        let has_bytes = || {
-            let own = Publisher::bytes_of(settings);
-            more.bytes == 0 || fits([own, bytes, more.bytes], BODY_BYTES)
+        let all = || {
+            let room = Publisher::room_of(settings).beside(keys, bytes);
+            room.beside(more.keys, more.bytes)
         };
-        changes == 0 || changes < CHANGES && has_keys() && has_bytes()
+        // (one alone was looked at already, with what it takes the place of)
+        changes == 0 || changes < CHANGES && (more.bytes == 0 || all().fits())
     }
 }
 
@@ -59,6 +56,7 @@ rignolda::spoils! { Asks { 0 } }
 #[cfg(test)]
 mod tests {
     use super::*;
+    use crate::settings::SETTINGS;
 
     #[test]
     fn what_adds_nothing_has_room_beside_as_many_settings_as_may_be() {

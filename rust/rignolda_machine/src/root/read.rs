@@ -70,7 +70,7 @@ impl<W> Root<W> {
                         None => holds |= may_be && may_hold,
                     }
                 }
-                if Publisher::bytes_of(&found.settings) > BODY_BYTES {
+                if !Publisher::room_of(&found.settings).fits() {
                     faults.add(format!("all settings have more than {BODY_BYTES} bytes"));
                 } else {
                     let held = self.takes(found.settings, holds, now);

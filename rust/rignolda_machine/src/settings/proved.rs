@@ -253,6 +253,10 @@ const _: () = assert!(core::mem::size_of::<TakerHeard>() == 5);
 extern "C" {
     fn rignolda_taker_init(taker: &mut Taker, floor: u64);
     fn rignolda_taker_hears(taker: &mut Taker, kind: u8, number: u64, heard: &mut TakerHeard);
+    fn rignolda_taker_misses(taker: &mut Taker);
+    fn rignolda_room_change(room: &mut Room, had: u64, has: u64);
+    fn rignolda_room_fits(room: &Room) -> bool;
+    fn rignolda_may_mark(marker: u64, number: u64) -> bool;
     fn rignolda_number_is_newer(than: u64, number: u64) -> bool;
     fn rignolda_number_next(number: u64) -> u64;
     fn rignolda_number_further(from: u64, number: u64, other: u64) -> u64;
@@ -273,8 +277,9 @@ impl Taker {
     }
 
     /// What it was told was left out, so that something is missing.
-    pub(crate) fn lacks(&mut self) {
-        self.whole = 0;
+    pub(crate) fn misses(&mut self) {
+        // SAFETY: the taker is lent for the call.
+        unsafe { rignolda_taker_misses(self) }
     }
 
     /// What to do with a body that came now, which begins with this byte. One that is not newer
@@ -291,6 +296,52 @@ impl Taker {
             looks: heard.looks != 0,
         }
     }
+}
+
+/// What a whole table takes: how many settings it has, and how many bytes their entries have.
+#[repr(C)]
+#[derive(Clone, Copy, Debug, Default, PartialEq, Eq)]
+pub(crate) struct Room {
+    settings: u64,
+    bytes: u64,
+}
+
+const _: () = assert!(core::mem::size_of::<Room>() == 16);
+
+impl Room {
+    /// A setting is set or unset, whose entry had so many bytes, and has so many now; 0 where it is
+    /// not there.
+    pub(crate) fn change(&mut self, had: usize, has: usize) {
+        // SAFETY: the room is lent for the call.
+        unsafe { rignolda_room_change(self, had as u64, has as u64) }
+    }
+
+    /// With so many settings beside these, which take so many bytes.
+    pub(crate) fn beside(self, settings: usize, bytes: usize) -> Room {
+        let settings = self.settings.saturating_add(settings as u64);
+        Room { settings, bytes: self.bytes.saturating_add(bytes as u64) }
+    }
+
+    /// Whether all these settings are one whole table.
+    pub(crate) fn fits(&self) -> bool {
+        // SAFETY: the room is lent for the call.
+        unsafe { rignolda_room_fits(self) }
+    }
+}
+
+/// What settings take whose entries have so many bytes.
+impl FromIterator<usize> for Room {
+    fn from_iter<I: IntoIterator<Item = usize>>(all: I) -> Room {
+        let mut room = Room::default();
+        all.into_iter().for_each(|bytes| room.change(0, bytes));
+        room
+    }
+}
+
+/// Whether a folder whose marker has this number may be marked with that one.
+pub(crate) fn may_mark(marker: u64, number: u64) -> bool {
+    // SAFETY: it takes numbers alone.
+    unsafe { rignolda_may_mark(marker, number) }
 }
 
 /// Whether the second number is newer than the first.
@@ -315,3 +366,4 @@ rignolda::spoils! { Publisher {
     number, items, bytes, table_bytes, left, rounds_turn, table_first, held
 } }
 rignolda::spoils! { Taker { number, floor, whole, in_a_round } }
+rignolda::spoils! { Room { settings, bytes } }

@@ -18,8 +18,8 @@ use alloc::sync::Arc;
 #[derive(Debug)]
 pub struct Publisher {
     settings: BTreeMap<String, Vec<u8>>,
-    /// How many bytes a whole table of them has.
-    bytes: usize,
+    /// What a whole table of them takes.
+    room: proved::Room,
     /// The keys whose last value is not published yet, behind the one that files have; and these in
     /// the order in which they came.
     changed: BTreeMap<String, BTreeSet<String>>,
@@ -66,7 +66,7 @@ impl Publisher {
     pub fn new(sequence: u64) -> Publisher {
         Publisher {
             settings: BTreeMap::new(),
-            bytes: HEAD,
+            room: proved::Room::default(),
             changed: BTreeMap::new(),
             order: VecDeque::new(),
             numbers: proved::Publisher::new(sequence),
@@ -78,18 +78,16 @@ impl Publisher {
         &self.settings
     }
 
-    /// How long a whole table of these settings would be, in bytes. It has to be at most
-    /// [`BODY_BYTES`].
-    pub fn bytes_of(settings: &BTreeMap<String, Vec<u8>>) -> usize {
-        let entries = settings.iter();
-        HEAD + entries.map(|(key, value)| entry_bytes(&(key, Some(value)))).sum::<usize>()
+    /// What these settings take.
+    pub(crate) fn room_of(settings: &BTreeMap<String, Vec<u8>>) -> proved::Room {
+        settings.iter().map(|(key, value)| entry_bytes(&(key, Some(value)))).collect()
     }
 
     /// Whether there is room for this setting beside all others.
     pub fn has_room(&self, key: &str, value: &[u8]) -> bool {
-        let all = self.bytes - self.bytes_at(key) + entry_bytes(&(key, Some(value)));
-        let is_few = self.settings.len() < SETTINGS || self.settings.contains_key(key);
-        value.len() <= VALUE_BYTES && all <= BODY_BYTES && is_few
+        let mut room = self.room;
+        room.change(self.bytes_at(key), entry_bytes(&(key, Some(value))));
+        value.len() <= VALUE_BYTES && room.fits()
     }
 
     /// How many bytes of them are this setting's.
@@ -101,15 +99,14 @@ impl Publisher {
     /// Makes a setting. It is published even where it is as it was.
     pub fn set(&mut self, key: &str, value: Vec<u8>) {
         self.changes(key);
-        self.bytes += entry_bytes(&(key, Some(&value)));
-        self.bytes -= self.bytes_at(key);
+        self.room.change(self.bytes_at(key), entry_bytes(&(key, Some(&value))));
         self.settings.insert(key.into(), value);
     }
 
     /// Removes a setting.
     pub fn unset(&mut self, key: &str) {
         self.changes(key);
-        self.bytes -= self.bytes_at(key);
+        self.room.change(self.bytes_at(key), 0);
         self.settings.remove(key);
     }
 
@@ -138,7 +135,7 @@ impl Publisher {
     pub fn replace(&mut self, settings: BTreeMap<String, Vec<u8>>) {
         let differ = differences(&self.settings, &settings).into_iter();
         let differ: Vec<String> = differ.map(|(key, _)| key.to_owned()).collect();
-        self.bytes = Publisher::bytes_of(&settings);
+        self.room = Publisher::room_of(&settings);
         self.settings = settings;
         differ.iter().for_each(|key| self.changes(key));
     }
@@ -282,5 +279,5 @@ impl Publisher {
     }
 }
 
-rignolda::spoils! { Publisher { settings, bytes, changed, order, numbers } }
+rignolda::spoils! { Publisher { settings, room, changed, order, numbers } }
 rignolda::spoils! { Published { body, is_table, keys } }
