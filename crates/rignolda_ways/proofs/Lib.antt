@@ -1,0 +1,6 @@
+mod Paths
+mod Answered
+mod Quality
+mod Steps
+mod Reached
+mod OneRound

@@ -1,0 +1,10 @@
+use Rattle.std.proofs.Common.{◌+◌, length, arith}
+use Rattle.rignolda_ways.specs.Runs.{after_run}
+use Rattle.rignolda_ways.proofs.Quality.{says_quality}
+use Rattle.rignolda_ways.proofs.Reached.{begins, begins_good, run_sound}
+use Rattle.rignolda_ways.proofs.laws.no_false_nearness_stays.Goals as goal
+
+pub returns : goal.returns
+returns c net before start rounds further v far lawful run agent is_far some enough =
+    let sound = run_sound net 0 before start rounds further lawful (begins net start) (begins_good net before) run in
+    (says_quality net (0 + length rounds) v (after_run net start rounds further) lawful sound agent).low far (omega (arith, enough)) some is_far

@@ -1,0 +1,5 @@
+pub mod Nets
+pub mod Answers
+pub mod Turns
+pub mod Runs
+pub mod OneRoundFewer

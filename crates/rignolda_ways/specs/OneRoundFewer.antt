@@ -1,0 +1,40 @@
+-- A run by which an agent says another cost than its distance after as many rounds as that is.
+-- Agent 0 is the root; 1 and 2 have each other and the root as candidates, at cost 1. At first
+-- agent 1 has the parent 2 and has heard cost 0 of it, which nobody said, so it says 1. In the one
+-- round it learns first that the root says 0, which is no better, and then that 2 says 128.
+use Rattle.std.specs.Prelude.{ℕ, ◌==◌, if◌then◌else◌, false, List, [], ◌∷◌, Some, None}
+use Rattle.rignolda_ways.specs.Nets.{Net}
+use Rattle.rignolda_ways.specs.Turns.{State, Turn}
+use Rattle.rignolda_ways.specs.Runs.{Round}
+
+abbrev pub three : Net
+three = record {
+  agents = 3;
+  is_root = λ v. v == 0;
+  candidates = λ v. record { agent = if v == 1 then 2 else 1; cost = 1 }
+      ∷ record { agent = 0; cost = 1 } ∷ [];
+  none = 128;
+}
+
+abbrev pub forged : State
+forged = λ v. if v == 1 then Some (record { place = 0; way = record { cost = 0; names = [] } })
+    else None
+
+-- the agent learns that the candidate at this place said this
+abbrev pub learns : ℕ → ℕ → ℕ → List ℕ → Turn
+learns agent place cost names = record {
+  agent = agent;
+  place = place;
+  way = record { cost = cost; names = names };
+  is_sole = false;
+  has_children = false;
+  was_in_circle = false;
+  head_is_smaller = false;
+}
+
+abbrev pub unlucky : Round
+unlucky = record {
+  first = [];
+  second = learns 1 1 0 (0 ∷ []) ∷ learns 1 0 128 (2 ∷ []) ∷ learns 2 0 1 (1 ∷ [])
+      ∷ learns 2 1 0 (0 ∷ []) ∷ [];
+}

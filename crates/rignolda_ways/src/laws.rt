@@ -1,0 +1,74 @@
+//! Laws of agents that choose parents by what they learn late. Each is a function with an empty
+//! body; its contract is the law.
+
+ghost use Rattle.std.specs.Prelude.{◌≡◌, ℕ, suc, ◌≤◌, ◌<◌, ◌++◌, false, List, [], ◌∷◌, length};
+ghost use Rattle.rignolda_ways.specs.Answers.{answer_of};
+ghost use Rattle.rignolda_ways.specs.Nets.{IsDistance, IsFar, IsNet, Net};
+ghost use Rattle.rignolda_ways.specs.OneRoundFewer.{forged, three, unlucky};
+ghost use Rattle.rignolda_ways.specs.Turns.{Heard, Said, State, Turn, after_answer, after_turn};
+ghost use Rattle.rignolda_ways.specs.Turns.{asked, price_at, says};
+ghost use Rattle.rignolda_ways.specs.Runs.{IsOnShortest, IsRun, Round, after_rounds, after_run};
+ghost use Rattle.rignolda_ways.specs.Runs.{parent_place};
+
+use crate::NONE;
+
+/// From any state, whatever was said before: where no root is nearer than a cost, nobody says less
+/// than that cost once there were so many rounds but one, whatever turns follow. So a nearness that
+/// was false is gone; and whoever has no path to a root says at least the bound.
+pub fn no_false_nearness_stays()
+    ensures { (net : Net) (before : List Said) (start : State) (rounds : List Round)
+        (further : List Turn) (v far : ℕ)
+        → IsNet net → IsRun net before start rounds further → v < net.agents
+        → IsFar net far v → far ≤ net.none → far ≤ suc (length rounds)
+        → far ≤ (says net (after_run net start rounds further) v).cost }
+{}
+
+/// After more rounds than its distance, if that is below the bound, an agent says this distance,
+/// and its parent is the next one on a shortest path, then and for ever, whatever turns follow.
+pub fn parents_come_from_any_state()
+    ensures { (net : Net) (before : List Said) (start : State) (rounds : List Round)
+        (further : List Turn) (v distance : ℕ)
+        → IsNet net → IsRun net before start rounds further → v < net.agents
+        → IsDistance net v distance → distance < net.none → distance < length rounds
+        → ((says net (after_run net start rounds further) v).cost ≡ distance)
+        × (net.is_root v ≡ false
+        → IsOnShortest net (after_run net start rounds further) v distance) }
+{}
+
+/// From then on it keeps that parent.
+pub fn parents_are_kept()
+    ensures { (net : Net) (before : List Said) (start : State) (rounds more : List Round)
+        (further : List Turn) (v distance : ℕ)
+        → IsNet net → IsRun net before start (rounds ++ more) further → v < net.agents
+        → net.is_root v ≡ false
+        → IsDistance net v distance → distance < net.none → distance < length rounds
+        → parent_place (after_run net start (rounds ++ more) further v)
+        ≡ parent_place (after_rounds net start rounds v) }
+{}
+
+/// One round fewer is not enough: an agent of distance 1 may say 129 after one round.
+pub fn one_round_fewer_is_not_enough()
+    ensures net { IsNet three × IsDistance three 1 1 }
+    ensures run { IsRun three [] forged (unlucky ∷ []) [] }
+    ensures wrong { (says three (after_run three forged (unlucky ∷ []) []) 1).cost ≡ 129 }
+{}
+
+/// In its turn an agent does what [`Asked::answer`](crate::Asked::answer) says, if the bound is
+/// that of the code; and nobody else changes.
+pub fn a_turn_is_an_answer()
+    ensures own { (net : Net) (s : State) (turn : Turn) → net.none ≡ NONE
+        → after_turn net s turn turn.agent
+        ≡ after_answer (answer_of NONE (asked net s turn))
+        (record { place = turn.place; way = turn.way }) (s turn.agent) }
+    ensures others { (net : Net) (s : State) (turn : Turn) (v : ℕ) → (v ≡ turn.agent → ⊥)
+        → after_turn net s turn v ≡ s v }
+{}
+
+/// Who has a parent need not ask a candidate that costs by itself as much as the agent says:
+/// whatever that one says, nothing would change.
+pub fn who_is_dear_need_not_be_asked()
+    ensures { (net : Net) (s : State) (turn : Turn) (heard : Heard)
+        → s turn.agent ≡ Some heard → (heard.place ≡ turn.place → ⊥)
+        → (says net s turn.agent).cost ≤ price_at net turn.agent turn.place
+        → after_turn net s turn turn.agent ≡ s turn.agent }
+{}
