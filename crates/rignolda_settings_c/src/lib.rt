@@ -15,6 +15,7 @@ mod publisher;
 mod room;
 mod taker;
 mod waits;
+mod ways;
 mod words;
 
 pub use bodies::{BodyEntry, BodyHead, rignolda_body_check, rignolda_body_read, rignolda_checksum};
@@ -37,6 +38,7 @@ pub use taker::{
     rignolda_number_next, rignolda_taker_hears, rignolda_taker_init, rignolda_taker_misses,
 };
 pub use waits::{rignolda_waits_on_change, rignolda_waits_on_left_out};
+pub use ways::{WayAsked, rignolda_way_answer, rignolda_way_over, rignolda_way_unfit};
 pub use words::{
     rignolda_frame_head, rignolda_word_read, rignolda_word_reports, rignolda_word_write,
 };
