@@ -4,3 +4,4 @@ mod Quality
 mod Steps
 mod Reached
 mod OneRound
+mod Named

@@ -103,7 +103,7 @@ told_exact net t v distance old lawful agent sound below some is =
       few = omega (arith, ap length names, length-append right.heard.way.names (v ∷ []), parent.few, sum, dear);
     }
 
-says_root : (net : Net) (s : State) (v : ℕ) → net.is_root v ≡ true → says net s v ≡ record { cost = 0; names = v ∷ [] }
+pub says_root : (net : Net) (s : State) (v : ℕ) → net.is_root v ≡ true → says net s v ≡ record { cost = 0; names = v ∷ [] }
 says_root net s v root = ap (λ b. if b then record { cost = 0; names = v ∷ [] } else told net v (s v)) root
 
 pub says_below : (net : Net) (s : State) (v : ℕ) → net.is_root v ≡ false → says net s v ≡ told net v (s v)

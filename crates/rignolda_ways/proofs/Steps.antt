@@ -26,14 +26,14 @@ pub turn_elsewhere : (net : Net) (s : State) (turn : Turn) (v : ℕ) → (v ≡ 
 turn_elsewhere net s turn v other =
     ap (λ b. if b then after_answer (answer_of net.none (asked net s turn)) (learned turn) (s v) else s v) (ne_eqb v turn.agent other)
 
-by_answer : (net : Net) (s : State) (turn : Turn) (answer : Answer) → answer_of net.none (asked net s turn) ≡ answer
+pub by_answer : (net : Net) (s : State) (turn : Turn) (answer : Answer) → answer_of net.none (asked net s turn) ≡ answer
     → done net s turn ≡ after_answer answer (learned turn) (s turn.agent)
 by_answer net s turn answer is = ap (λ a. after_answer a (learned turn) (s turn.agent)) is
 
 pub same_candidate : (net : Net) (v place other : ℕ) (c d : Candidate) → place ≡ other → IsAt net v place c → IsAt net v other d → c ≡ d
 same_candidate net v place other c d same is its = let there : Some c ≡ Some d = sym is ∙ (ap (slice_get (net.candidates v)) same ∙ its) in cc
 
-is_parent : (net : Net) (s : State) (turn : Turn) (heard : Heard) → s turn.agent ≡ Some heard → heard.place ≡ turn.place → (asked net s turn).is_parent ≡ true
+pub is_parent : (net : Net) (s : State) (turn : Turn) (heard : Heard) → s turn.agent ≡ Some heard → heard.place ≡ turn.place → (asked net s turn).is_parent ≡ true
 is_parent net s turn heard is same = ap (is_place turn.place) is ∙ eq-eqb heard.place turn.place same
 
 is_other : (net : Net) (s : State) (turn : Turn) (heard : Heard) → s turn.agent ≡ Some heard → (heard.place ≡ turn.place → ⊥) → (asked net s turn).is_parent ≡ false

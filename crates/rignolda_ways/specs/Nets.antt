@@ -3,7 +3,8 @@
 -- Then both have distance 1. Without a root they have none, and are as far from one as you like.
 -- Source: D. Bertsekas and J. Tsitsiklis, Parallel and Distributed Computation, chapter 4; the lack
 -- of a root is this project's.
-use Rattle.std.specs.Prelude.{◌≡◌, ℕ, zero, suc, ◌+◌, ◌≤◌, ◌<◌, Bool, IsTrue, List, Some, slice_get}
+use Rattle.std.specs.Prelude.{◌≡◌, ℕ, zero, suc, ◌+◌, ◌≤◌, ◌<◌, Bool, IsTrue, Some, slice_get}
+use Rattle.std.specs.Prelude.{List, [], ◌∷◌, ◌++◌, Contains}
 
 -- whom an agent may have as its parent, and what it costs to come there
 pub record Candidate : Type 0 where
@@ -39,3 +40,11 @@ IsFar net far v = (hops cost : ℕ) → Path net hops v cost → far ≤ cost
 -- the cost of a shortest path
 abbrev pub IsDistance : Net → ℕ → ℕ → Type 0
 IsDistance net v distance = ((hops : ℕ) × Path net hops v distance) × IsFar net distance v
+
+-- the names of a way to the agent, over so many others: each is a candidate of the next, and none
+-- comes twice
+abbrev pub AreNames : Net → ℕ → ℕ → List ℕ → Type 0
+AreNames net zero v names = names ≡ v ∷ []
+AreNames net (suc hops) v names = (place : ℕ) × (c : Candidate) × (before : List ℕ)
+    × IsAt net v place c × AreNames net hops c.agent before × (Contains before v → ⊥)
+    × (names ≡ before ++ v ∷ [])

@@ -5,13 +5,13 @@
 -- that 0 said cost 0 and the name 0: now 0 is its parent, and it says 1 and 0, 1.
 -- Source: D. Bertsekas and J. Tsitsiklis, Parallel and Distributed Computation, chapter 6; parents
 -- and names are this project's.
-use Rattle.std.specs.Prelude.{ℕ, ◌+◌, Bool, false, ◌==◌, if◌then◌else◌, List, [], ◌∷◌}
+use Rattle.std.specs.Prelude.{◌≡◌, ℕ, ◌+◌, ◌<◌, Bool, false, ◌==◌, if◌then◌else◌, List, [], ◌∷◌}
 use Rattle.std.specs.Prelude.{◌++◌, length, fold, Option, Some, None, is_some, slice_get}
 use Rattle.std.specs.List.{list_any}
 use Rattle.rignolda_ways.specs.declared.asked.Asked.{Asked}
 use Rattle.rignolda_ways.specs.declared.asked.Answer.{Answer}
 use Rattle.rignolda_ways.specs.declared.asked.Answer.TheVariants.{Takes, Keeps, Leaves}
-use Rattle.rignolda_ways.specs.Nets.{Candidate, Net}
+use Rattle.rignolda_ways.specs.Nets.{Candidate, Net, IsAt}
 use Rattle.rignolda_ways.specs.Answers.{over, answer_of}
 
 -- what an agent says: what it costs to come to a root, and the names from there to itself
@@ -92,3 +92,8 @@ after_turn net s turn = λ v. if v == turn.agent
 
 abbrev pub after_turns : Net → State → List Turn → State
 after_turns net = fold (after_turn net)
+
+-- whoever is no root has its parent in its list, or has none
+abbrev pub HavePlaces : Net → State → Type 0
+HavePlaces net s = (v : ℕ) → v < net.agents → net.is_root v ≡ false → (heard : Heard)
+    → s v ≡ Some heard → (c : Candidate) × IsAt net v heard.place c

@@ -3,10 +3,10 @@
 
 ghost use Rattle.std.specs.Prelude.{◌≡◌, ℕ, suc, ◌≤◌, ◌<◌, ◌++◌, false, List, [], ◌∷◌, length};
 ghost use Rattle.rignolda_ways.specs.Answers.{answer_of};
-ghost use Rattle.rignolda_ways.specs.Nets.{IsDistance, IsFar, IsNet, Net};
+ghost use Rattle.rignolda_ways.specs.Nets.{AreNames, IsDistance, IsFar, IsNet, Net};
 ghost use Rattle.rignolda_ways.specs.OneRoundFewer.{forged, three, unlucky};
 ghost use Rattle.rignolda_ways.specs.Turns.{Heard, Said, State, Turn, after_answer, after_turn};
-ghost use Rattle.rignolda_ways.specs.Turns.{asked, price_at, says};
+ghost use Rattle.rignolda_ways.specs.Turns.{HavePlaces, asked, price_at, says};
 ghost use Rattle.rignolda_ways.specs.Runs.{IsOnShortest, IsRun, Round, after_rounds, after_run};
 ghost use Rattle.rignolda_ways.specs.Runs.{parent_place};
 
@@ -44,6 +44,17 @@ pub fn parents_are_kept()
         → IsDistance net v distance → distance < net.none → distance < length rounds
         → parent_place (after_run net start (rounds ++ more) further v)
         ≡ parent_place (after_rounds net start rounds v) }
+{}
+
+/// Names end circles: after more rounds than there are agents each way that an agent says is one of
+/// the net, whether it leads to a root or not. Each name is that of an agent which the next may
+/// have as its parent, none comes twice, and the first one said that it had no parent.
+pub fn said_ways_are_real()
+    ensures { (net : Net) (before : List Said) (start : State) (rounds : List Round)
+        (further : List Turn) (v : ℕ)
+        → IsNet net → HavePlaces net start → IsRun net before start rounds further
+        → v < net.agents → net.agents < length rounds
+        → (hops : ℕ) × AreNames net hops v (says net (after_run net start rounds further) v).names }
 {}
 
 /// One round fewer is not enough: an agent of distance 1 may say 129 after one round.

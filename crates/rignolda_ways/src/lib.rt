@@ -13,6 +13,7 @@
 #![tactic(auto)]
 
 mod asked;
+pub mod examples;
 pub mod laws;
 
 pub use asked::{Answer, Asked, CIRCLE, NAMES, NONE, Reason};
