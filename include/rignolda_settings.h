@@ -35,6 +35,10 @@
  *     exactly if they are one whole table, and counts stay those of the settings.
  *   - files_never_go_back (of the module marker_laws): whatever the processes remember that keep
  *     files, and between whichever acts they are ended, if each marks the folder first.
+ * Those of how parents are chosen, of the crate rignolda_ways:
+ *   - parents_come_from_any_state, parents_are_kept: after more rounds than its distance from a root
+ *     an agent has a parent on a shortest path, and keeps it. In a round what was said before comes
+ *     or is lost, and then each agent learns what each of its candidates says.
  * Those of what a root publishes, of the module root_laws:
  *   - numbers_rise_by_one: from every bit pattern of a publisher, while no agent says a newer
  *     number; a_round_ends: unless tables are held, or a shorter round is asked for;
@@ -164,6 +168,41 @@ void rignolda_room_change(rignolda_room *room, uint64_t had, uint64_t has);
 
 /* Whether all these settings are one whole table: at most 65,536, in at most 16 MiB. */
 bool rignolda_room_fits(const rignolda_room *room);
+
+/*
+ * What an agent knows when a candidate for its parent says its way: what it costs to come from a
+ * root, and the names from there to that candidate. A flag is true where it is not 0.
+ */
+typedef struct rignolda_way_asked {
+    size_t names;             /* how many names that way has */
+    uint16_t said;            /* what it costs */
+    uint16_t price;           /* what it costs to come to that candidate: 1 or more */
+    uint16_t own;             /* the cost that the agent says itself */
+    uint8_t has_own_name;     /* its own name is on that way */
+    uint8_t has_parent;       /* it has a parent */
+    uint8_t is_parent;        /* that candidate is it */
+    uint8_t is_sole;          /* it has no other candidate */
+    uint8_t has_children;     /* others may have it as their parent */
+    uint8_t was_in_circle;    /* it has left a circle, and has had no root since */
+    uint8_t head_is_smaller;  /* the first name of that way is smaller than its own */
+} rignolda_way_asked;
+
+/*
+ * What it costs to come to an agent over a candidate that says so much and has this price. From 128
+ * on there is no root; from 256 on it is all the same.
+ */
+uint16_t rignolda_way_over(uint16_t said, uint16_t price);
+
+/*
+ * What the agent does: 0 where that candidate is its parent from now on, or as before, and that way
+ * is heard. Else all stays as it is, since that way has the agent's own name (1), is too long (2),
+ * has no root (3), or is not better (4); or the parent is left, since its way has the agent's own
+ * name (5), or is too long (6): over it the cost would be 256, or there are 128 names.
+ */
+uint8_t rignolda_way_answer(const rignolda_way_asked *asked);
+
+/* Why that candidate may not replace a parent that is to be left, by these numbers; 0 if it may. */
+uint8_t rignolda_way_unfit(const rignolda_way_asked *asked);
 
 /*
  * Whether a folder whose marker has this number, or 0 where it has none, may be marked with that

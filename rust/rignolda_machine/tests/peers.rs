@@ -384,18 +384,30 @@ fn parents_are_tried_in_order() {
     net.steps(100);
     let name = |net: &mut Net| net.agent("leaf").peers.parent().map(|(it, _)| it.to_string());
     assert_eq!(name(&mut net).as_deref(), Some("second"));
-    // (one that is better is taken once it was that twice, and the other one is told so)
+    // (one that is better is taken, and the other one is told so)
     net.start(setup("first", vec![], children(&[("leaf", true)])));
-    net.steps(1);
-    assert_eq!(name(&mut net).as_deref(), Some("second"));
     net.steps(100);
     assert_eq!(name(&mut net).as_deref(), Some("first"));
-    assert!(net.said("first", "child leaf: it has another parent"));
     assert!(net.said("second", "closed leaf: it takes another parent"));
     assert!(net.agent("second").peers.relay().is_left_behind("leaf"));
     net.agents.remove("first");
     net.steps(400);
     assert_eq!(name(&mut net).as_deref(), Some("second"));
+}
+
+#[test]
+fn a_candidate_that_is_no_better_is_told_so() {
+    let priced = |at: Parent<String>, price| Parent { price: Some(price), ..at };
+    let root = || parent("root", Some("root"));
+    let mut net = Net::new(vec![
+        setup("root", vec![], children(&[("leaf", false), ("far", false)])),
+        setup("far", vec![priced(root(), 20)], children(&[("leaf", true)])),
+        setup("leaf", vec![priced(root(), 9), priced(parent("far", None), 2)], children(&[])),
+    ]);
+    net.steps(400);
+    let name = net.agent("leaf").peers.parent().map(|(it, _)| it.to_string());
+    assert_eq!(name.as_deref(), Some("root"));
+    assert!(net.said("far", "child leaf: it has another parent"));
 }
 
 #[test]

@@ -6,19 +6,23 @@
 //! says.
 //!
 //! - Who would cost [`CIRCLE`], or whose parent's way has the agent's own name, leaves that parent.
-//! - A candidate is looked at before it is taken. It is taken where the way over it is better twice
-//!   in turn, and costs less than [`NONE`]; where the agent has no root, once will do.
+//! - A candidate is looked at before it is taken. It is taken where the way over it is better, and
+//!   costs less than [`NONE`].
 //! - Who has a parent that has lost the root stays with it until a candidate has one: while the
 //!   root is away nobody moves. Without a parent a candidate that has no root is taken only by an
 //!   agent that has one candidate alone, or no children; and after a circle only where the head's
 //!   name is smaller than its own, so that not all who left the circle come back to it.
 //! - While no candidate could be better, whatever it says, nobody is looked at.
+//!
+//! That is decided by calls of the proved library, whose crate `rignolda_ways` has the laws. And:
+//!
 //! - A parent that says ways for long and brings no whole table stands still: it is left for any
 //!   candidate that has a root, and not taken again for a while, which is longer each time.
 //!
 //! A parent that speaks version 1 says no way. It counts as a root where it is the first of the
 //! list, or the agent has no children, and else as one that has lost the root.
 use super::error::error;
+use super::proved::{rignolda_way_over, WayAsked};
 use crate::prelude::*;
 use core::time::Duration;
 
@@ -34,8 +38,6 @@ pub const BEAT: Duration = Duration::from_secs(2);
 pub const SILENCE: Duration = Duration::from_secs(8);
 /// The price of each place in the list.
 const PLACE: u16 = 8;
-/// How often in turn a candidate has to be better.
-const TWICE: u8 = 2;
 /// How often a candidate is looked at: usually, where there is no root, and the parent itself
 /// where it speaks version 1, since it may have become a newer one.
 const LOOKS: Duration = Duration::from_secs(5);
@@ -64,8 +66,6 @@ error! {
         NoRoot = "it has no root",
         /// It is not better than the parent that there is.
         NoBetter = "another parent is connected",
-        /// It was better once, and has to be so twice in turn.
-        Once = "it has to be better twice",
     }
 }
 
@@ -73,9 +73,8 @@ error! {
 #[derive(Clone, Debug)]
 pub struct Parents {
     name: String,
-    /// What the way over each costs besides, and how often in turn it was better.
+    /// What it costs to come to each.
     costs: Vec<u16>,
-    better: Vec<u8>,
     has_children: bool,
     /// Which candidate is the parent, or is tried.
     at: usize,
@@ -104,7 +103,6 @@ impl Parents {
     /// assert_eq!(rack.looked(1, &way(1, &["hub", "rack2"])), Ok(()));
     /// rack.took(1, way(1, &["hub", "rack2"]));
     /// assert_eq!(rack.says(), &way(10, &["hub", "rack2", "rack1"]));
-    /// assert!(rack.looked(0, &way(0, &["hub"])).is_err());
     /// assert_eq!(rack.looked(0, &way(0, &["hub"])), Ok(()));
     /// ```
     pub fn new(name: &str, prices: impl IntoIterator<Item = Option<u16>>) -> Parents {
@@ -113,7 +111,6 @@ impl Parents {
         let costs: Vec<u16> = prices.map(|price| price.saturating_add(1)).collect();
         let mut parents = Parents {
             name: name.into(),
-            better: vec![0; costs.len()],
             costs,
             has_children: false,
             at: 0,
@@ -146,10 +143,8 @@ impl Parents {
 
     /// Whether it has this name and these candidates.
     pub(super) fn are(&self, name: &str, prices: impl IntoIterator<Item = Option<u16>>) -> bool {
-        let Parents { costs, better, .. } = Parents::new(name, prices);
-        self.name == name
-            && (&self.costs, self.better.len()) == (&costs, better.len())
-            && self.at < costs.len().max(1)
+        let Parents { costs, .. } = Parents::new(name, prices);
+        self.name == name && self.costs == costs && self.at < costs.len().max(1)
     }
 
     /// Whether there are agents that may have this one as their parent.
@@ -201,7 +196,6 @@ impl Parents {
     pub fn took(&mut self, at: usize, way: Way) {
         self.at = at;
         self.heard = Some(way);
-        self.better.fill(0);
         self.say();
     }
 
@@ -211,9 +205,8 @@ impl Parents {
     ///
     /// Why it is to be left.
     pub fn hears(&mut self, way: Way) -> Result<(), ParentError> {
-        let over = self.over(self.at, &way);
-        self.was_in_circle |= over.is_err();
-        over?;
+        let asked = WayAsked { is_parent: true, ..self.asked(self.at, &way) };
+        asked.answer().inspect_err(|_| self.was_in_circle = true)?;
         self.heard = Some(way);
         self.say();
         Ok(())
@@ -221,16 +214,27 @@ impl Parents {
 
     /// What the way over a candidate costs that says this.
     fn cost(&self, at: usize, way: &Way) -> u16 {
-        let cost = self.costs.get(at).copied().unwrap_or(CIRCLE);
-        way.cost.saturating_add(cost).min(CIRCLE)
+        rignolda_way_over(way.cost, self.price(at))
     }
 
-    fn over(&self, at: usize, way: &Way) -> Result<u16, ParentError> {
-        match self.cost(at, way) {
-            _ if way.names.contains(&self.name) => Err(ParentError::Circle),
-            CIRCLE => Err(ParentError::LongWay),
-            _ if way.names.len() >= NAMES => Err(ParentError::LongWay),
-            cost => Ok(cost),
+    fn price(&self, at: usize) -> u16 {
+        self.costs.get(at).copied().unwrap_or(CIRCLE)
+    }
+
+    /// What it knows when a candidate says this.
+    fn asked(&self, at: usize, way: &Way) -> WayAsked {
+        WayAsked {
+            names: way.names.len(),
+            said: way.cost,
+            price: self.price(at),
+            own: self.says.cost,
+            has_own_name: way.names.contains(&self.name),
+            has_parent: self.heard.is_some(),
+            is_parent: self.heard.is_some() && at == self.at,
+            is_sole: self.costs.len() == 1,
+            has_children: self.has_children,
+            was_in_circle: self.was_in_circle,
+            head_is_smaller: way.names.first() < Some(&self.name),
         }
     }
 
@@ -239,29 +243,10 @@ impl Parents {
     /// # Errors
     ///
     /// Why it is not.
-    pub fn looked(&mut self, at: usize, way: &Way) -> Result<(), ParentError> {
-        let (over, own) = (self.over(at, way), self.says.cost);
-        if self.heard.is_some() && at == self.at {
-            // (it is the parent, on another connection)
-            return over.map(drop);
-        }
-        let is_sole = self.costs.len() == 1;
-        let may = !self.was_in_circle || way.names.first() < Some(&self.name);
-        let is_free = self.heard.is_none() && (is_sole || !self.has_children) && may;
-        let better = self.better.get_mut(at).ok_or(ParentError::Unknown)?;
-        let before = core::mem::take(better);
-        let cost = over?;
-        if cost >= NONE && !is_free {
-            return Err(ParentError::NoRoot);
-        } else if cost >= own && !is_free {
-            return Err(ParentError::NoBetter);
-        }
-        *better = (before + 1).min(TWICE);
-        let is_soon = own >= NONE && (cost < NONE || is_sole);
-        match is_soon || *better == TWICE {
-            true => Ok(()),
-            false if cost >= NONE => Err(ParentError::NoRoot),
-            false => Err(ParentError::Once),
+    pub fn looked(&self, at: usize, way: &Way) -> Result<(), ParentError> {
+        match self.costs.get(at) {
+            Some(_) => self.asked(at, way).answer(),
+            None => Err(ParentError::Unknown),
         }
     }
 
@@ -276,10 +261,7 @@ impl Parents {
     ///
     /// Why it may not.
     pub fn replaces(&self, at: usize, way: &Way) -> Result<(), ParentError> {
-        match self.over(at, way)? {
-            NONE.. => Err(ParentError::NoRoot),
-            _ => Ok(()),
-        }
+        self.asked(at, way).is_fit()
     }
 
     /// How a candidate counts that speaks version 1.
@@ -293,8 +275,7 @@ impl Parents {
 
     /// Whether a candidate is to be looked at beside the parent, which speaks version 1 or not.
     pub fn looks_at(&self, at: usize, is_old: bool) -> bool {
-        let could_be = self.costs.get(at).copied().unwrap_or(CIRCLE);
-        let is_better = could_be < self.says.cost;
+        let is_better = self.price(at) < self.says.cost;
         self.heard.is_some() && (if at == self.at { is_old } else { is_better })
     }
 
@@ -310,5 +291,5 @@ impl Parents {
 
 rignolda::spoils! { Way { cost, names } }
 rignolda::spoils! { Parents {
-    name, costs, better, has_children, at, heard, says, has_news, was_in_circle
+    name, costs, has_children, at, heard, says, has_news, was_in_circle
 } }

@@ -3,7 +3,7 @@
 //! They ask for nothing but that each reference is one. What they say of the bytes is proved; here
 //! is what they are lent, and what becomes of the numbers that they return.
 use super::wire::{Expect, WireError};
-use super::Refusal;
+use super::{ParentError, Refusal};
 use crate::prelude::*;
 
 /// No head of a message is longer, and no word of a child.
@@ -27,6 +27,48 @@ pub(super) struct Message {
 
 const _: () = assert!(core::mem::size_of::<Message>() == 88);
 
+/// `rignolda_way_asked`: what an agent knows when a candidate says its way.
+#[repr(C)]
+pub(super) struct WayAsked {
+    pub(super) names: usize,
+    pub(super) said: u16,
+    pub(super) price: u16,
+    pub(super) own: u16,
+    pub(super) has_own_name: bool,
+    pub(super) has_parent: bool,
+    pub(super) is_parent: bool,
+    pub(super) is_sole: bool,
+    pub(super) has_children: bool,
+    pub(super) was_in_circle: bool,
+    pub(super) head_is_smaller: bool,
+}
+
+const _: () = assert!(core::mem::size_of::<WayAsked>() == 24);
+
+impl WayAsked {
+    /// What it does: it takes that way, or why not.
+    pub(super) fn answer(&self) -> Result<(), ParentError> {
+        // SAFETY: the call reads what it is lent.
+        why(unsafe { rignolda_way_answer(self) })
+    }
+
+    /// Whether the candidate may take the place of a parent that is to be left.
+    pub(super) fn is_fit(&self) -> Result<(), ParentError> {
+        // SAFETY: the call reads what it is lent.
+        why(unsafe { rignolda_way_unfit(self) })
+    }
+}
+
+fn why(code: u8) -> Result<(), ParentError> {
+    match code {
+        0 => Ok(()),
+        1 | 5 => Err(ParentError::Circle),
+        2 | 6 => Err(ParentError::LongWay),
+        3 => Err(ParentError::NoRoot),
+        _ => Err(ParentError::NoBetter),
+    }
+}
+
 type Bytes = *const u8;
 
 unsafe extern "C" {
@@ -49,6 +91,9 @@ unsafe extern "C" {
     // (they take numbers alone)
     pub(super) safe fn rignolda_versions_range(oldest: u8, newest: u8) -> u16;
     pub(super) safe fn rignolda_versions_read(version: u8, label: u16) -> u16;
+    fn rignolda_way_answer(it: &WayAsked) -> u8;
+    fn rignolda_way_unfit(it: &WayAsked) -> u8;
+    pub(super) safe fn rignolda_way_over(said: u16, price: u16) -> u16;
     fn rignolda_word_read(bytes: Bytes, length: usize, it: &mut Message) -> bool;
     fn rignolda_word_reports(bytes: Bytes, length: usize, count: &mut u32) -> bool;
     fn rignolda_word_write(
