@@ -1,8 +1,8 @@
 -- The run of one round after which an agent is wrong.
-use Rattle.std.proofs.Common.{◌≡◌, ℕ, zero, suc, ◌<◌, ◌≤◌, inl, inr, Bool, true, false, [], ◌∷◌, Some, refl, subst, if◌then◌else◌, ◌==◌, arith}
+use Rattle.std.proofs.Common.{◌≡◌, ℕ, zero, suc, ◌<◌, ◌≤◌, inl, inr, Bool, true, false, List, [], ◌∷◌, Some, refl, subst, if◌then◌else◌, ◌==◌, arith}
 use Rattle.rignolda_ways.specs.Nets.{Candidate, IsNet, IsFar, IsDistance}
-use Rattle.rignolda_ways.specs.Runs.{AllLearn, IsRun}
-use Rattle.rignolda_ways.specs.OneRoundFewer.{three, forged, unlucky}
+use Rattle.rignolda_ways.specs.Runs.{AllLearn, IsRound, IsRun, after_round, round_moments}
+use Rattle.rignolda_ways.specs.OneRoundFewer.{three, forged, asks, unlucky, second}
 
 some_same : {A : Type 0} (x y : A) → Some x ≡ Some y → x ≡ y
 some_same x y same = cc
@@ -30,28 +30,41 @@ far (suc hops) cost (place, c, rest, is, path, sum) = omega (arith, (lawful 1 pl
 pub one : IsDistance three 1 1
 one = ((1, (1, record { agent = 0; cost = 1 }, 0, refl, (refl, refl), refl)), far)
 
-all : AllLearn three unlucky.second
-all zero place agent below c is = let never : true ≡ false = below in cc
-all (suc zero) zero agent below c is = inr (inl (refl, refl))
-all (suc zero) (suc zero) agent below c is = inl (refl, refl)
-all (suc zero) (suc (suc place)) agent below c is = cc
-all (suc (suc zero)) zero agent below c is = inr (inr (inl (refl, refl)))
-all (suc (suc zero)) (suc zero) agent below c is = inr (inr (inr (inl (refl, refl))))
-all (suc (suc zero)) (suc (suc place)) agent below c is = cc
-all (suc (suc (suc v))) place agent below c is = absurd (omega (arith, agent))
+all : (cost other : ℕ) (names others : List ℕ) → AllLearn three (asks cost names other others).second
+all cost other names others zero place agent below c is = let never : true ≡ false = below in cc
+all cost other names others (suc zero) zero agent below c is = inr (inl (refl, refl))
+all cost other names others (suc zero) (suc zero) agent below c is = inl (refl, refl)
+all cost other names others (suc zero) (suc (suc place)) agent below c is = cc
+all cost other names others (suc (suc zero)) zero agent below c is = inr (inr (inl (refl, refl)))
+all cost other names others (suc (suc zero)) (suc zero) agent below c is = inr (inr (inr (inl (refl, refl))))
+all cost other names others (suc (suc zero)) (suc (suc place)) agent below c is = cc
+all cost other names others (suc (suc (suc v))) place agent below c is = absurd (omega (arith, agent))
 
-pub run : IsRun three [] forged (unlucky ∷ []) []
-run = (
-  record {
-    first = tt;
-    second = (
-      (record { agent = 0; cost = 1 }, refl, inl refl),
-      (
-        (record { agent = 2; cost = 1 }, refl, inl refl),
-        ((record { agent = 1; cost = 1 }, refl, inr (inl refl)), ((record { agent = 0; cost = 1 }, refl, inl refl), tt)),
-      ),
-    );
-    all = all;
-  },
-  tt,
-)
+first_round : IsRound three [] forged unlucky
+first_round = record {
+  first = tt;
+  second = (
+    (record { agent = 0; cost = 1 }, refl, inl refl),
+    (
+      (record { agent = 2; cost = 1 }, refl, inl refl),
+      ((record { agent = 1; cost = 1 }, refl, inr (inl refl)), ((record { agent = 0; cost = 1 }, refl, inl refl), tt)),
+    ),
+  );
+  all = all 128 1 (2 ∷ []) (1 ∷ []);
+}
+
+second_round : IsRound three (round_moments three forged unlucky) (after_round three forged unlucky) second
+second_round = record {
+  first = tt;
+  second = (
+    (record { agent = 0; cost = 1 }, refl, inl refl),
+    (
+      (record { agent = 2; cost = 1 }, refl, inl refl),
+      ((record { agent = 1; cost = 1 }, refl, inl refl), ((record { agent = 0; cost = 1 }, refl, inl refl), tt)),
+    ),
+  );
+  all = all 1 1 (0 ∷ 2 ∷ []) (0 ∷ 1 ∷ []);
+}
+
+pub run : IsRun three [] forged (unlucky ∷ second ∷ []) []
+run = (first_round, (second_round, tt))

@@ -1,7 +1,8 @@
 -- A run by which an agent says another cost than its distance after as many rounds as that is.
 -- Agent 0 is the root; 1 and 2 have each other and the root as candidates, at cost 1. At first
 -- agent 1 has the parent 2 and has heard cost 0 of it, which nobody said, so it says 1. In the one
--- round it learns first that the root says 0, which is no better, and then that 2 says 128.
+-- round it learns first that the root says 0, which is no better, and then that 2 says 128. In a
+-- second round it takes the root.
 use Rattle.std.specs.Prelude.{ℕ, ◌==◌, if◌then◌else◌, false, List, [], ◌∷◌, Some, None}
 use Rattle.rignolda_ways.specs.Nets.{Net}
 use Rattle.rignolda_ways.specs.Turns.{State, Turn}
@@ -32,9 +33,16 @@ learns agent place cost names = record {
   head_is_smaller = false;
 }
 
-abbrev pub unlucky : Round
-unlucky = record {
+-- agent 1 learns of the root and then of 2, and 2 of 1 and then of the root
+abbrev pub asks : ℕ → List ℕ → ℕ → List ℕ → Round
+asks cost names other others = record {
   first = [];
-  second = learns 1 1 0 (0 ∷ []) ∷ learns 1 0 128 (2 ∷ []) ∷ learns 2 0 1 (1 ∷ [])
+  second = learns 1 1 0 (0 ∷ []) ∷ learns 1 0 cost names ∷ learns 2 0 other others
       ∷ learns 2 1 0 (0 ∷ []) ∷ [];
 }
+
+abbrev pub unlucky : Round
+unlucky = asks 128 (2 ∷ []) 1 (1 ∷ [])
+
+abbrev pub second : Round
+second = asks 1 (0 ∷ 2 ∷ []) 1 (0 ∷ 1 ∷ [])

@@ -3,8 +3,8 @@
 
 ghost use Rattle.std.specs.Prelude.{◌≡◌, ℕ, suc, ◌≤◌, ◌<◌, ◌++◌, false, List, [], ◌∷◌, length};
 ghost use Rattle.rignolda_ways.specs.Answers.{answer_of};
-ghost use Rattle.rignolda_ways.specs.Nets.{AreNames, IsDistance, IsFar, IsNet, Net};
-ghost use Rattle.rignolda_ways.specs.OneRoundFewer.{forged, three, unlucky};
+ghost use Rattle.rignolda_ways.specs.Nets.{AreNames, Candidate, IsAt, IsDistance, IsFar, IsNet, Net};
+ghost use Rattle.rignolda_ways.specs.OneRoundFewer.{forged, second, three, unlucky};
 ghost use Rattle.rignolda_ways.specs.Turns.{Heard, Said, State, Turn, after_answer, after_turn};
 ghost use Rattle.rignolda_ways.specs.Turns.{HavePlaces, asked, price_at, says};
 ghost use Rattle.rignolda_ways.specs.Runs.{IsOnShortest, IsRun, Round, after_rounds, after_run};
@@ -16,11 +16,18 @@ use crate::NONE;
 /// than that cost once there were so many rounds but one, whatever turns follow. So a nearness that
 /// was false is gone; and whoever has no path to a root says at least the bound.
 pub fn no_false_nearness_stays()
-    ensures { (net : Net) (before : List Said) (start : State) (rounds : List Round)
+    ensures said { (net : Net) (before : List Said) (start : State) (rounds : List Round)
         (further : List Turn) (v far : ℕ)
         → IsNet net → IsRun net before start rounds further → v < net.agents
         → IsFar net far v → far ≤ net.none → far ≤ suc (length rounds)
         → far ≤ (says net (after_run net start rounds further) v).cost }
+    // Nor has anybody heard less of its parent.
+    ensures heard { (net : Net) (before : List Said) (start : State) (rounds : List Round)
+        (further : List Turn) (v far : ℕ) (heard : Heard) (c : Candidate)
+        → IsNet net → IsRun net before start rounds further → v < net.agents
+        → net.is_root v ≡ false → after_run net start rounds further v ≡ Some heard
+        → IsAt net v heard.place c → IsFar net far c.agent → far ≤ net.none
+        → far ≤ length rounds → far ≤ heard.way.cost }
 {}
 
 /// After more rounds than its distance, if that is below the bound, an agent says this distance,
@@ -57,11 +64,12 @@ pub fn said_ways_are_real()
         → (hops : ℕ) × AreNames net hops v (says net (after_run net start rounds further) v).names }
 {}
 
-/// One round fewer is not enough: an agent of distance 1 may say 129 after one round.
+/// One round fewer is not enough: in a run of two an agent of distance 1 says 129 after the first.
 pub fn one_round_fewer_is_not_enough()
     ensures net { IsNet three × IsDistance three 1 1 }
-    ensures run { IsRun three [] forged (unlucky ∷ []) [] }
-    ensures wrong { (says three (after_run three forged (unlucky ∷ []) []) 1).cost ≡ 129 }
+    ensures run { IsRun three [] forged (unlucky ∷ second ∷ []) [] }
+    ensures wrong { (says three (after_rounds three forged (unlucky ∷ [])) 1).cost ≡ 129 }
+    ensures right { (says three (after_rounds three forged (unlucky ∷ second ∷ [])) 1).cost ≡ 1 }
 {}
 
 /// In its turn an agent does what [`Asked::answer`](crate::Asked::answer) says, if the bound is
