@@ -1,0 +1,3 @@
+pub mod Underway
+pub mod Counted
+pub mod WholeRounds
