@@ -1,3 +1,4 @@
 pub mod Underway
 pub mod Counted
 pub mod WholeRounds
+pub mod RoundsOf
