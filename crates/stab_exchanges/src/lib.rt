@@ -6,4 +6,5 @@
 //! connections ([`laws`]).
 #![tactic(auto)]
 
+pub mod examples;
 pub mod laws;
