@@ -1,5 +1,5 @@
 -- Each completed exchange is a reading round of the link that the connections are.
-use Rattle.std.proofs.Common.{◌≡◌, ℕ, zero, suc, ◌+◌, ◌≤◌, ◌==◌, ◌&&◌, Bool, true, false, if◌then◌else◌, List, [], ◌∷◌, ◌++◌, length, drop, replicate, slice_get, Some, None, Option, is_some, refl, sym, ◌∙◌, ap, subst, arith, eq-eqb, eqb-true, lt-ltb, true≢false, inl, inr, ◌⊎◌}
+use Rattle.std.proofs.Common.{◌≡◌, ℕ, zero, suc, ◌+◌, ◌≤◌, ◌==◌, ◌&&◌, Bool, true, false, if◌then◌else◌, List, [], ◌∷◌, ◌++◌, length, drop, map, replicate, slice_get, Some, None, Option, is_some, refl, sym, ◌∙◌, ap, subst, arith, eq-eqb, eqb-true, lt-ltb, true≢false, inl, inr, ◌⊎◌}
 use Rattle.std.specs.Option.{option_map_or}
 use Rattle.std.proofs.lemmas.Bool.{ne_eqb}
 use Rattle.std.proofs.lemmas.List.{length_push}
@@ -10,24 +10,51 @@ use Rattle.stab_core.specs.declared.event.Event.{Event}
 use Rattle.stab_core.specs.declared.event.Event.TheVariants.{Offer, SendFrame, RecvFrame, SendAck, RecvAck}
 use Rattle.stab_core.specs.LinkState.{LinkState, has_room, current_frame}
 use Rattle.stab_core.specs.Replay.{replay}
-use Rattle.stab_core.specs.Step.{takes, goes_on}
+use Rattle.stab_core.specs.Step.{step, takes, goes_on}
 use Rattle.stab_core.proofs.Replays.{replay-append}
 use Rattle.stab_rounds.specs.Played.{reading_round_with}
 use Rattle.stab_rounds.specs.ReadingRounds.{Reads, offer, reading_rounds}
-use Rattle.stab_rounds.specs.Rounds.{IsWithin}
+use Rattle.stab_rounds.specs.Rounds.{IsWithin, act_of}
 use Rattle.stab_line.specs.Ends.{ReceiverEnd, new_sender, acknowledges, after_ack}
 use Rattle.stab_line.specs.Line.{Line, LineAct, line_step, line_run, link_of, offer_item, held, new_count}
 use Rattle.stab_line.specs.NodeTree.{put}
 use Rattle.stab_line.specs.Session.{session_on, has, is_on}
-use Rattle.stab_line.specs.SessionLink.{SessionLink, LinkAct, link_step, link_run, item_offered, happens, ack_comes, InTurn, on_it, receives_ack, line_of, counted_anew}
+use Rattle.stab_line.specs.SessionLink.{SessionLink, ConnectionAct, LinkAct, connection_step, link_step, link_run, item_offered, happens, ack_comes, InTurn, on_it, receives_ack, line_of, counted_anew}
 use Rattle.stab_line.proofs.Exchanges.{put_here}
-use Rattle.stab_line.proofs.Lines.{Fields, Next, Work, done, waiting, fields, line_at, stepped}
-use Rattle.stab_line.proofs.SessionLines.{step_is_led, few_frames, few_acks}
+use Rattle.stab_line.proofs.Lines.{Fields, Next, Work, done, waiting, fields, line_at, stepped, IsPlain, stepped_plain}
+use Rattle.stab_line.proofs.SessionLines.{NoOffers, step_is_led, few_frames, few_acks}
 use Rattle.stab_line.proofs.Turns.{link_step_in_turn}
 use Rattle.stab_exchanges.specs.Exchanges.{Exchange, sending, arrival, answer, exchange_after, exchanged_by, exchanges_from, completed_exchanges}
 use Rattle.stab_exchanges.proofs.Counted.{is_awaited, answer_is_known, open_at_first}
-use Rattle.stab_exchanges.proofs.WholeRounds.{IsLeft, reads_run, left_run, counted, counted_append, whole_counts}
+use Rattle.stab_exchanges.proofs.WholeRounds.{IsLeft, reads_over, left_over, counted, counted_append, whole_counts}
 use Rattle.stab_exchanges.proofs.Underway.{Answers, Kept, Underway, one_left, underway_step}
+
+-- ---- events among which an offer changes nothing
+
+abbrev pub Harmless : Parameters → LinkState → List Event → Type 0
+Harmless p s [] = Unit {0}
+Harmless p s (Offer item ∷ events) = ((other : ℕ) → step p s (Offer other) ≡ s) × Harmless p s events
+Harmless p s (e ∷ events) = Harmless p (step p s e) events
+
+plain_harmless : (p : Parameters) (s : LinkState) (events : List Event) → IsPlain events → Harmless p s events
+plain_harmless p s [] plain = tt
+plain_harmless p s (Offer item ∷ events) plain = absurd plain
+plain_harmless p s (e ∷ events) plain = plain_harmless p (step p s e) events plain
+
+harmless_append : (p : Parameters) (s : LinkState) (first second : List Event) → Harmless p s first
+    → Harmless p (replay p s first) second → Harmless p s (first ++ second)
+harmless_append p s [] second before after = after
+harmless_append p s (Offer item ∷ first) second before after =
+    (before.0, harmless_append p s first second before.1 (subst (λ u. Harmless p (replay p u first) second) (before.0 item) after))
+harmless_append p s (e ∷ first) second before after = harmless_append p (step p s e) first second before after
+
+plain_frames : (n : ℕ) (events : List Event) → IsPlain events → IsPlain (replicate n (RecvFrame false) ++ events)
+plain_frames zero events plain = plain
+plain_frames (suc n) events plain = plain_frames n events plain
+
+plain_acks : (n : ℕ) (events : List Event) → IsPlain events → IsPlain (replicate n (RecvAck false) ++ events)
+plain_acks zero events plain = plain
+plain_acks (suc n) events plain = plain_acks n events plain
 
 -- ---- a whole round in place of the acknowledgement that comes
 
@@ -126,6 +153,16 @@ module _ (p : Parameters) (some : 1 ≤ p.capacity) (items : List ℕ) (item lab
       ∙ all_taken c (SendAck ∷ RecvAck false ∷ []) some
       ∙ answered_again
 
+  round_is_harmless : (other : ℕ) → Harmless p taken_once (reading_round_with p.capacity other)
+  round_is_harmless other =
+      let c : ℕ = p.capacity in
+      let rest : List Event = replicate c (RecvAck false) ++ (SendAck ∷ RecvAck false ∷ []) in
+      let sent : List Event = SendFrame ∷ RecvFrame false ∷ rest in (
+        λ another. offers_none another [],
+        plain_harmless p taken_once (replicate c (RecvFrame false) ++ sent)
+            (plain_frames c sent (plain_acks c (SendAck ∷ RecvAck false ∷ []) tt)),
+      )
+
 -- ---- the exchange that is completed
 
 -- what the acknowledgement that the sender waits for makes of a line
@@ -138,19 +175,23 @@ answered_line frames acks label taken items item deaf delivered =
     fields frames acks label (waiting items item) false taken deaf delivered
 
 abbrev Completes : Parameters → ℕ → Fields → Type 0
-Completes p other f = Next (replay p (link_of (line_at f)) (reading_round_with p.capacity other)) (gone_on p (line_at f))
+Completes p other f =
+    Next (replay p (link_of (line_at f)) (reading_round_with p.capacity other)) (gone_on p (line_at f))
+    × Harmless p (link_of (line_at f)) (reading_round_with p.capacity other)
 
 completed_at : (p : Parameters) (other label item : ℕ) (items : List ℕ) (deaf : Bool) (delivered : List ℕ) → 1 ≤ p.capacity
     → Completes p other (answered_line [] (label ∷ []) label label items item deaf delivered)
 completed_at p other label item items deaf delivered some =
-    let after : Fields = fields [] [] (next p label) (done (items ++ item ∷ [])) false label deaf delivered in
-    record {
-      after = after;
-      line = ap (λ n. record (line_at after) { acked = n }) (sym (length_push items item));
-      link =
-          round_acknowledges p some items item label delivered other
-          ∙ ap (λ n. record (link_of (line_at after)) { acked = n }) (sym (length_push items item));
-    }
+    let after : Fields = fields [] [] (next p label) (done (items ++ item ∷ [])) false label deaf delivered in (
+      record {
+        after = after;
+        line = ap (λ n. record (line_at after) { acked = n }) (sym (length_push items item));
+        link =
+            round_acknowledges p some items item label delivered other
+            ∙ ap (λ n. record (link_of (line_at after)) { acked = n }) (sym (length_push items item));
+      },
+      round_is_harmless p some items item label delivered other,
+    )
 
 completed_fields : (p : Parameters) (other : ℕ) (frames : List Frame) (acks : List ℕ) (label : ℕ) (work : Work) (shut : Bool) (taken : ℕ) (deaf : Bool)
     (delivered : List ℕ) → 1 ≤ p.capacity
@@ -202,6 +243,7 @@ module _ (p : Parameters) (t : SessionLink) (m n a : ℕ) (in_turn : InTurn t) (
 
   completed_then : (s : LinkState) → 1 ≤ p.capacity → Next s (line_of t)
       → Next (replay p s (reading_round_with p.capacity a)) (line_of (receives_ack p t m (Some a)))
+      × Harmless p s (reading_round_with p.capacity a)
   completed_then s some there =
       let f : Fields = there.after in
       let line : line_of t ≡ line_at f = there.line in
@@ -219,52 +261,65 @@ module _ (p : Parameters) (t : SessionLink) (m n a : ℕ) (in_turn : InTurn t) (
       (sym (ap (λ (l : Line). l.receiver.label) line) ∙ known ∙ label)
       (sym (ap (λ (l : Line). l.sender.closed) line) ∙ is_open)
       (ap (λ (l : Line). is_some l.sender.state.item) (sym line) ∙ holds)
-      in
-      record {
-        after = done_then.after;
-        line = goes_on_then ∙ ap (gone_on p) line ∙ done_then.line;
-        link = ap (λ u. replay p u (reading_round_with p.capacity a)) there.link ∙ done_then.link;
-      }
+      in (
+        record {
+          after = done_then.0.after;
+          line = goes_on_then ∙ ap (gone_on p) line ∙ done_then.0.line;
+          link = ap (λ u. replay p u (reading_round_with p.capacity a)) there.link ∙ done_then.0.link;
+        },
+        subst (λ u. Harmless p u (reading_round_with p.capacity a)) (sym there.link) done_then.1,
+      )
 
--- ---- any act
+-- ---- any act of a connection
 
 -- some events, where they lead, and how many reading rounds there are among them at least
-record Led (p : Parameters) (r : Reads) (s : LinkState) (l : Line) (rounds : ℕ) : Type 0 where
-  events : List Event
-  there : Next (replay p s events) l
-  some : rounds ≤ counted p.capacity r events
+pub record Led (p : Parameters) (r : Reads) (s : LinkState) (l : Line) (rounds : ℕ) : Type 0 where
+  pub events : List Event
+  pub there : Next (replay p s events) l
+  pub some : rounds ≤ counted p.capacity r events
+  pub harmless : Harmless p s events
 
-acts_led : (p : Parameters) (r : Reads) (acts : List LineAct) (s : LinkState) (l : Line) → Next s l → Led p r s (line_run p l acts) 0
-acts_led p r [] s l there = record { events = []; there = there; some = omega arith }
-acts_led p r (act ∷ acts) s l there =
+abbrev one_act : Parameters → Fields → LineAct → List Event
+one_act p f act = (stepped p f.frames f.acks f.label f.work f.shut f.taken f.deaf f.delivered act).events
+
+act_goes : (p : Parameters) (act : LineAct) (s : LinkState) (l : Line) (there : Next s l)
+    → Next (replay p s (one_act p there.after act)) (line_step p l act)
+act_goes p act s l there =
     let f : Fields = there.after in
     let one = stepped p f.frames f.acks f.label f.work f.shut f.taken f.deaf f.delivered act in
-    let there_then : Next (replay p s one.events) (line_step p l act) = record {
+    record {
       after = one.there.after;
       line = ap (λ (k : Line). line_step p k act) there.line ∙ one.there.line;
       link = ap (λ (u : LinkState). replay p u one.events) there.link ∙ one.there.link;
-    } in
-    let rest = acts_led p r acts (replay p s one.events) (line_step p l act) there_then in
+    }
+
+acts_led : (p : Parameters) (r : Reads) (acts : List LineAct) → NoOffers acts → (s : LinkState) (l : Line) → Next s l
+    → Led p r s (line_run p l acts) 0
+acts_led p r [] no_offers s l there = record { events = []; there = there; some = omega arith; harmless = tt }
+acts_led p r (act ∷ acts) no_offers s l there =
+    let f : Fields = there.after in
+    let events : List Event = one_act p f act in
+    let rest = acts_led p r acts no_offers.1 (replay p s events) (line_step p l act) (act_goes p act s l there) in
     record {
-      events = one.events ++ rest.events;
+      events = events ++ rest.events;
       there = record {
         after = rest.there.after;
         line = rest.there.line;
-        link = replay-append p s one.events rest.events ∙ rest.there.link;
+        link = replay-append p s events rest.events ∙ rest.there.link;
       };
       some = omega arith;
+      harmless =
+          harmless_append p s events rest.events
+          (plain_harmless p s events
+          (stepped_plain p f.frames f.acks f.label f.work f.shut f.taken f.deaf f.delivered act no_offers.0))
+          rest.harmless;
     }
 
-act_is_run : (p : Parameters) (t : SessionLink) (act : LinkAct) → 1 ≤ p.capacity → InTurn t
-    → (acts : List LineAct) × (line_run p (line_of t) acts ≡ line_of (link_step p t act))
-act_is_run p t (item_offered item) some in_turn = (offer_item item ∷ [], refl)
-act_is_run p t (happens act) some in_turn = let led = step_is_led p t act some in_turn in (led.acts, led.leads)
-
-act_led : (p : Parameters) (r : Reads) (t : SessionLink) (act : LinkAct) (s : LinkState) → 1 ≤ p.capacity → InTurn t → Next s (line_of t)
-    → Led p r s (line_of (link_step p t act)) 0
-act_led p r t act s some in_turn there =
-    let (acts, leads) = act_is_run p t act some in_turn in
-    subst (λ (l : Line). Led p r s l 0) leads (acts_led p r acts s (line_of t) there)
+pub connection_led : (p : Parameters) (r : Reads) (t : SessionLink) (act : ConnectionAct) (s : LinkState) → 1 ≤ p.capacity → InTurn t
+    → Next s (line_of t) → Led p r s (line_of (connection_step p t act)) 0
+connection_led p r t act s some in_turn there =
+    let led = step_is_led p t act some in_turn in
+    subst (λ (l : Line). Led p r s l 0) led.leads (acts_led p r led.acts led.no_offers s (line_of t) there)
 
 answer_led : (p : Parameters) (r : Reads) (t : SessionLink) (m n : ℕ) (s : LinkState) → 1 ≤ p.capacity → InTurn t → Kept Answers t n
     → t.sender.closed ≡ false → IsLeft p.capacity r → Next s (line_of t) → (front : Option ℕ) → slice_get (t.up m) 0 ≡ front
@@ -279,33 +334,57 @@ answer_led p r t m n s some in_turn kept is_open left there (Some a) is_front ot
     by_cases false same missing is = otherwise
     by_cases true false here other = otherwise
     by_cases true true here same =
+        let (goes, harmless) = completed_then p t m n a in_turn kept is_open is_front here same s some there in
         record {
           events = reading_round_with p.capacity a;
-          there = completed_then p t m n a in_turn kept is_open is_front here same s some there;
+          there = goes;
           some = whole_counts p.capacity a r left;
+          harmless = harmless;
         }
 
-exchange_led : (p : Parameters) (r : Reads) (t : SessionLink) (e : Exchange) (act : LinkAct) (s : LinkState) → 1 ≤ p.capacity → InTurn t → Underway e t
-    → t.sender.closed ≡ false → IsLeft p.capacity r → Next s (line_of t)
-    → Led p r s (line_of (link_step p t act)) (exchanged_by t e act)
-exchange_led p r t sending act s some in_turn underway is_open left there = act_led p r t act s some in_turn there
-exchange_led p r t (arrival n) act s some in_turn underway is_open left there = act_led p r t act s some in_turn there
-exchange_led p r t (answer n) (happens (ack_comes m)) s some in_turn underway is_open left there =
-    answer_led p r t m n s some in_turn underway is_open left there (slice_get (t.up m) 0) refl (act_led p r t (happens (ack_comes m)) s some in_turn there)
-exchange_led p r t (answer n) act s some in_turn underway is_open left there = act_led p r t act s some in_turn there
+pub exchange_led : (p : Parameters) (r : Reads) (t : SessionLink) (e : Exchange) (act : ConnectionAct) (s : LinkState) → 1 ≤ p.capacity
+    → InTurn t → Underway e t → t.sender.closed ≡ false → IsLeft p.capacity r → Next s (line_of t)
+    → Led p r s (line_of (connection_step p t act)) (exchanged_by t e (happens act))
+exchange_led p r t sending act s some in_turn underway is_open left there = connection_led p r t act s some in_turn there
+exchange_led p r t (arrival n) act s some in_turn underway is_open left there = connection_led p r t act s some in_turn there
+exchange_led p r t (answer n) (ack_comes m) s some in_turn underway is_open left there =
+    answer_led p r t m n s some in_turn underway is_open left there (slice_get (t.up m) 0) refl
+    (connection_led p r t (ack_comes m) s some in_turn there)
+exchange_led p r t (answer n) act s some in_turn underway is_open left there = connection_led p r t act s some in_turn there
+
+-- ---- any acts of a link
+
+-- the same, where items are offered
+record Goes (p : Parameters) (r : Reads) (s : LinkState) (l : Line) (rounds : ℕ) : Type 0 where
+  events : List Event
+  there : Next (replay p s events) l
+  some : rounds ≤ counted p.capacity r events
+
+step_goes : (p : Parameters) (r : Reads) (t : SessionLink) (e : Exchange) (act : LinkAct) (s : LinkState) → 1 ≤ p.capacity → InTurn t
+    → Underway e t → t.sender.closed ≡ false → IsLeft p.capacity r → Next s (line_of t)
+    → Goes p r s (line_of (link_step p t act)) (exchanged_by t e act)
+step_goes p r t e (happens act) s some in_turn underway is_open left there =
+    let led = exchange_led p r t e act s some in_turn underway is_open left there in
+    record { events = led.events; there = led.there; some = led.some }
+step_goes p r t sending (item_offered item) s some in_turn underway is_open left there =
+    record { events = one_act p there.after (offer_item item); there = act_goes p (offer_item item) s (line_of t) there; some = omega arith }
+step_goes p r t (arrival n) (item_offered item) s some in_turn underway is_open left there =
+    record { events = one_act p there.after (offer_item item); there = act_goes p (offer_item item) s (line_of t) there; some = omega arith }
+step_goes p r t (answer n) (item_offered item) s some in_turn underway is_open left there =
+    record { events = one_act p there.after (offer_item item); there = act_goes p (offer_item item) s (line_of t) there; some = omega arith }
 
 -- as many exchanges as are completed are as many reading rounds
-exchanges_led : (p : Parameters) (r : Reads) (t : SessionLink) (e : Exchange) (acts : List LinkAct) (s : LinkState) → 1 ≤ p.capacity → InTurn t
+run_goes : (p : Parameters) (r : Reads) (t : SessionLink) (e : Exchange) (acts : List LinkAct) (s : LinkState) → 1 ≤ p.capacity → InTurn t
     → Underway e t → (link_run p t acts).sender.closed ≡ false → IsLeft p.capacity r → Next s (line_of t)
-    → Led p r s (line_of (link_run p t acts)) (exchanges_from p t e acts)
-exchanges_led p r t e [] s some in_turn underway is_open left there = record { events = []; there = there; some = omega arith }
-exchanges_led p r t e (act ∷ acts) s some in_turn underway is_open left there =
+    → Goes p r s (line_of (link_run p t acts)) (exchanges_from p t e acts)
+run_goes p r t e [] s some in_turn underway is_open left there = record { events = []; there = there; some = omega arith }
+run_goes p r t e (act ∷ acts) s some in_turn underway is_open left there =
     let c : ℕ = p.capacity in
-    let first = exchange_led p r t e act s some in_turn underway (open_at_first p t (act ∷ acts) is_open) left there in
-    let after : Reads = reads_run c r first.events in
+    let first = step_goes p r t e act s some in_turn underway (open_at_first p t (act ∷ acts) is_open) left there in
+    let after : Reads = reads_over c r (map act_of first.events) in
     let rest =
-    exchanges_led p after (link_step p t act) (exchange_after t e act) acts (replay p s first.events) some (link_step_in_turn p t act in_turn)
-    (underway_step p t e act in_turn underway) is_open (left_run c r first.events left) first.there
+    run_goes p after (link_step p t act) (exchange_after t e act) acts (replay p s first.events) some (link_step_in_turn p t act in_turn)
+    (underway_step p t e act in_turn underway) is_open (left_over c r (map act_of first.events) left) first.there
     in
     record {
       events = first.events ++ rest.events;
@@ -337,7 +416,7 @@ pub completed_are_rounds : (p : Parameters) (t : SessionLink) (acts : List LinkA
 completed_are_rounds p t acts some in_turn is_open =
     let before : SessionLink = counted_anew t in
     let led =
-    exchanges_led p offer before sending acts (link_of (line_of before)) some in_turn tt is_open tt
+    run_goes p offer before sending acts (link_of (line_of before)) some in_turn tt is_open tt
     (anew (line_of t).frames (line_of t).acks t.sender.state.label t.sender.state.item t.sender.closed t.receiver)
     in
     (led.events, led.there.link ∙ ap link_of (sym led.there.line), led.some)

@@ -1,6 +1,7 @@
 -- How many reading rounds there are among events, where one after the other is added: a whole one
 -- counts, wherever it begins.
-use Rattle.std.proofs.Common.{◌≡◌, ℕ, zero, suc, ◌+◌, ◌≤◌, false, List, [], ◌∷◌, ◌++◌, map, replicate, arith}
+use Rattle.std.proofs.Common.{◌≡◌, ℕ, zero, suc, ◌+◌, ◌≤◌, false, List, [], ◌∷◌, ◌++◌, map, replicate, ap, ◌∙◌, arith}
+use Rattle.std.proofs.lemmas.List.{map-append}
 use Rattle.stab_core.specs.declared.act.LinkAct.{LinkAct}
 use Rattle.stab_core.specs.declared.act.LinkAct.TheVariants as act
 use Rattle.stab_core.specs.declared.event.Event.{Event}
@@ -27,23 +28,28 @@ left_after c ack (act.RecvAck false) few = tt
 left_after c ack (act.LoseAck place) few = omega arith
 left_after c r a few = few
 
--- what is awaited after these events
-abbrev pub reads_run : ℕ → Reads → List Event → Reads
-reads_run c r [] = r
-reads_run c r (e ∷ events) = reads_run c (reads_after c r (act_of e)) events
+-- what is awaited after these acts
+abbrev pub reads_over : ℕ → Reads → List LinkAct → Reads
+reads_over c r [] = r
+reads_over c r (a ∷ acts) = reads_over c (reads_after c r a) acts
 
-pub left_run : (c : ℕ) (r : Reads) (events : List Event) → IsLeft c r → IsLeft c (reads_run c r events)
-left_run c r [] few = few
-left_run c r (e ∷ events) few = left_run c (reads_after c r (act_of e)) events (left_after c r (act_of e) few)
+pub left_over : (c : ℕ) (r : Reads) (acts : List LinkAct) → IsLeft c r → IsLeft c (reads_over c r acts)
+left_over c r [] few = few
+left_over c r (a ∷ acts) few = left_over c (reads_after c r a) acts (left_after c r a few)
+
+pub reading_append : (c : ℕ) (r : Reads) (first second : List LinkAct)
+    → reading_from c r (first ++ second) ≡ reading_from c r first + reading_from c (reads_over c r first) second
+reading_append c r [] second = omega arith
+reading_append c r (a ∷ first) second = omega (arith, reading_append c (reads_after c r a) first second)
 
 -- the reading rounds among these events, where this is awaited first
 abbrev pub counted : ℕ → Reads → List Event → ℕ
 counted c r events = reading_from c r (map act_of events)
 
 pub counted_append : (c : ℕ) (r : Reads) (first second : List Event)
-    → counted c r (first ++ second) ≡ counted c r first + counted c (reads_run c r first) second
-counted_append c r [] second = omega arith
-counted_append c r (e ∷ first) second = omega (arith, counted_append c (reads_after c r (act_of e)) first second)
+    → counted c r (first ++ second) ≡ counted c r first + counted c (reads_over c r (map act_of first)) second
+counted_append c r first second =
+    ap (reading_from c r) (map-append act_of first second) ∙ reading_append c r (map act_of first) (map act_of second)
 
 -- ---- a whole round, from its end
 

@@ -15,6 +15,7 @@ use Rattle.stab_core.proofs.Replays.{replay-append}
 use Rattle.stab_core.proofs.LinkLaws.{replay_link_law}
 use Rattle.stab_treecore.proofs.Replayed.{ReplaysObey}
 use Rattle.stab_line.specs.Ends.{SenderEnd, ReceiverEnd, new_receiver}
+use Rattle.stab_line.specs.Edge.{is_offer}
 use Rattle.stab_line.specs.Line.{Line, LineAct, line_step, line_run, link_of, IsReplay, new_count, start_of, with_taken}
 use Rattle.stab_line.specs.Line.{offer_item, frame_sent, frame_comes, ack_sent, ack_comes, frame_lost, ack_lost, sender_closes, receiver_closes}
 
@@ -330,6 +331,38 @@ stepped p frames acks label work shut taken deaf delivered receiver_closes =
         link = refl;
       };
     }
+
+-- no event is an offer
+abbrev pub IsPlain : List Event → Type 0
+IsPlain [] = Unit {0}
+IsPlain (Offer item ∷ events) = ⊥
+IsPlain (e ∷ events) = IsPlain events
+
+-- and of an act that offers nothing no event is
+pub stepped_plain : (p : Parameters) (frames : List Frame) (acks : List ℕ) (label : ℕ) (work : Work) (shut : Bool) (taken : ℕ)
+    (deaf : Bool) (delivered : List ℕ) (act : LineAct) → is_offer act ≡ false
+    → IsPlain (stepped p frames acks label work shut taken deaf delivered act).events
+unfolding stepped frame_goes stays
+stepped_plain p frames acks label work shut taken deaf delivered (offer_item item) no_offer = absurd (true≢false no_offer)
+stepped_plain p frames acks label (done items) false taken deaf delivered frame_sent no_offer = tt
+stepped_plain p frames acks label (done items) true taken deaf delivered frame_sent no_offer = tt
+stepped_plain p frames acks label (waiting items held) true taken deaf delivered frame_sent no_offer = tt
+stepped_plain p frames acks label (waiting items held) false taken deaf delivered frame_sent no_offer = tt
+stepped_plain p [] acks label work shut taken deaf delivered (frame_comes repeated) no_offer = tt
+stepped_plain p (f ∷ frames) acks label work shut taken true delivered (frame_comes true) no_offer = tt
+stepped_plain p (f ∷ frames) acks label work shut taken true delivered (frame_comes false) no_offer = tt
+stepped_plain p (f ∷ frames) acks label work shut taken false delivered (frame_comes repeated) no_offer = tt
+stepped_plain p frames acks label work shut taken true delivered ack_sent no_offer = tt
+stepped_plain p frames acks label work shut taken false delivered ack_sent no_offer = tt
+stepped_plain p frames [] label work shut taken deaf delivered (ack_comes repeated) no_offer = tt
+stepped_plain p frames (a ∷ acks) label work true taken deaf delivered (ack_comes true) no_offer = tt
+stepped_plain p frames (a ∷ acks) label work true taken deaf delivered (ack_comes false) no_offer = tt
+stepped_plain p frames (a ∷ acks) label (done items) false taken deaf delivered (ack_comes repeated) no_offer = tt
+stepped_plain p frames (a ∷ acks) label (waiting items held) false taken deaf delivered (ack_comes repeated) no_offer = tt
+stepped_plain p frames acks label work shut taken deaf delivered (frame_lost place) no_offer = tt
+stepped_plain p frames acks label work shut taken deaf delivered (ack_lost place) no_offer = tt
+stepped_plain p frames acks label work shut taken deaf delivered sender_closes no_offer = tt
+stepped_plain p frames acks label work shut taken deaf delivered receiver_closes no_offer = tt
 
 -- so is every list of acts
 run_is_replay : (p : Parameters) (f : Fields) (acts : List LineAct)
