@@ -39,7 +39,7 @@ either_closed : (either : Bool) (t u v : SessionLink) → u.sender ≡ t.sender 
 either_closed true t u v first second is_open = sym (ap (λ (s : SenderEnd). s.closed) first) ∙ is_open
 either_closed false t u v first second is_open = sym (ap (λ (s : SenderEnd). s.closed) second) ∙ is_open
 
-open_before : (p : Parameters) (t : SessionLink) (act : LinkAct) → (link_step p t act).sender.closed ≡ false → t.sender.closed ≡ false
+pub open_before : (p : Parameters) (t : SessionLink) (act : LinkAct) → (link_step p t act).sender.closed ≡ false → t.sender.closed ≡ false
 open_before p t (item_offered item) is_open = offer_keeps_closed t.sender item t.sender.closed is_open
 open_before p t (happens (sender_makes m)) is_open = either_closed (is_unused (t.stage m)) t _ t refl refl is_open
 open_before p t (happens (receiver_makes m)) is_open = either_closed (is_unused (t.stage m)) t _ t refl refl is_open

@@ -2,3 +2,5 @@ pub mod Underway
 pub mod Counted
 pub mod WholeRounds
 pub mod RoundsOf
+pub mod TreesShown
+pub mod TreeRuns

@@ -282,7 +282,7 @@ pub record Led (p : Parameters) (r : Reads) (s : LinkState) (l : Line) (rounds :
 abbrev one_act : Parameters → Fields → LineAct → List Event
 one_act p f act = (stepped p f.frames f.acks f.label f.work f.shut f.taken f.deaf f.delivered act).events
 
-act_goes : (p : Parameters) (act : LineAct) (s : LinkState) (l : Line) (there : Next s l)
+pub act_goes : (p : Parameters) (act : LineAct) (s : LinkState) (l : Line) (there : Next s l)
     → Next (replay p s (one_act p there.after act)) (line_step p l act)
 act_goes p act s l there =
     let f : Fields = there.after in
