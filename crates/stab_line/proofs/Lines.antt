@@ -15,38 +15,39 @@ use Rattle.stab_core.proofs.Replays.{replay-append}
 use Rattle.stab_core.proofs.LinkLaws.{replay_link_law}
 use Rattle.stab_treecore.proofs.Replayed.{ReplaysObey}
 use Rattle.stab_line.specs.Ends.{SenderEnd, ReceiverEnd, new_receiver}
+use Rattle.stab_line.specs.Edge.{is_offer}
 use Rattle.stab_line.specs.Line.{Line, LineAct, line_step, line_run, link_of, IsReplay, new_count, start_of, with_taken}
 use Rattle.stab_line.specs.Line.{offer_item, frame_sent, frame_comes, ack_sent, ack_comes, frame_lost, ack_lost, sender_closes, receiver_closes}
 
 -- what a sender was offered: all of it is acknowledged, or all but the last item
-data Work : Type 0 where
+pub data Work : Type 0 where
   done : List ℕ → Work
   waiting : List ℕ → ℕ → Work
 
-abbrev item_of : Work → Option ℕ
+abbrev pub item_of : Work → Option ℕ
 item_of (done items) = None
 item_of (waiting items item) = Some item
 
-abbrev offered_of : Work → List ℕ
+abbrev pub offered_of : Work → List ℕ
 offered_of (done items) = items
 offered_of (waiting items item) = items ++ item ∷ []
 
-abbrev acked_of : Work → ℕ
+abbrev pub acked_of : Work → ℕ
 acked_of (done items) = length items
 acked_of (waiting items item) = length items
 
 -- the fields of a line that its acts can reach
-record Fields : Type 0 where
-  frames : List Frame
-  acks : List ℕ
-  label : ℕ
-  work : Work
-  shut : Bool
-  taken : ℕ
-  deaf : Bool
-  delivered : List ℕ
+pub record Fields : Type 0 where
+  pub frames : List Frame
+  pub acks : List ℕ
+  pub label : ℕ
+  pub work : Work
+  pub shut : Bool
+  pub taken : ℕ
+  pub deaf : Bool
+  pub delivered : List ℕ
 
-abbrev fields : List Frame → List ℕ → ℕ → Work → Bool → ℕ → Bool → List ℕ → Fields
+abbrev pub fields : List Frame → List ℕ → ℕ → Work → Bool → ℕ → Bool → List ℕ → Fields
 fields frames acks label work shut taken deaf delivered =
     record {
       frames = frames;
@@ -60,7 +61,7 @@ fields frames acks label work shut taken deaf delivered =
     }
 
 -- the line of these fields
-abbrev line_at : Fields → Line
+abbrev pub line_at : Fields → Line
 line_at f =
     record {
       frames = f.frames;
@@ -73,15 +74,15 @@ line_at f =
     }
 
 -- a line, and the link that it is
-record Next (s : LinkState) (l : Line) : Type 0 where
-  after : Fields
-  line : l ≡ line_at after
-  link : s ≡ link_of (line_at after)
+pub record Next (s : LinkState) (l : Line) : Type 0 where
+  pub after : Fields
+  pub line : l ≡ line_at after
+  pub link : s ≡ link_of (line_at after)
 
 -- the events of an act, and where they lead
-record Stepped (p : Parameters) (s : LinkState) (l : Line) : Type 0 where
-  events : List Event
-  there : Next (replay p s events) l
+pub record Stepped (p : Parameters) (s : LinkState) (l : Line) : Type 0 where
+  pub events : List Event
+  pub there : Next (replay p s events) l
 
 -- ---- numbers of items
 
@@ -212,7 +213,7 @@ stays : (p : Parameters) (f : Fields) → Stepped p (link_of (line_at f)) (line_
 stays p f = record { events = []; there = record { after = f; line = refl; link = refl } }
 
 -- each act is some events of the link
-stepped : (p : Parameters) (frames : List Frame) (acks : List ℕ) (label : ℕ) (work : Work) (shut : Bool) (taken : ℕ)
+pub stepped : (p : Parameters) (frames : List Frame) (acks : List ℕ) (label : ℕ) (work : Work) (shut : Bool) (taken : ℕ)
     (deaf : Bool) (delivered : List ℕ) (act : LineAct)
     → let before = fields frames acks label work shut taken deaf delivered in
     Stepped p (link_of (line_at before)) (line_step p (line_at before) act)
@@ -330,6 +331,38 @@ stepped p frames acks label work shut taken deaf delivered receiver_closes =
         link = refl;
       };
     }
+
+-- no event is an offer
+abbrev pub IsPlain : List Event → Type 0
+IsPlain [] = Unit {0}
+IsPlain (Offer item ∷ events) = ⊥
+IsPlain (e ∷ events) = IsPlain events
+
+-- and of an act that offers nothing no event is
+pub stepped_plain : (p : Parameters) (frames : List Frame) (acks : List ℕ) (label : ℕ) (work : Work) (shut : Bool) (taken : ℕ)
+    (deaf : Bool) (delivered : List ℕ) (act : LineAct) → is_offer act ≡ false
+    → IsPlain (stepped p frames acks label work shut taken deaf delivered act).events
+unfolding stepped frame_goes stays
+stepped_plain p frames acks label work shut taken deaf delivered (offer_item item) no_offer = absurd (true≢false no_offer)
+stepped_plain p frames acks label (done items) false taken deaf delivered frame_sent no_offer = tt
+stepped_plain p frames acks label (done items) true taken deaf delivered frame_sent no_offer = tt
+stepped_plain p frames acks label (waiting items held) true taken deaf delivered frame_sent no_offer = tt
+stepped_plain p frames acks label (waiting items held) false taken deaf delivered frame_sent no_offer = tt
+stepped_plain p [] acks label work shut taken deaf delivered (frame_comes repeated) no_offer = tt
+stepped_plain p (f ∷ frames) acks label work shut taken true delivered (frame_comes true) no_offer = tt
+stepped_plain p (f ∷ frames) acks label work shut taken true delivered (frame_comes false) no_offer = tt
+stepped_plain p (f ∷ frames) acks label work shut taken false delivered (frame_comes repeated) no_offer = tt
+stepped_plain p frames acks label work shut taken true delivered ack_sent no_offer = tt
+stepped_plain p frames acks label work shut taken false delivered ack_sent no_offer = tt
+stepped_plain p frames [] label work shut taken deaf delivered (ack_comes repeated) no_offer = tt
+stepped_plain p frames (a ∷ acks) label work true taken deaf delivered (ack_comes true) no_offer = tt
+stepped_plain p frames (a ∷ acks) label work true taken deaf delivered (ack_comes false) no_offer = tt
+stepped_plain p frames (a ∷ acks) label (done items) false taken deaf delivered (ack_comes repeated) no_offer = tt
+stepped_plain p frames (a ∷ acks) label (waiting items held) false taken deaf delivered (ack_comes repeated) no_offer = tt
+stepped_plain p frames acks label work shut taken deaf delivered (frame_lost place) no_offer = tt
+stepped_plain p frames acks label work shut taken deaf delivered (ack_lost place) no_offer = tt
+stepped_plain p frames acks label work shut taken deaf delivered sender_closes no_offer = tt
+stepped_plain p frames acks label work shut taken deaf delivered receiver_closes no_offer = tt
 
 -- so is every list of acts
 run_is_replay : (p : Parameters) (f : Fields) (acts : List LineAct)

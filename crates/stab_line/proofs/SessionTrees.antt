@@ -153,7 +153,7 @@ acts_in_turn p t child act None in_turn = in_turn
 acts_in_turn p t child act (Some parent) in_turn =
     put_in_turn t.links child (connection_step p (t.links child) act) in_turn (step_in_turn p (t.links child) act (in_turn child))
 
-tree_in_turn : (net : Network) (t : SessionTree) (act : TreeAct) → AllInTurn t → AllInTurn (tree_step net t act)
+pub tree_in_turn : (net : Network) (t : SessionTree) (act : TreeAct) → AllInTurn t → AllInTurn (tree_step net t act)
 tree_in_turn net t (publishes item) in_turn = in_turn
 tree_in_turn net t (polls child) in_turn =
     offers_in_turn (parameters_into net child) t child (slice_get (list_above net (nodes_of t) child) (t.counts child)) in_turn

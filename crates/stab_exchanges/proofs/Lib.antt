@@ -1,0 +1,6 @@
+pub mod Underway
+pub mod Counted
+pub mod WholeRounds
+pub mod RoundsOf
+pub mod TreesShown
+pub mod TreeRuns

@@ -1,0 +1,456 @@
+-- A tree over connections goes through changes of the tree of links that it is, with as many
+-- reading rounds of a path as parts in which each of its links completes an exchange.
+use Rattle.std.proofs.Common.{◌≡◌, ◌≢◌, ℕ, zero, suc, ◌+◌, ◌<◌, ◌≤◌, ◌==◌, ◌&&◌, not, Bool, true, false, if◌then◌else◌, List, [], ◌∷◌, ◌++◌, append-nil, length, slice_get, option_map, Some, None, Option, is_none, refl, sym, ◌∙◌, ap, subst, arith, eq-eqb, eqb-true, true≢false}
+use Rattle.std.specs.Option.{option_map_or}
+use Rattle.std.proofs.lemmas.List.{length_push}
+use Rattle.std.proofs.lemmas.Option.{none-some}
+use Rattle.stab_frames.specs.Parameters.{Parameters}
+use Rattle.stab_core.specs.declared.act.LinkAct.{LinkAct}
+use Rattle.stab_core.specs.declared.act.LinkAct.TheVariants as act
+use Rattle.stab_core.specs.declared.event.Event.TheVariants as event
+use Rattle.stab_core.specs.Link.{LinkValue, link_at}
+use Rattle.stab_core.specs.LinkActs.{event_of}
+use Rattle.stab_core.specs.LinkState.{LinkState}
+use Rattle.stab_tree.specs.Nodes.{parent_at}
+use Rattle.stab_tree.specs.Steps.{Reaches}
+use Rattle.stab_treecore.specs.declared.change.Change.{Change}
+use Rattle.stab_treecore.specs.declared.change.Change.TheVariants.{Act, Publish, Strike, Restart}
+use Rattle.stab_treecore.specs.declared.event.TreeEvent.{TreeEvent}
+use Rattle.stab_treecore.specs.Changes.{changes_replay}
+use Rattle.stab_treecore.specs.Hits.{Spare}
+use Rattle.stab_treecore.specs.Network.{Network}
+use Rattle.stab_treecore.specs.Since.{IsState, capacity_at}
+use Rattle.stab_treecore.specs.TreeStep.{tree_step as link_tree_step}
+use Rattle.stab_treecore.specs.WholeTree.{WholeTree, link_into, received}
+use Rattle.stab_treecore.proofs.Contained.{changes-append}
+use Rattle.stab_rounds.specs.Kinds.{reading}
+use Rattle.stab_rounds.specs.ReadingRounds.{Reads, offer, reading_from}
+use Rattle.stab_rounds.specs.TreePlayed.{act_on}
+use Rattle.stab_rounds.specs.TreeRounds.{acts_on}
+use Rattle.stab_rounds.proofs.Links.{after_event}
+use Rattle.stab_rounds.proofs.TreeSteps.{step_at, step_other}
+use Rattle.stab_convergence.specs.AtRest.{HasNoFault}
+use Rattle.stab_convergence.specs.PathRounds.{IsPathOpen, PathRounds, TakesAtMost, acts_among}
+use Rattle.stab_convergence.proofs.Acts.{acts-append}
+use Rattle.stab_line.specs.Ends.{SenderEnd, accepts}
+use Rattle.stab_line.specs.Line.{Line, held, line_step, link_of, offer_item, with_taken}
+use Rattle.stab_line.specs.NodeTree.{put, parameters_into, list_of, list_above}
+use Rattle.stab_line.specs.SessionLink.{SessionLink, ConnectionAct, InTurn, connection_step, link_step, item_offered, happens, line_of}
+use Rattle.stab_line.specs.SessionTree.{SessionTree, TreeAct, publishes, polls, at_link, tree_step, tree_run, nodes_of, offers, acts_at, AllInTurn}
+use Rattle.stab_line.proofs.Exchanges.{put_here}
+use Rattle.stab_line.proofs.Lines.{Fields, Next, Work, done, waiting, fields, line_at, item_of, offered_of, acked_of}
+use Rattle.stab_line.proofs.SessionTrees.{HaveRoom, tree_in_turn}
+use Rattle.stab_exchanges.specs.Exchanges.{Exchange, sending, arrival, answer, exchange_after}
+use Rattle.stab_exchanges.specs.TreeExchanges.{AllCounted, IsCounted, IsPathOfOpenSenders, PathExchanges, Shows, awaited_at, exchanges_at, link_shown}
+use Rattle.stab_exchanges.proofs.Counted.{open_before}
+use Rattle.stab_exchanges.proofs.RoundsOf.{act_goes}
+use Rattle.stab_exchanges.proofs.TreesShown.{Lifted, Ready, Went, at_link_went, own_next, publish_went, put_there, ready_one, received_is}
+use Rattle.stab_exchanges.proofs.Underway.{Underway, underway_step}
+use Rattle.stab_exchanges.proofs.WholeRounds.{IsLeft, left_over, reading_append, reads_over}
+
+-- ---- a child that is polled
+
+idle_work : (work : Work) → is_none (item_of work) ≡ true → length (offered_of work) ≡ acked_of work
+idle_work (done items) none = refl
+idle_work (waiting items item) none = absurd (true≢false (sym none))
+
+-- a sender that holds nothing was acknowledged all
+idle_line : (s : LinkState) (l : Line) → Next s l → is_none l.sender.state.item ≡ true → length l.offered ≡ l.acked
+idle_line s l there none =
+    ap (λ (k : Line). length k.offered) there.line
+    ∙ idle_work there.after.work (sym (ap (λ (k : Line). is_none k.sender.state.item) there.line) ∙ none)
+    ∙ sym (ap (λ (k : Line). k.acked) there.line)
+
+holds_none : (closed : Bool) (item : Option ℕ) → (not closed && is_none item) ≡ true → is_none item ≡ true
+holds_none true item takes = absurd (true≢false (sym takes))
+holds_none false item takes = takes
+
+module _ (net : Network) (t : SessionTree) (s : WholeTree) (child parent item : ℕ) (is_child : parent_at net.tree.parents child ≡ Some parent)
+    (ready : Ready net t s) (is_next : slice_get (list_above net (nodes_of t) child) (t.counts child) ≡ Some item) where
+  abbrev its : Parameters
+  its = parameters_into net child
+
+  abbrev old : SessionLink
+  old = t.links child
+
+  abbrev state : LinkState
+  state = link_of (line_of old)
+
+  -- the link after an offer that is taken, or not
+  abbrev offered_as : Bool → SessionLink
+  offered_as takes =
+      record old {
+        sender =
+            if takes
+            then record { state = record { label = old.sender.state.label; item = Some item }; closed = false }
+            else old.sender;
+        offered = with_taken takes old.offered item;
+      }
+
+  abbrev counts_as : Bool → ℕ
+  counts_as takes = if takes then t.counts child + 1 else t.counts child
+
+  abbrev new : SessionLink
+  new = link_step its old (item_offered item)
+
+  there : link_into s child ≡ Some (link_at its state)
+  there = ready.shows.links child ∙ ap (option_map (link_shown net t child)) is_child
+
+  its_item : slice_get (received s parent) (length old.offered) ≡ Some item
+  its_item =
+      ap (λ xs. slice_get xs (length old.offered)) (received_is net t s parent ready.shows)
+      ∙ ap (λ k. slice_get (list_of net (nodes_of t) parent) k) (sym (ready.counts child parent is_child))
+      ∙ ap (λ o. slice_get (option_map_or (list_of net (nodes_of t)) o []) (t.counts child)) (sym is_child)
+      ∙ is_next
+
+  -- the tree of links offers the same item
+  taken : accepts old.sender ≡ true → Lifted s child its (link_of (line_of new)) (link_tree_step s (act_on child act.Offer))
+  taken takes = (
+    step_at s (act_on child act.Offer) child parent its state (ap (λ ps. parent_at ps child) ready.shows.parents ∙ is_child) there refl
+        ∙ ap (λ o. Some (link_at its (after_event its state (event_of act.Offer o)))) its_item
+        ∙ ap (λ (idle : Bool). Some (link_at its (if idle then record state { offered = old.offered ++ item ∷ [] } else state)))
+        (eq-eqb (length old.offered) old.acked
+        (idle_line state (line_of old) (ready.next child parent is_child) (holds_none old.sender.closed old.sender.state.item takes)))
+        ∙ ap (λ (is : Bool). Some (link_at its (link_of (line_of (offered_as is))))) (sym takes),
+    λ v other. step_other s (act_on child act.Offer) v other,
+    refl,
+    refl,
+    refl,
+  )
+
+  refused : accepts old.sender ≡ false → Lifted s child its (link_of (line_of new)) s
+  refused refuses = (
+    there ∙ ap (λ (is : Bool). Some (link_at its (link_of (line_of (offered_as is))))) (sym refuses),
+    λ v other. refl,
+    refl,
+    refl,
+    refl,
+  )
+
+  counted : (takes : Bool) → counts_as takes ≡ length (offered_as takes).offered
+  counted true = omega (arith, ready.counts child parent is_child, length_push old.offered item)
+  counted false = ready.counts child parent is_child
+
+  abbrev counts : ℕ → ℕ
+  counts = put t.counts child (counts_as (accepts old.sender))
+
+  polled_ready : (s_after : WholeTree) → AllInTurn (record t { counts = counts; links = put t.links child new })
+      → Lifted s child its (link_of (line_of new)) s_after → Ready net (record t { counts = counts; links = put t.links child new }) s_after
+  polled_ready s_after in_turn leads =
+      ready_one net t s s_after child parent new counts is_child ready leads in_turn
+      (own_next _ (line_of new) (act_goes its (offer_item item) state (line_of old) (ready.next child parent is_child)))
+      (put_here t.counts child (counts_as (accepts old.sender)) ∙ counted (accepts old.sender))
+      (λ w other. put_there t.counts child w (counts_as (accepts old.sender)) other)
+
+  polled_one : AllInTurn (record t { counts = counts; links = put t.links child new }) → (takes : Bool) → accepts old.sender ≡ takes
+      → (changes : List Change) × HasNoFault changes
+      × Ready net (record t { counts = counts; links = put t.links child new }) (changes_replay s changes)
+  polled_one in_turn true takes =
+      (Act (act_on child act.Offer) ∷ [], tt, polled_ready (link_tree_step s (act_on child act.Offer)) in_turn (taken takes))
+  polled_one in_turn false refuses = ([], tt, polled_ready s in_turn (refused refuses))
+
+poll_went : (net : Network) (t : SessionTree) (s : WholeTree) (child : ℕ) → Ready net t s → (next : Option ℕ)
+    → slice_get (list_above net (nodes_of t) child) (t.counts child) ≡ next → AllInTurn (offers (parameters_into net child) t child next)
+    → (changes : List Change) × HasNoFault changes
+    × Ready net (offers (parameters_into net child) t child next) (changes_replay s changes)
+poll_went net t s child ready None is_next in_turn = ([], tt, ready)
+poll_went net t s child ready (Some item) is_next in_turn = by_parent (parent_at net.tree.parents child) refl
+  where
+    by_parent : (up : Option ℕ) → parent_at net.tree.parents child ≡ up
+        → (changes : List Change) × HasNoFault changes
+        × Ready net (offers (parameters_into net child) t child (Some item)) (changes_replay s changes)
+    by_parent None is_root =
+        absurd (none-some item (sym (ap (λ o. slice_get (option_map_or (list_of net (nodes_of t)) o []) (t.counts child)) is_root) ∙ is_next))
+    by_parent (Some parent) is_child =
+        polled_one net t s child parent item is_child ready is_next in_turn (accepts (t.links child).sender) refl
+
+-- ---- any act of the tree
+
+-- what is known of each link with a parent
+abbrev Known : Network → SessionTree → (ℕ → Exchange) → (ℕ → Reads) → Type 0
+Known net t e r =
+    (w up : ℕ) → parent_at net.tree.parents w ≡ Some up → Underway (e w) (t.links w) × IsLeft (parameters_into net w).capacity (r w)
+
+went : (net : Network) (t : SessionTree) (s : WholeTree) (a : TreeAct) (e : ℕ → Exchange) (r : ℕ → Reads) → HaveRoom net → Ready net t s
+    → Known net t e r → Went net t s a e r
+went net t s (publishes item) e r room ready known = publish_went net t s item e r ready
+went net t s (polls child) e r room ready known =
+    let (changes, no_fault, after) =
+    poll_went net t s child ready (slice_get (list_above net (nodes_of t) child) (t.counts child)) refl
+    (tree_in_turn net t (polls child) ready.in_turn)
+    in
+    record { changes = changes; no_fault = no_fault; ready = after; some = λ w parent is_child is_open. omega arith }
+went net t s (at_link child a) e r room ready known =
+    let in_turn = tree_in_turn net t (at_link child a) ready.in_turn in
+    let (changes, no_fault, after, some) =
+    at_link_went net t s child a e r room ready known in_turn (parent_at net.tree.parents child) refl in_turn
+    in
+    record { changes = changes; no_fault = no_fault; ready = after; some = some }
+
+-- an offer leaves what an exchange waits for
+offered_waits : (t : SessionLink) (e : Exchange) (item : ℕ) → exchange_after t e (item_offered item) ≡ e
+offered_waits t sending item = refl
+offered_waits t (arrival n) item = refl
+offered_waits t (answer n) item = refl
+
+module _ (net : Network) (t : SessionTree) (w up : ℕ) (e : Exchange) (is_child : parent_at net.tree.parents w ≡ Some up) (in_turn : AllInTurn t)
+    (underway : Underway e (t.links w)) where
+  polled_underway : (child : ℕ) (next : Option ℕ) → Underway e ((offers (parameters_into net child) t child next).links w)
+  polled_underway child None = underway
+  polled_underway child (Some item) = by_same (w == child) refl
+    where
+      by_same : (same : Bool) → (w == child) ≡ same
+          → Underway e (if same then link_step (parameters_into net child) (t.links child) (item_offered item) else t.links w)
+      by_same true same =
+          subst (λ f. Underway f (link_step (parameters_into net child) (t.links child) (item_offered item))) (offered_waits (t.links child) e item)
+          (underway_step (parameters_into net child) (t.links child) e (item_offered item) (in_turn child)
+          (subst (λ v. Underway e (t.links v)) (eqb-true w child same) underway))
+      by_same false other = underway
+
+  acted_underway : (child : ℕ) (a : ConnectionAct) (above : Option ℕ) → parent_at net.tree.parents child ≡ above
+      → Underway (awaited_at t w e (at_link child a)) ((acts_at (parameters_into net child) t child a above).links w)
+  acted_underway child a None is_root = by_same (w == child) refl
+    where
+      by_same : (same : Bool) → (w == child) ≡ same
+          → Underway (if same then exchange_after (t.links w) e (happens a) else e) (t.links w)
+      by_same true same = absurd (none-some up (sym is_root ∙ ap (parent_at net.tree.parents) (sym (eqb-true w child same)) ∙ is_child))
+      by_same false other = underway
+  acted_underway child a (Some parent) is_there = by_same (w == child) refl
+    where
+      by_same : (same : Bool) → (w == child) ≡ same
+          → Underway (if same then exchange_after (t.links w) e (happens a) else e)
+          (if same then connection_step (parameters_into net child) (t.links child) a else t.links w)
+      by_same true same =
+          subst (λ v. Underway (exchange_after (t.links v) e (happens a)) (connection_step (parameters_into net child) (t.links child) a))
+          (sym (eqb-true w child same))
+          (underway_step (parameters_into net child) (t.links child) e (happens a) (in_turn child)
+          (subst (λ v. Underway e (t.links v)) (eqb-true w child same) underway))
+      by_same false other = underway
+
+  tree_underway : (a : TreeAct) → Underway (awaited_at t w e a) ((tree_step net t a).links w)
+  tree_underway (publishes item) = underway
+  tree_underway (polls child) = polled_underway child (slice_get (list_above net (nodes_of t) child) (t.counts child))
+  tree_underway (at_link child a) = acted_underway child a (parent_at net.tree.parents child) refl
+
+-- ---- a closed sender stays closed
+
+put_open : (links : ℕ → SessionLink) (child w : ℕ) (link : SessionLink)
+    → (link.sender.closed ≡ false → (links child).sender.closed ≡ false) → (put links child link w).sender.closed ≡ false
+    → (links w).sender.closed ≡ false
+put_open links child w link before is_open = by_same (w == child) refl is_open
+  where
+    by_same : (same : Bool) → (w == child) ≡ same → (if same then link else links w).sender.closed ≡ false
+        → (links w).sender.closed ≡ false
+    by_same true same is_open = subst (λ v. (links v).sender.closed ≡ false) (sym (eqb-true w child same)) (before is_open)
+    by_same false other is_open = is_open
+
+polled_open : (p : Parameters) (t : SessionTree) (child w : ℕ) (next : Option ℕ) → ((offers p t child next).links w).sender.closed ≡ false
+    → (t.links w).sender.closed ≡ false
+polled_open p t child w None is_open = is_open
+polled_open p t child w (Some item) is_open =
+    put_open t.links child w (link_step p (t.links child) (item_offered item)) (open_before p (t.links child) (item_offered item)) is_open
+
+acted_open : (p : Parameters) (t : SessionTree) (child w : ℕ) (a : ConnectionAct) (up : Option ℕ)
+    → ((acts_at p t child a up).links w).sender.closed ≡ false → (t.links w).sender.closed ≡ false
+acted_open p t child w a None is_open = is_open
+acted_open p t child w a (Some parent) is_open =
+    put_open t.links child w (connection_step p (t.links child) a) (open_before p (t.links child) (happens a)) is_open
+
+tree_open : (net : Network) (t : SessionTree) (a : TreeAct) (w : ℕ) → ((tree_step net t a).links w).sender.closed ≡ false
+    → (t.links w).sender.closed ≡ false
+tree_open net t (publishes item) w is_open = is_open
+tree_open net t (polls child) w is_open =
+    polled_open (parameters_into net child) t child w (slice_get (list_above net (nodes_of t) child) (t.counts child)) is_open
+tree_open net t (at_link child a) w is_open =
+    acted_open (parameters_into net child) t child w a (parent_at net.tree.parents child) is_open
+
+run_open : (net : Network) (t : SessionTree) (acts : List TreeAct) (w : ℕ) → ((tree_run net t acts).links w).sender.closed ≡ false
+    → (t.links w).sender.closed ≡ false
+run_open net t [] w is_open = is_open
+run_open net t (a ∷ acts) w is_open = tree_open net t a w (run_open net (tree_step net t a) acts w is_open)
+
+-- ---- acts, one after the other
+
+acts_on_append : (w : ℕ) (first second : List TreeEvent) → acts_on w (first ++ second) ≡ acts_on w first ++ acts_on w second
+acts_on_append w [] second = refl
+acts_on_append w (e ∷ first) second = by_same (e.child == w) (acts_on_append w first second)
+  where
+    by_same : (same : Bool) → acts_on w (first ++ second) ≡ acts_on w first ++ acts_on w second
+        → (if same then e.act ∷ acts_on w (first ++ second) else acts_on w (first ++ second))
+        ≡ (if same then e.act ∷ acts_on w first else acts_on w first) ++ acts_on w second
+    by_same true rest = ap (λ acts. e.act ∷ acts) rest
+    by_same false rest = rest
+
+no_fault_append : (first second : List Change) → HasNoFault first → HasNoFault second → HasNoFault (first ++ second)
+no_fault_append [] second before after = after
+no_fault_append (Act e ∷ first) second before after = no_fault_append first second before after
+no_fault_append (Publish items ∷ first) second before after = no_fault_append first second before after
+no_fault_append (Strike child start ∷ first) second before after = absurd before
+no_fault_append (Restart node list ∷ first) second before after = absurd before
+
+-- the reading rounds among changes, one after the other
+rounds_append : (c w : ℕ) (r : Reads) (first second : List Change)
+    → reading_from c r (acts_on w (acts_among (first ++ second)))
+    ≡ reading_from c r (acts_on w (acts_among first)) + reading_from c (reads_over c r (acts_on w (acts_among first))) (acts_on w (acts_among second))
+rounds_append c w r first second =
+    ap (λ events. reading_from c r (acts_on w events)) (acts-append first second)
+    ∙ ap (reading_from c r) (acts_on_append w (acts_among first) (acts_among second))
+    ∙ reading_append c r (acts_on w (acts_among first)) (acts_on w (acts_among second))
+
+record Ran (net : Network) (t : SessionTree) (s : WholeTree) (acts : List TreeAct) (e : ℕ → Exchange) (r : ℕ → Reads) : Type 0 where
+  changes : List Change
+  no_fault : HasNoFault changes
+  ready : Ready net (tree_run net t acts) (changes_replay s changes)
+  some : (w up : ℕ) → parent_at net.tree.parents w ≡ Some up → ((tree_run net t acts).links w).sender.closed ≡ false
+      → exchanges_at net t w (e w) acts ≤ reading_from (parameters_into net w).capacity (r w) (acts_on w (acts_among changes))
+
+ran : (net : Network) (t : SessionTree) (s : WholeTree) (acts : List TreeAct) (e : ℕ → Exchange) (r : ℕ → Reads) → HaveRoom net → Ready net t s
+    → Known net t e r → Ran net t s acts e r
+ran net t s [] e r room ready known =
+    record { changes = []; no_fault = tt; ready = ready; some = λ w up is_child is_open. omega arith }
+ran net t s (a ∷ acts) e r room ready known =
+    let one = went net t s a e r room ready known in
+    let first : List Change = one.changes in
+    let rest =
+    ran net (tree_step net t a) (changes_replay s first) acts (λ w. awaited_at t w (e w) a)
+    (λ w. reads_over (parameters_into net w).capacity (r w) (acts_on w (acts_among first))) room one.ready
+    (λ w up is_child.
+    let (underway, left) = known w up is_child in (
+      tree_underway net t w up (e w) is_child ready.in_turn underway a,
+      left_over (parameters_into net w).capacity (r w) (acts_on w (acts_among first)) left,
+    ))
+    in
+    record {
+      changes = first ++ rest.changes;
+      no_fault = no_fault_append first rest.changes one.no_fault rest.no_fault;
+      ready = subst (λ (u : WholeTree). Ready net (tree_run net (tree_step net t a) acts) u) (sym (changes-append s first rest.changes)) rest.ready;
+      some =
+          λ w up is_child is_open.
+          let before = one.some w up is_child (run_open net (tree_step net t a) acts w is_open) in
+          let after = rest.some w up is_child is_open in
+          omega (arith, before, after, rounds_append (parameters_into net w).capacity w (r w) first rest.changes);
+    }
+
+-- ---- a path
+
+tree_run_append : (net : Network) (t : SessionTree) (first second : List TreeAct)
+    → tree_run net t (first ++ second) ≡ tree_run net (tree_run net t first) second
+tree_run_append net t [] second = refl
+tree_run_append net t (a ∷ first) second = tree_run_append net (tree_step net t a) first second
+
+-- the rounds of the path are counted in the tree of links as it was at first
+module _ (net : Network) (s0 : WholeTree) (node : ℕ) (same_parents : s0.parents ≡ net.tree.parents)
+    (same_capacity : (w up : ℕ) → parent_at net.tree.parents w ≡ Some up → capacity_at s0 w ≡ (parameters_into net w).capacity)
+    (room : HaveRoom net) where
+  path_rounds : (t : SessionTree) (s : WholeTree) (rounds : ℕ) (acts : List TreeAct) → Ready net t s → PathExchanges net t node rounds acts
+      → IsPathOfOpenSenders net (tree_run net t acts) node
+      → (changes : List Change) × HasNoFault changes × Ready net (tree_run net t acts) (changes_replay s changes)
+      × PathRounds reading s0 node rounds changes
+  path_rounds t s zero acts ready are_exchanges are_open =
+      let all = ran net t s acts (λ w. sending) (λ w. offer) room ready (λ w up is_child. (tt, tt)) in
+      (all.changes, all.no_fault, all.ready, tt)
+  path_rounds t s (suc rounds) acts ready (part, rest, parts, each, more) are_open =
+      let end : tree_run net t acts ≡ tree_run net (tree_run net t part) rest =
+      ap (tree_run net t) parts ∙ tree_run_append net t part rest
+      in
+      let one = ran net t s part (λ w. sending) (λ w. offer) room ready (λ w up is_child. (tt, tt)) in
+      let still_open : IsPathOfOpenSenders net (tree_run net (tree_run net t part) rest) node =
+      subst (λ (u : SessionTree). IsPathOfOpenSenders net u node) end are_open
+      in
+      let (changes, no_fault, after, are_rounds) =
+      path_rounds (tree_run net t part) (changes_replay s one.changes) rounds rest one.ready more still_open
+      in (
+        one.changes ++ changes,
+        no_fault_append one.changes changes one.no_fault no_fault,
+        subst (λ (u : WholeTree). Ready net (tree_run net t acts) u) (sym (changes-append s one.changes changes))
+            (subst (λ (u : SessionTree). Ready net u (changes_replay (changes_replay s one.changes) changes)) (sym end) after),
+        (
+          one.changes,
+          changes,
+          refl,
+          λ w up reaches is_child.
+              let there : parent_at net.tree.parents w ≡ Some up = ap (λ ps. parent_at ps w) (sym same_parents) ∙ is_child in
+              let reached : Reaches net.tree.parents node w = subst (λ ps. Reaches ps node w) same_parents reaches in
+              let few = each w up reached there in
+              let some = one.some w up there (run_open net (tree_run net t part) rest w (still_open w up reached there)) in
+              subst (λ c. 1 ≤ reading_from c offer (acts_on w (acts_among one.changes))) (sym (same_capacity w up there)) (omega (arith, few, some)),
+          are_rounds,
+        ),
+      )
+
+-- ---- from the state of a tree
+
+counted_next : (t : SessionLink) → IsCounted t → (item : Option ℕ) → t.sender.state.item ≡ item → Next (link_of (line_of t)) (line_of t)
+counted_next t (front, offered, acked) item is = by_item item is
+  where
+    shape : Option ℕ → List ℕ → ℕ → Line
+    shape i items n =
+        record (line_of t) { sender = record t.sender { state = record t.sender.state { item = i } }; offered = items; acked = n }
+
+    whole : Work → Fields
+    whole work =
+        fields (line_of t).frames (line_of t).acks t.sender.state.label work t.sender.closed t.receiver.label t.receiver.closed t.delivered
+
+    of_line : (work : Work) → line_of t ≡ line_at (whole work) → Next (link_of (line_of t)) (line_of t)
+    of_line work line = record { after = whole work; line = line; link = ap link_of line }
+
+    by_item : (item : Option ℕ) → t.sender.state.item ≡ item → Next (link_of (line_of t)) (line_of t)
+    by_item None is =
+        of_line (done front)
+        (ap (λ (i : Option ℕ). shape i t.offered t.acked) is
+        ∙ ap (λ (items : List ℕ). shape None items t.acked) (offered ∙ ap (λ i. front ++ held i) is ∙ append-nil front)
+        ∙ ap (λ (n : ℕ). shape None front n) acked)
+    by_item (Some x) is =
+        of_line (waiting front x)
+        (ap (λ (i : Option ℕ). shape i t.offered t.acked) is
+        ∙ ap (λ (items : List ℕ). shape (Some x) items t.acked) (offered ∙ ap (λ i. front ++ held i) is)
+        ∙ ap (λ (n : ℕ). shape (Some x) (front ++ x ∷ []) n) acked)
+
+all_ready : (net : Network) (t : SessionTree) (s : WholeTree) → Shows net t s → AllInTurn t → AllCounted net t → Ready net t s
+all_ready net t s shows in_turn counted =
+    record {
+      shows = shows;
+      in_turn = in_turn;
+      next = λ w up is_child. counted_next (t.links w) (counted w up is_child).0 (t.links w).sender.state.item refl;
+      counts = λ w up is_child. (counted w up is_child).1;
+    }
+
+link_there : (net : Network) (t : SessionTree) (s : WholeTree) (w up : ℕ) → Shows net t s → parent_at net.tree.parents w ≡ Some up
+    → link_into s w ≡ Some (link_shown net t w up)
+link_there net t s w up shows is_child = shows.links w ∙ ap (option_map (link_shown net t w)) is_child
+
+pub exchanges_are_rounds : (net : Network) (t : SessionTree) (s : WholeTree) (acts : List TreeAct) (node rounds : ℕ)
+    → IsState net.tree s → Shows net t s → AllInTurn t → AllCounted net t → PathExchanges net t node rounds acts
+    → IsPathOfOpenSenders net (tree_run net t acts) node
+    → (changes : List Change) × HasNoFault changes × Shows net (tree_run net t acts) (changes_replay s changes)
+    × PathRounds reading s node rounds changes
+exchanges_are_rounds net t s acts node rounds is_state shows in_turn counted are_exchanges are_open =
+    let there : (w up : ℕ) → parent_at net.tree.parents w ≡ Some up → link_into s w ≡ Some (link_shown net t w up) =
+    λ w up is_child. link_there net t s w up shows is_child
+    in
+    let (changes, no_fault, after, are_rounds) =
+    path_rounds net s node shows.parents
+    (λ w up is_child. ap {B = ℕ} (λ o. option_map_or (λ (link : LinkValue). link.params.capacity) o 0) (there w up is_child))
+    (λ w up is_child. (is_state.bounded w (link_shown net t w up) (there w up is_child)).0.some_capacity)
+    t s rounds acts (all_ready net t s shows in_turn counted) are_exchanges are_open
+    in
+    (changes, no_fault, after.shows, are_rounds)
+
+-- what convergence asks for besides
+pub spares_all : (parents : List (Option ℕ)) (node : ℕ) (changes : List Change) → HasNoFault changes → Spare parents node changes
+spares_all parents node [] no_fault = tt
+spares_all parents node (Act e ∷ changes) no_fault = ((λ hit. hit), spares_all parents node changes no_fault)
+spares_all parents node (Publish items ∷ changes) no_fault = ((λ hit. hit), spares_all parents node changes no_fault)
+spares_all parents node (Strike child start ∷ changes) no_fault = absurd no_fault
+spares_all parents node (Restart other list ∷ changes) no_fault = absurd no_fault
+
+pub shown_is_open : (net : Network) (t : SessionTree) (s : WholeTree) (node : ℕ) → Shows net t s → IsPathOpen s node
+shown_is_open net t s node shows w link reaches there =
+    ap (λ o. option_map_or (λ (l : LinkValue). l.state.closed) o false) (sym there ∙ shows.links w) ∙ by_parent (parent_at net.tree.parents w)
+  where
+    by_parent : (up : Option ℕ) → option_map_or (λ (l : LinkValue). l.state.closed) (option_map (link_shown net t w) up) false ≡ false
+    by_parent None = refl
+    by_parent (Some parent) = refl
+
+pub one_is_enough : (s : WholeTree) (node : ℕ) → TakesAtMost reading 1 s node
+one_is_enough s node w up reaches is_child = omega arith
