@@ -6,6 +6,9 @@ mod Waiting
 mod Above
 mod AheadOfHeard
 mod Quarters
+mod NotBehind
+mod Reported
+mod GoneAbove
 mod Runs
 pub mod ForCallers
 mod Steps

@@ -45,6 +45,8 @@ pub mod parent_examples;
 pub mod parent_laws;
 mod publisher;
 mod reading;
+pub mod report_examples;
+pub mod report_laws;
 pub mod root_examples;
 pub mod root_laws;
 mod summing;
