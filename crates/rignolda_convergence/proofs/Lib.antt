@@ -1,2 +1,5 @@
 pub mod Complete
 pub mod Near
+pub mod Grows
+pub mod Shifted
+pub mod Above

@@ -1,1 +1,2 @@
 pub mod AgentTrees
+pub mod Reported

@@ -1,0 +1,49 @@
+//! The law of settings, where the root heard what an agent reports. It is a function with an empty
+//! body; its contract is the law.
+
+ghost use Rattle.std.specs.Prelude.{◌≡◌, ◌≤◌, ℕ, List, ◌++◌, length, map, Some};
+ghost use mathlib.Core.List.{IsPrefix};
+ghost use Rattle.stab_tree.specs.Nodes.{Nodes, root_of};
+ghost use Rattle.stab_treecore.specs.declared.change.Change.{Change};
+ghost use Rattle.stab_treecore.specs.Changes.{changes_replay};
+ghost use Rattle.stab_treecore.specs.Since.{gained, moment};
+ghost use Rattle.stab_rounds.specs.Kinds.{Kind};
+ghost use Rattle.stab_convergence.specs.Meanwhile.{IsEnough};
+ghost use Rattle.rignolda_agent.specs.BodySpelling.{Body};
+ghost use Rattle.rignolda_agent.specs.Agents.{Settings, tell_all};
+ghost use Rattle.rignolda_agent.specs.Items.{Reading};
+ghost use Rattle.rignolda_agent.specs.Rounds.{Rise};
+ghost use Rattle.rignolda_convergence.specs.AgentTrees.{AgentTree, FaultsEnd, agents_replay};
+ghost use Rattle.rignolda_convergence.specs.Reported.{AreAllNearSince, HasATableAbove};
+ghost use Rattle.rignolda_convergence.specs.Reported.{there_since};
+
+/// Agents come to the root's settings by what they report. From any state of links, lists and
+/// agents, with all numbers within half of the circle: let an agent report its numbers once it has
+/// received as many items as there were for it, the root hear that twice, among any other reports,
+/// and publish a whole table. Once faults have ended and after enough rounds of the agent's path,
+/// its settings are exactly what the root's were after the last item that the agent has, whatever
+/// it remembered, and whatever was in links and lists.
+pub fn agents_come_to_the_roots_settings_by_reports()
+    ensures { (reading : Reading) (kind : Kind) (each : ℕ) (tree : Nodes) (start : AgentTree)
+        (early late after later : List Change) (node low : ℕ) (bodies : List Body)
+        (at_root : Settings)
+        → let before = early ++ late in
+        FaultsEnd kind each tree start.tree before after later node
+        → let s = start.tree in
+        let reporting = agents_replay reading start early in
+        let m = changes_replay s before in
+        AreAllNearSince reading low s m node (start.agents node)
+        → there_since (moment s) node ≤ length (gained s reporting.tree node)
+        → (above : HasATableAbove reading low s m node (reporting.agents node).taker bodies)
+        → IsEnough s m node
+        → let end = agents_replay reading start (before ++ (after ++ later)) in
+        (items : List ℕ) × IsPrefix items (gained m end.tree (root_of end.tree.parents))
+        × ((since : List Body) → map reading items ≡ map Some since
+        → Rise above.table.body.number (above.more ++ since)
+        → (end.agents node).files ≡ tell_all at_root (bodies ++ since)) }
+{
+    stab_treecore::change_laws::tree_law_from_any_state();
+    stab_convergence::laws::nodes_converge();
+    rignolda_agent::laws::two_rounds_bring_the_roots_settings();
+    rignolda_agent::report_laws::a_table_is_above_what_was_heard_before_a_report();
+}
