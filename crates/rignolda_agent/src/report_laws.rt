@@ -32,8 +32,9 @@ pub fn no_number_that_was_heard_is_ahead()
         × (place low end.number ≤ place low end.floor) × NoneAhead low end.floor history }
 {}
 
-/// What an agent reports is ahead of neither number of its own, nor behind it, nor behind what
-/// agents below it report; so one report, as it is handed on, speaks for all of them.
+/// What an agent reports is behind neither of its numbers, and behind nothing that agents below it
+/// report. So one report, as it is handed on, speaks for all of them. Of an agent that took nothing
+/// since it started nothing is said: it has no number to count from.
 pub fn reports_speak_for_all_below()
     ensures { (low : ℕ) (taker : Taker) (below : List ℕ)
         → low < circle → IsNear low taker.number → 0 < taker.number → IsNear low taker.floor

@@ -3,3 +3,4 @@ pub mod Near
 pub mod Grows
 pub mod Shifted
 pub mod Above
+pub mod TwoNodes

@@ -19,10 +19,11 @@ ghost use Rattle.rignolda_convergence.specs.Reported.{there_since};
 
 /// Agents come to the root's settings by what they report. From any state of links, lists and
 /// agents, with all numbers within half of the circle: let an agent report its numbers once it has
-/// received as many items as there were for it, the root hear that twice, among any other reports,
-/// and publish a whole table. Once faults have ended and after enough rounds of the agent's path,
-/// its settings are exactly what the root's were after the last item that the agent has, whatever
-/// it remembered, and whatever was in links and lists.
+/// received as many items as were there for it, and let the root hear that twice, among any other
+/// reports, and then publish a whole table behind the first items that may be missing. Once faults
+/// end on the agent's path, and after enough rounds of the path, its settings are exactly what the
+/// root's were after the last item that it has, and from then on after each later one, as long as
+/// numbers rise from the table on; whatever it remembered, and whatever links and lists held.
 pub fn agents_come_to_the_roots_settings_by_reports()
     ensures { (reading : Reading) (kind : Kind) (each : ℕ) (tree : Nodes) (start : AgentTree)
         (early late after later : List Change) (node low : ℕ) (bodies : List Body)
