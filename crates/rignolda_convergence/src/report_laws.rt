@@ -1,12 +1,14 @@
-//! The law of settings, where the root heard what an agent reports. It is a function with an empty
+//! Laws of settings, where the root heard what an agent reports. Each is a function with an empty
 //! body; its contract is the law.
 
-ghost use Rattle.std.specs.Prelude.{◌≡◌, ◌≤◌, ℕ, List, ◌++◌, length, map, Some};
+ghost use Rattle.std.specs.Prelude.{◌≡◌, ◌≤◌, ◌+◌, ℕ, List, ◌++◌, length, map, Some};
 ghost use mathlib.Core.List.{IsPrefix};
 ghost use Rattle.stab_tree.specs.Nodes.{Nodes, root_of};
 ghost use Rattle.stab_treecore.specs.declared.change.Change.{Change};
 ghost use Rattle.stab_treecore.specs.Changes.{changes_replay};
+ghost use Rattle.stab_treecore.specs.Moment.{missing_since, published_since};
 ghost use Rattle.stab_treecore.specs.Since.{gained, moment};
+ghost use Rattle.stab_treecore.specs.WholeTree.{WholeTree};
 ghost use Rattle.stab_rounds.specs.Kinds.{Kind};
 ghost use Rattle.stab_convergence.specs.Meanwhile.{IsEnough};
 ghost use Rattle.rignolda_agent.specs.BodySpelling.{Body};
@@ -47,4 +49,19 @@ pub fn agents_come_to_the_roots_settings_by_reports()
     stab_convergence::laws::nodes_converge();
     rignolda_agent::laws::two_rounds_bring_the_roots_settings();
     rignolda_agent::report_laws::a_table_is_above_what_was_heard_before_a_report();
+}
+
+/// Rounds bring as many items as were there. If as many were published before the rounds that bring
+/// a node back, and as many more as may be missing, the node has received that many after them: so
+/// each of its reports from then on is one that counts.
+pub fn rounds_bring_as_many_items_as_were_there()
+    ensures { (kind : Kind) (each : ℕ) (tree : Nodes) (s : WholeTree)
+        (before after later : List Change) (node : ℕ)
+        → FaultsEnd kind each tree s before after later node
+        → let published = published_since (moment s) (gained s (changes_replay s before)) node in
+        missing_since (moment s) node + there_since (moment s) node ≤ length published
+        → let end = changes_replay s (before ++ (after ++ later)) in
+        there_since (moment s) node ≤ length (gained s end node) }
+{
+    stab_convergence::laws::nodes_converge();
 }
