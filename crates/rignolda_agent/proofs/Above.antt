@@ -29,23 +29,23 @@ further_higher from a b =
           (omega (arith, leads), omega (arith, not_less, leads))
     ]
 
-abbrev Highest : ℕ → ℕ → List ℕ → ℕ → Type 0
+abbrev pub Highest : ℕ → ℕ → List ℕ → ℕ → Type 0
 Highest from a xs f = (lead from a ≤ lead from f) × AllByRecursion (λ n. lead from n ≤ lead from f) xs
 
-highest : (from a : ℕ) (xs : List ℕ) → Highest from a xs (fold (further from) a xs)
+pub highest : (from a : ℕ) (xs : List ℕ) → Highest from a xs (fold (further from) a xs)
 highest from a [] = (omega arith, tt)
 highest from a (x ∷ xs) =
     let rest = highest from (further from a x) xs in
     let here = further_higher from a x in
     (omega (arith, here.0, rest.0), (omega (arith, here.1, rest.0), rest.1))
 
-all_hold : (P : ℕ → Type 0) (from a : ℕ) (xs : List ℕ) → P a → AllByRecursion P xs → P (fold (further from) a xs)
+pub all_hold : (P : ℕ → Type 0) (from a : ℕ) (xs : List ℕ) → P a → AllByRecursion P xs → P (fold (further from) a xs)
 all_hold P from a [] here all = here
 all_hold P from a (x ∷ xs) here all = all_hold P from (further from a x) xs (further_holds P from a x here all.0) all.1
 
 -- ---- numbers
 
-pub next_ahead : (from f : ℕ) → from < circle → f < circle → ahead from f < half - 1
+pub next_ahead : (from f : ℕ) → from < circle → f < circle → ahead from f < half
     → (next f < circle) × (next f ≢ 0) × (ahead from f < ahead from (next f)) × (ahead from (next f) ≤ ahead from f + 2)
 next_ahead from f from_in f_in near =
     elim (cases_eq (f + 1) circle) [
@@ -99,7 +99,7 @@ not_newer_by than n one far =
     (or_from (than == 0) _ (ne_eqb than 0 one) (and_right (nat_lt 0 (ahead than n)) _ (le-ltb (ahead than n) half far)))
 
 -- a number is not ahead of itself
-own_lead : (from : ℕ) → lead from from ≡ 0
+pub own_lead : (from : ℕ) → lead from from ≡ 0
 own_lead from =
     elim (cases_Bool (is_newer from from)) [
       | inl newer ↦ ap (λ b. if b then ahead from from else 0) newer ∙ omega (arith, up from from (omega arith))

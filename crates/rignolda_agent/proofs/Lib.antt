@@ -8,6 +8,9 @@ mod AheadOfHeard
 mod Quarters
 mod Markers
 mod Rooms
+mod NotBehind
+mod Reported
+mod GoneAbove
 mod Runs
 pub mod ForCallers
 mod Steps

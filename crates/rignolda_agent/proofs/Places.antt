@@ -26,10 +26,10 @@ ahead_by low x y low_in x_in y_in less = by (cases_lt x low) (cases_lt y low) (c
     by (inr a) (inr b) (inl c) = omega (arith, up low x a, up low y b, down x y c, less)
     by (inr a) (inr b) (inr c) = omega (arith, up low x a, up low y b, up x y c, less)
 
-place_of : (low number : ℕ) → number ≢ 0 → place low number ≡ ahead low number
+pub place_of : (low number : ℕ) → number ≢ 0 → place low number ≡ ahead low number
 place_of low number is_one = ap (λ b. if b then 0 else ahead low number) (ne_eqb number 0 is_one)
 
-no_place : (low number : ℕ) → number ≡ 0 → place low number ≡ 0
+pub no_place : (low number : ℕ) → number ≡ 0 → place low number ≡ 0
 no_place low number none = ap (place low) none
 
 higher_is_newer : (low x y : ℕ) → low < circle → IsNear low x → IsNear low y → x ≢ 0 → y ≢ 0 → place low x < place low y → is_newer x y ≡ true

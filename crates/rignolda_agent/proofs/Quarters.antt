@@ -8,7 +8,7 @@ use Rattle.rignolda_agent.proofs.Places.{up, down}
 use Rattle.rignolda_agent.proofs.Above.{next_ahead, newer_by, not_newer_by}
 
 -- what is ahead of what is ahead
-ahead_sum : (x y z : ℕ) → x < circle → y < circle → z < circle → ahead x y + ahead y z < circle
+pub ahead_sum : (x y z : ℕ) → x < circle → y < circle → z < circle → ahead x y + ahead y z < circle
     → ahead x z ≡ ahead x y + ahead y z
 ahead_sum x y z x_in y_in z_in less = by (cases_lt y x) (cases_lt z y) (cases_lt z x)
   where
@@ -52,7 +52,7 @@ rest_ahead x y z x_in y_in z_in less = by (cases_lt y x) (cases_lt z y) (cases_l
 
 -- ---- a step
 
-quarter_in : (from : ℕ) → 0 < from → from < circle
+pub quarter_in : (from : ℕ) → 0 < from → from < circle
     → (0 < quarter_on from) × (quarter_on from < circle) × (quarter ≤ ahead from (quarter_on from)) × (ahead from (quarter_on from) ≤ quarter + 1)
 quarter_in from one from_in =
     elim (cases_lt (from + quarter) circle) [
@@ -66,10 +66,10 @@ quarter_in from one from_in =
           (omega (arith, is, past), omega (arith, is, from_in), omega (arith, by, past), omega (arith, by, past))
     ]
 
-to_it : (from number : ℕ) → ahead from number ≤ quarter → towards from number ≡ number
+pub to_it : (from number : ℕ) → ahead from number ≤ quarter → towards from number ≡ number
 to_it from number near = ap (λ b. if b then number else quarter_on from) (le-leb (ahead from number) quarter near)
 
-by_a_quarter : (from number : ℕ) → quarter < ahead from number → towards from number ≡ quarter_on from
+pub by_a_quarter : (from number : ℕ) → quarter < ahead from number → towards from number ≡ quarter_on from
 by_a_quarter from number far = ap (λ b. if b then number else quarter_on from) (lt-leb (ahead from number) quarter far)
 
 is_number : (from number : ℕ) → is_newer from number ≡ true → number ≢ 0

@@ -2,6 +2,7 @@ pub mod Numbers
 pub mod Takers
 pub mod Agents
 pub mod Rounds
+pub mod Reports
 pub mod Items
 pub mod Structs
 pub mod BodySpelling

@@ -47,6 +47,8 @@ pub mod parent_examples;
 pub mod parent_laws;
 mod publisher;
 mod reading;
+pub mod report_examples;
+pub mod report_laws;
 mod room;
 pub mod room_laws;
 pub mod root_examples;

@@ -21,7 +21,7 @@ near_at reading low items (p ∷ ps) near below = (one items p near below.0, nea
     one (x ∷ xs) (suc i) near within = one xs i near.1 (omega (arith, within))
 
 -- and so do two lists, one behind the other
-near_behind : (reading : Reading) (low : ℕ) (xs ys : List ℕ) → AllSayNear reading low xs → AllSayNear reading low ys → AllSayNear reading low (xs ++ ys)
+pub near_behind : (reading : Reading) (low : ℕ) (xs ys : List ℕ) → AllSayNear reading low xs → AllSayNear reading low ys → AllSayNear reading low (xs ++ ys)
 near_behind reading low [] ys near more = more
 near_behind reading low (x ∷ xs) ys near more = (near.0, near_behind reading low xs ys near.1 more)
 

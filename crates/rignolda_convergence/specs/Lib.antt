@@ -1,1 +1,3 @@
 pub mod AgentTrees
+pub mod Reported
+pub mod ReportExample

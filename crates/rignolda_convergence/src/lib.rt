@@ -9,3 +9,5 @@
 
 pub mod examples;
 pub mod laws;
+pub mod report_examples;
+pub mod report_laws;
