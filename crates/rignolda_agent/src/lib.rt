@@ -20,7 +20,7 @@
 //! [`Publisher::publish`], which are the definitions' step, and keeps keys and values itself;
 //! [`root_laws`] says what comes of that: numbers rise, rounds end, and a table that was told all
 //! bodies is the root's. At an agent [`Waits`] says the same of each key whose change waits to be
-//! applied.
+//! applied. [`report_laws`] says how the root comes to be above the numbers that agents report.
 //!
 //! Agents choose their parents, which makes a tree of them out of any state; of that there are
 //! definitions and laws alone. Each agent says what it costs to come from it to a root, and the

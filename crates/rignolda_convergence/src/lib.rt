@@ -4,7 +4,8 @@
 //! see no body as bytes, file, connection or clock. The laws below this crate speak of lists of a
 //! tree, or of an agent that hears a list. Here they are one: from any state of links, lists and
 //! agents, once faults end on an agent's path, its settings become those of the root
-//! ([`laws::agents_come_to_the_roots_settings`]).
+//! ([`laws::agents_come_to_the_roots_settings`]). Its numbers may be any, as long as the root hears
+//! what it reports ([`report_laws::agents_come_to_the_roots_settings_by_reports`]).
 #![tactic(auto)]
 
 pub mod examples;
