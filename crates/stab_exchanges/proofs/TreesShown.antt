@@ -42,7 +42,7 @@ use Rattle.stab_line.proofs.Exchanges.{put_here}
 use Rattle.stab_line.proofs.Lines.{Fields, Next, Work, done, waiting, fields, line_at}
 use Rattle.stab_line.proofs.SessionTrees.{HaveRoom, tree_in_turn}
 use Rattle.stab_exchanges.specs.Exchanges.{Exchange, exchanged_by}
-use Rattle.stab_exchanges.specs.TreeExchanges.{exchanged_at, link_shown, Shows}
+use Rattle.stab_exchanges.specs.TreeExchanges.{exchanged_at, link_shown}
 use Rattle.stab_exchanges.proofs.Counted.{open_before}
 use Rattle.stab_exchanges.proofs.RoundsOf.{Harmless, Led, connection_led, exchange_led, act_goes}
 use Rattle.stab_exchanges.proofs.Underway.{Underway}
@@ -114,6 +114,13 @@ lifted s w parent p q (e ∷ events) is_child there harmless =
     (leads, λ v other. others v other ∙ step_other s e_here v other, parents, openings, published)
 
 -- ---- what the two trees have in common
+
+-- the tree of links is that of the tree over connections
+pub record Shows (net : Network) (t : SessionTree) (s : WholeTree) : Type 0 where
+  pub parents : s.parents ≡ net.tree.parents
+  pub openings : s.openings ≡ net.openings.lists
+  pub published : s.published ≡ t.published
+  pub links : (w : ℕ) → link_into s w ≡ option_map (link_shown net t w) (parent_at net.tree.parents w)
 
 pub record Ready (net : Network) (t : SessionTree) (s : WholeTree) : Type 0 where
   pub shows : Shows net t s

@@ -3,17 +3,18 @@
 -- into b. These acts are one part for the path of b, and two such parts one after the other are two.
 -- Source: this project's own.
 use Rattle.std.specs.Prelude.{◌≡◌, ℕ, zero, suc, ◌+◌, ◌≤◌, ◌==◌, if◌then◌else◌, List, [], ◌∷◌}
-use Rattle.std.specs.Prelude.{◌++◌, length, Some, false, option_map}
+use Rattle.std.specs.Prelude.{◌++◌, length, Option, Some, false, option_map}
 use Rattle.stab_core.specs.Link.{LinkValue, link_at}
 use Rattle.stab_exchanges.specs.Exchanges.{Exchange, sending, exchange_after, exchanged_by}
 use Rattle.stab_line.specs.Line.{held, link_of}
-use Rattle.stab_line.specs.NodeTree.{parameters_into}
+use Rattle.stab_line.specs.NodeTree.{list_above, parameters_into}
 use Rattle.stab_line.specs.SessionLink.{SessionLink, happens, line_of}
-use Rattle.stab_line.specs.SessionTree.{SessionTree, TreeAct, at_link, tree_run, tree_step}
+use Rattle.stab_line.specs.SessionTree.{SessionTree, TreeAct, at_link, nodes_of, tree_run}
+use Rattle.stab_line.specs.SessionTree.{tree_step}
 use Rattle.stab_tree.specs.Nodes.{parent_at}
 use Rattle.stab_tree.specs.Steps.{Reaches}
 use Rattle.stab_treecore.specs.Network.{Network}
-use Rattle.stab_treecore.specs.WholeTree.{WholeTree, link_into}
+use Rattle.stab_treecore.specs.WholeTree.{WholeTree}
 
 -- the exchange that an act of the tree completes on the link into a node
 abbrev pub exchanged_at : SessionTree → ℕ → Exchange → TreeAct → ℕ
@@ -59,14 +60,24 @@ abbrev pub AllCounted : Network → SessionTree → Type 0
 AllCounted net t =
     (w parent : ℕ) → parent_at net.tree.parents w ≡ Some parent
     → IsCounted (t.links w) × (t.counts w ≡ length (t.links w).offered)
+    × (t.counts w ≤ length (list_above net (nodes_of t) w))
 
 -- the link that the connections into a node are, where it has a parent
 abbrev pub link_shown : Network → SessionTree → ℕ → ℕ → LinkValue
 link_shown net t w parent = link_at (parameters_into net w) (link_of (line_of (t.links w)))
 
+-- the links into these nodes, the first of which has this number
+abbrev pub links_from : Network → SessionTree → ℕ → List (Option ℕ) → List (Option LinkValue)
+links_from net t w [] = []
+links_from net t w (parent ∷ parents) =
+    option_map (link_shown net t w) parent ∷ links_from net t (w + 1) parents
+
 -- the tree of links that the tree over connections is
-pub record Shows (net : Network) (t : SessionTree) (s : WholeTree) : Type 0 where
-  pub parents : s.parents ≡ net.tree.parents
-  pub openings : s.openings ≡ net.openings.lists
-  pub published : s.published ≡ t.published
-  pub links : (w : ℕ) → link_into s w ≡ option_map (link_shown net t w) (parent_at net.tree.parents w)
+abbrev pub tree_of_links : Network → SessionTree → WholeTree
+tree_of_links net t =
+    record {
+      published = t.published;
+      openings = net.openings.lists;
+      parents = net.tree.parents;
+      links = links_from net t 0 net.tree.parents;
+    }
