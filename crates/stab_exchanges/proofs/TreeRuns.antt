@@ -1,13 +1,11 @@
 -- A tree over connections goes through changes of the tree of links that it is, with as many
 -- reading rounds of a path as parts in which each of its links completes an exchange.
-use Rattle.std.proofs.Common.{◌≡◌, ◌≢◌, ℕ, zero, suc, ◌+◌, ◌<◌, ◌≤◌, ◌==◌, ◌&&◌, not, Bool, true, false, if◌then◌else◌, List, [], ◌∷◌, ◌++◌, append-nil, length-append, length-set, ext_get_or, get_or, is_some, map, length, slice_get, option_map, Some, None, Option, is_none, refl, sym, ◌∙◌, ap, subst, arith, eq-eqb, eqb-true, true≢false}
+use Rattle.std.proofs.Common.{◌≡◌, ◌≢◌, ℕ, zero, suc, ◌+◌, ◌≤◌, ◌==◌, ◌&&◌, not, Bool, true, false, if◌then◌else◌, List, [], ◌∷◌, ◌++◌, append-nil, length-append, length-set, ext_get_or, get_or, is_some, map, length, slice_get, option_map, Some, None, Option, is_none, refl, sym, ◌∙◌, ap, subst, arith, eq-eqb, eqb-true, true≢false}
 use Rattle.std.specs.Option.{option_map_or}
 use Rattle.std.proofs.lemmas.List.{length_push}
 use Rattle.std.proofs.lemmas.Option.{none-some}
 use Rattle.stab_frames.specs.Parameters.{AreLawful, Parameters}
-use Rattle.stab_core.specs.declared.act.LinkAct.{LinkAct}
 use Rattle.stab_core.specs.declared.act.LinkAct.TheVariants as act
-use Rattle.stab_core.specs.declared.event.Event.TheVariants as event
 use Rattle.stab_core.specs.Link.{LinkValue, link_at}
 use Rattle.stab_core.specs.LinkActs.{event_of}
 use Rattle.stab_core.specs.LinkSetup.{CanBegin, LinkSetup}
@@ -35,10 +33,10 @@ use Rattle.stab_rounds.proofs.TreeSteps.{step_at, step_other}
 use Rattle.stab_convergence.specs.AtRest.{HasNoFault}
 use Rattle.stab_convergence.specs.PathRounds.{IsPathOpen, PathRounds, TakesAtMost, acts_among}
 use Rattle.stab_convergence.proofs.Acts.{acts-append}
-use Rattle.stab_line.specs.Ends.{SenderEnd, accepts}
-use Rattle.stab_line.specs.Line.{Line, held, line_step, link_of, offer_item, with_taken}
+use Rattle.stab_line.specs.Ends.{accepts}
+use Rattle.stab_line.specs.Line.{Line, held, link_of, offer_item, with_taken}
 use Rattle.stab_line.specs.NodeTree.{put, parameters_into, list_of, list_above}
-use Rattle.stab_line.specs.SessionLink.{SessionLink, ConnectionAct, InTurn, connection_step, link_step, item_offered, happens, line_of}
+use Rattle.stab_line.specs.SessionLink.{SessionLink, ConnectionAct, connection_step, link_step, item_offered, happens, line_of}
 use Rattle.stab_line.specs.SessionTree.{SessionTree, TreeAct, publishes, polls, at_link, tree_step, tree_run, nodes_of, offers, acts_at, AllInTurn}
 use Rattle.stab_line.proofs.Exchanges.{put_here}
 use Rattle.stab_line.proofs.Lines.{Fields, Next, Work, done, waiting, fields, line_at, item_of, offered_of, acked_of}

@@ -1,13 +1,9 @@
 -- What an act of a tree over connections makes of the tree of links that it is.
-use Rattle.std.proofs.Common.{◌≡◌, ◌≢◌, ℕ, zero, suc, ◌+◌, ◌≤◌, ◌==◌, ◌&&◌, not, Bool, true, false, if◌then◌else◌, List, [], ◌∷◌, ◌++◌, length, map, slice_get, option_map, Some, None, Option, is_none, refl, sym, ◌∙◌, ap, subst, arith, eq-eqb, eqb-true, true≢false}
+use Rattle.std.proofs.Common.{◌≡◌, ◌≢◌, ℕ, ◌+◌, ◌≤◌, ◌==◌, Bool, true, false, if◌then◌else◌, List, [], ◌∷◌, ◌++◌, length, map, slice_get, option_map, Some, None, Option, refl, sym, ◌∙◌, ap, subst, arith, eq-eqb, eqb-true, true≢false}
 use Rattle.std.specs.Option.{option_map_or}
-use Rattle.std.proofs.lemmas.Bool.{ne_eqb}
-use Rattle.std.proofs.lemmas.List.{length_push}
 use Rattle.std.proofs.lemmas.Option.{none-some}
-use mathlib.Core.Path.{fun_ext}
 use Rattle.stab_frames.specs.declared.frame.Frame.{Frame}
 use Rattle.stab_frames.specs.Parameters.{Parameters}
-use Rattle.stab_core.specs.declared.act.LinkAct.{LinkAct}
 use Rattle.stab_core.specs.declared.act.LinkAct.TheVariants as act
 use Rattle.stab_core.specs.declared.event.Event.{Event}
 use Rattle.stab_core.specs.declared.event.Event.TheVariants as event
@@ -29,22 +25,21 @@ use Rattle.stab_rounds.specs.ReadingRounds.{Reads, reading_from}
 use Rattle.stab_rounds.specs.TreePlayed.{act_on}
 use Rattle.stab_rounds.specs.TreeRounds.{acts_on}
 use Rattle.stab_rounds.proofs.Links.{after_event}
-use Rattle.stab_rounds.proofs.TreeSteps.{At, acts_own, acts_other, step_at, step_other}
+use Rattle.stab_rounds.proofs.TreeSteps.{At, acts_own, step_at, step_other}
 use Rattle.stab_convergence.specs.AtRest.{HasNoFault}
 use Rattle.stab_convergence.specs.PathRounds.{acts_among}
-use Rattle.stab_line.specs.Ends.{SenderEnd, accepts, offered_to}
-use Rattle.stab_line.specs.Line.{Line, link_of, held, with_taken, offer_item}
-use Rattle.stab_line.specs.NodeTree.{put, parameters_into, list_of, list_above}
-use Rattle.stab_line.specs.SessionLink.{SessionLink, ConnectionAct, connection_step, link_step, item_offered, happens, line_of, is_unused, is_made, receives_frame, receives_ack}
+use Rattle.stab_line.specs.Line.{Line, link_of}
+use Rattle.stab_line.specs.NodeTree.{put, parameters_into, list_of}
+use Rattle.stab_line.specs.SessionLink.{SessionLink, ConnectionAct, connection_step, happens, line_of, is_unused, is_made, receives_frame, receives_ack}
 use Rattle.stab_line.specs.SessionLink.{sender_makes, receiver_makes, stranger_makes, sender_accepts, receiver_accepts, sender_leaves, receiver_leaves, frame_sent, ack_sent, frame_comes, ack_comes, frame_lost, ack_lost, sender_closes, receiver_closes}
-use Rattle.stab_line.specs.SessionTree.{SessionTree, TreeAct, publishes, polls, at_link, tree_step, nodes_of, offers, acts_at, AllInTurn}
+use Rattle.stab_line.specs.SessionTree.{SessionTree, TreeAct, publishes, at_link, tree_step, nodes_of, acts_at, AllInTurn}
 use Rattle.stab_line.proofs.Exchanges.{put_here}
-use Rattle.stab_line.proofs.Lines.{Fields, Next, Work, done, waiting, fields, line_at}
-use Rattle.stab_line.proofs.SessionTrees.{HaveRoom, tree_in_turn}
+use Rattle.stab_line.proofs.Lines.{Next}
+use Rattle.stab_line.proofs.SessionTrees.{HaveRoom}
 use Rattle.stab_exchanges.specs.Exchanges.{Exchange, exchanged_by}
 use Rattle.stab_exchanges.specs.TreeExchanges.{exchanged_at, link_shown}
 use Rattle.stab_exchanges.proofs.Counted.{open_before}
-use Rattle.stab_exchanges.proofs.RoundsOf.{Harmless, Led, connection_led, exchange_led, act_goes}
+use Rattle.stab_exchanges.proofs.RoundsOf.{Harmless, Led, connection_led, exchange_led}
 use Rattle.stab_exchanges.proofs.Underway.{Underway}
 use Rattle.stab_exchanges.proofs.WholeRounds.{IsLeft}
 
