@@ -3,4 +3,5 @@ pub mod Counted
 pub mod WholeRounds
 pub mod RoundsOf
 pub mod TreesShown
+pub mod TreeRests
 pub mod TreeRuns

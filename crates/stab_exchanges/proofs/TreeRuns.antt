@@ -1,6 +1,6 @@
 -- A tree over connections goes through changes of the tree of links that it is, with as many
 -- reading rounds of a path as parts in which each of its links completes an exchange.
-use Rattle.std.proofs.Common.{◌≡◌, ◌≢◌, ℕ, zero, suc, ◌+◌, ◌≤◌, ◌==◌, ◌&&◌, not, Bool, true, false, if◌then◌else◌, List, [], ◌∷◌, ◌++◌, append-nil, length-append, length-set, ext_get_or, get_or, is_some, map, length, slice_get, option_map, Some, None, Option, is_none, refl, sym, ◌∙◌, ap, subst, arith, eq-eqb, eqb-true, true≢false}
+use Rattle.std.proofs.Common.{◌≡◌, ◌≢◌, ℕ, zero, suc, ◌+◌, ◌≤◌, ◌==◌, ◌&&◌, not, Bool, true, false, if◌then◌else◌, List, [], ◌∷◌, ◌++◌, append-nil, length-append, length-set, ext_get_or, get_or, is_some, map, length, slice_get, option_map, Some, None, Option, is_none, refl, sym, ◌∙◌, ap, subst, arith, eq-eqb, eqb-true, true≢false, inl, inr}
 use Rattle.std.specs.Option.{option_map_or}
 use Rattle.std.proofs.lemmas.List.{length_push}
 use Rattle.std.proofs.lemmas.Option.{none-some}
@@ -13,10 +13,9 @@ use Rattle.stab_core.specs.LinkState.{LinkState}
 use Rattle.stab_core.specs.Since.{IsBounded}
 use Rattle.stab_tree.specs.Nodes.{parent_at}
 use Rattle.stab_tree.specs.Steps.{Reaches}
-use Rattle.stab_tree.proofs.ForCallers.{holds_by_child, one_by_child}
+use Rattle.stab_tree.proofs.ForCallers.{child_is_node, holds_by_child, one_by_child}
 use Rattle.stab_treecore.specs.declared.change.Change.{Change}
 use Rattle.stab_treecore.specs.declared.change.Change.TheVariants.{Act, Publish, Strike, Restart}
-use Rattle.stab_treecore.specs.declared.event.TreeEvent.{TreeEvent}
 use Rattle.stab_treecore.specs.Changes.{changes_replay}
 use Rattle.stab_treecore.specs.Hits.{Spare}
 use Rattle.stab_treecore.specs.Network.{IsNetwork, Network}
@@ -32,36 +31,25 @@ use Rattle.stab_rounds.proofs.Links.{after_event}
 use Rattle.stab_rounds.proofs.TreeSteps.{step_at, step_other}
 use Rattle.stab_convergence.specs.AtRest.{HasNoFault}
 use Rattle.stab_convergence.specs.PathRounds.{IsPathOpen, PathRounds, TakesAtMost, acts_among}
-use Rattle.stab_convergence.proofs.Acts.{acts-append}
 use Rattle.stab_line.specs.Ends.{accepts}
 use Rattle.stab_line.specs.Line.{Line, held, link_of, offer_item, with_taken}
 use Rattle.stab_line.specs.NodeTree.{put, parameters_into, list_of, list_above}
 use Rattle.stab_line.specs.SessionLink.{SessionLink, ConnectionAct, connection_step, link_step, item_offered, happens, line_of}
 use Rattle.stab_line.specs.SessionTree.{SessionTree, TreeAct, publishes, polls, at_link, tree_step, tree_run, nodes_of, offers, acts_at, AllInTurn}
 use Rattle.stab_line.proofs.Exchanges.{put_here}
-use Rattle.stab_line.proofs.Lines.{Fields, Next, Work, done, waiting, fields, line_at, item_of, offered_of, acked_of}
+use Rattle.stab_line.proofs.Lines.{Fields, Next, Work, done, waiting, fields, line_at}
 use Rattle.stab_line.proofs.SessionLines.{few_acks, few_frames}
 use Rattle.stab_line.proofs.SessionTrees.{HaveRoom, tree_in_turn}
 use Rattle.stab_exchanges.specs.Exchanges.{Exchange, sending, arrival, answer, exchange_after}
 use Rattle.stab_exchanges.specs.TreeExchanges.{AllCounted, IsCounted, IsPathOfOpenSenders, PathExchanges, awaited_at, exchanges_at, link_shown, links_from, tree_of_links}
 use Rattle.stab_exchanges.proofs.Counted.{open_before}
 use Rattle.stab_exchanges.proofs.RoundsOf.{act_goes}
-use Rattle.stab_exchanges.proofs.TreesShown.{Lifted, Ready, Shows, Went, at_link_went, own_next, publish_went, put_there, ready_one, received_is}
+use Rattle.stab_exchanges.proofs.TreeRests.{no_fault_append, rested, rounds_append}
+use Rattle.stab_exchanges.proofs.TreesShown.{Lifted, Ready, Shows, Went, at_link_went, idle_line, own_next, publish_went, put_there, ready_one, received_is}
 use Rattle.stab_exchanges.proofs.Underway.{Underway, underway_step}
-use Rattle.stab_exchanges.proofs.WholeRounds.{IsLeft, left_over, reading_append, reads_over}
+use Rattle.stab_exchanges.proofs.WholeRounds.{IsLeft, left_over, reads_over}
 
 -- ---- a child that is polled
-
-idle_work : (work : Work) → is_none (item_of work) ≡ true → length (offered_of work) ≡ acked_of work
-idle_work (done items) none = refl
-idle_work (waiting items item) none = absurd (true≢false (sym none))
-
--- a sender that holds nothing was acknowledged all
-idle_line : (s : LinkState) (l : Line) → Next s l → is_none l.sender.state.item ≡ true → length l.offered ≡ l.acked
-idle_line s l there none =
-    ap (λ (k : Line). length k.offered) there.line
-    ∙ idle_work there.after.work (sym (ap (λ (k : Line). is_none k.sender.state.item) there.line) ∙ none)
-    ∙ sym (ap (λ (k : Line). k.acked) there.line)
 
 holds_none : (closed : Bool) (item : Option ℕ) → (not closed && is_none item) ≡ true → is_none item ≡ true
 holds_none true item takes = absurd (true≢false (sym takes))
@@ -273,32 +261,6 @@ run_open net t (a ∷ acts) w is_open = tree_open net t a w (run_open net (tree_
 
 -- ---- acts, one after the other
 
-acts_on_append : (w : ℕ) (first second : List TreeEvent) → acts_on w (first ++ second) ≡ acts_on w first ++ acts_on w second
-acts_on_append w [] second = refl
-acts_on_append w (e ∷ first) second = by_same (e.child == w) (acts_on_append w first second)
-  where
-    by_same : (same : Bool) → acts_on w (first ++ second) ≡ acts_on w first ++ acts_on w second
-        → (if same then e.act ∷ acts_on w (first ++ second) else acts_on w (first ++ second))
-        ≡ (if same then e.act ∷ acts_on w first else acts_on w first) ++ acts_on w second
-    by_same true rest = ap (λ acts. e.act ∷ acts) rest
-    by_same false rest = rest
-
-no_fault_append : (first second : List Change) → HasNoFault first → HasNoFault second → HasNoFault (first ++ second)
-no_fault_append [] second before after = after
-no_fault_append (Act e ∷ first) second before after = no_fault_append first second before after
-no_fault_append (Publish items ∷ first) second before after = no_fault_append first second before after
-no_fault_append (Strike child start ∷ first) second before after = absurd before
-no_fault_append (Restart node list ∷ first) second before after = absurd before
-
--- the reading rounds among changes, one after the other
-rounds_append : (c w : ℕ) (r : Reads) (first second : List Change)
-    → reading_from c r (acts_on w (acts_among (first ++ second)))
-    ≡ reading_from c r (acts_on w (acts_among first)) + reading_from c (reads_over c r (acts_on w (acts_among first))) (acts_on w (acts_among second))
-rounds_append c w r first second =
-    ap (λ events. reading_from c r (acts_on w events)) (acts-append first second)
-    ∙ ap (reading_from c r) (acts_on_append w (acts_among first) (acts_among second))
-    ∙ reading_append c r (acts_on w (acts_among first)) (acts_on w (acts_among second))
-
 record Ran (net : Network) (t : SessionTree) (s : WholeTree) (acts : List TreeAct) (e : ℕ → Exchange) (r : ℕ → Reads) : Type 0 where
   changes : List Change
   no_fault : HasNoFault changes
@@ -355,27 +317,41 @@ module _ (net : Network) (s0 : WholeTree) (node : ℕ) (same_parents : s0.parent
       let end : tree_run net t acts ≡ tree_run net (tree_run net t part) rest =
       ap (tree_run net t) parts ∙ tree_run_append net t part rest
       in
-      let one = ran net t s part (λ w. sending) (λ w. offer) room ready (λ w up is_child. (tt, tt)) in
+      let at_rest = rested net t s room (length net.tree.parents) ready in
+      let quiet : List Change = at_rest.changes in
+      let awaited : ℕ → Reads = λ w. reads_over (parameters_into net w).capacity offer (acts_on w (acts_among quiet)) in
+      let one =
+      ran net t (changes_replay s quiet) part (λ w. sending) awaited room at_rest.ready
+      (λ w up is_child. (tt, left_over (parameters_into net w).capacity offer (acts_on w (acts_among quiet)) tt))
+      in
       let still_open : IsPathOfOpenSenders net (tree_run net (tree_run net t part) rest) node =
       subst (λ (u : SessionTree). IsPathOfOpenSenders net u node) end are_open
       in
+      let first : List Change = quiet ++ one.changes in
       let (changes, no_fault, after, are_rounds) =
-      path_rounds (tree_run net t part) (changes_replay s one.changes) rounds rest one.ready more still_open
+      path_rounds (tree_run net t part) (changes_replay (changes_replay s quiet) one.changes) rounds rest one.ready more still_open
       in (
-        one.changes ++ changes,
-        no_fault_append one.changes changes one.no_fault no_fault,
-        subst (λ (u : WholeTree). Ready net (tree_run net t acts) u) (sym (changes-append s one.changes changes))
-            (subst (λ (u : SessionTree). Ready net u (changes_replay (changes_replay s one.changes) changes)) (sym end) after),
+        first ++ changes,
+        no_fault_append first changes (no_fault_append quiet one.changes at_rest.no_fault one.no_fault) no_fault,
+        subst (λ (u : WholeTree). Ready net (tree_run net t acts) u)
+            (sym (changes-append s first changes ∙ ap (λ u. changes_replay u changes) (changes-append s quiet one.changes)))
+            (subst (λ (u : SessionTree). Ready net u (changes_replay (changes_replay (changes_replay s quiet) one.changes) changes)) (sym end) after),
         (
-          one.changes,
+          first,
           changes,
           refl,
           λ w up reaches is_child.
               let there : parent_at net.tree.parents w ≡ Some up = ap (λ ps. parent_at ps w) (sym same_parents) ∙ is_child in
               let reached : Reaches net.tree.parents node w = subst (λ ps. Reaches ps node w) same_parents reaches in
-              let few = each w up reached there in
-              let some = one.some w up there (run_open net (tree_run net t part) rest w (still_open w up reached there)) in
-              subst (λ c. 1 ≤ reading_from c offer (acts_on w (acts_among one.changes))) (sym (same_capacity w up there)) (omega (arith, few, some)),
+              let few = one.some w up there (run_open net (tree_run net t part) rest w (still_open w up reached there)) in
+              let c : ℕ = (parameters_into net w).capacity in
+              let both = rounds_append c w offer quiet one.changes in
+              subst (λ k. 1 ≤ reading_from k offer (acts_on w (acts_among first))) (sym (same_capacity w up there))
+              (elim (each w up reached there) [
+                | inl rests ↦
+                    (let some = at_rest.some w up there (child_is_node net.tree.parents w up there) rests in omega (arith, some, both))
+                | inr exchanged ↦ omega (arith, exchanged, few, both)
+              ]),
           are_rounds,
         ),
       )

@@ -1,5 +1,5 @@
 -- What an act of a tree over connections makes of the tree of links that it is.
-use Rattle.std.proofs.Common.{◌≡◌, ◌≢◌, ℕ, ◌+◌, ◌≤◌, ◌==◌, Bool, true, false, if◌then◌else◌, List, [], ◌∷◌, ◌++◌, length, map, slice_get, option_map, Some, None, Option, refl, sym, ◌∙◌, ap, subst, arith, eq-eqb, eqb-true, true≢false}
+use Rattle.std.proofs.Common.{◌≡◌, ◌≢◌, ℕ, ◌+◌, ◌≤◌, ◌==◌, Bool, true, false, if◌then◌else◌, List, [], ◌∷◌, ◌++◌, length, map, slice_get, option_map, Some, None, Option, is_none, refl, sym, ◌∙◌, ap, subst, arith, eq-eqb, eqb-true, true≢false}
 use Rattle.std.specs.Option.{option_map_or}
 use Rattle.std.proofs.lemmas.Option.{none-some}
 use Rattle.stab_frames.specs.declared.frame.Frame.{Frame}
@@ -34,7 +34,7 @@ use Rattle.stab_line.specs.SessionLink.{SessionLink, ConnectionAct, connection_s
 use Rattle.stab_line.specs.SessionLink.{sender_makes, receiver_makes, stranger_makes, sender_accepts, receiver_accepts, sender_leaves, receiver_leaves, frame_sent, ack_sent, frame_comes, ack_comes, frame_lost, ack_lost, sender_closes, receiver_closes}
 use Rattle.stab_line.specs.SessionTree.{SessionTree, TreeAct, publishes, at_link, tree_step, nodes_of, acts_at, AllInTurn}
 use Rattle.stab_line.proofs.Exchanges.{put_here}
-use Rattle.stab_line.proofs.Lines.{Next}
+use Rattle.stab_line.proofs.Lines.{Next, Work, done, waiting, item_of, offered_of, acked_of}
 use Rattle.stab_line.proofs.SessionTrees.{HaveRoom}
 use Rattle.stab_exchanges.specs.Exchanges.{Exchange, exchanged_by}
 use Rattle.stab_exchanges.specs.TreeExchanges.{exchanged_at, link_shown}
@@ -53,7 +53,7 @@ pub no_fault_among : (w : ℕ) (events : List Event) → HasNoFault (link_acts w
 no_fault_among w [] = tt
 no_fault_among w (e ∷ events) = no_fault_among w events
 
-acts_here : (w : ℕ) (events : List Event) → acts_on w (acts_among (link_acts w events)) ≡ map act_of events
+pub acts_here : (w : ℕ) (events : List Event) → acts_on w (acts_among (link_acts w events)) ≡ map act_of events
 acts_here w [] = refl
 acts_here w (e ∷ events) =
     acts_own w (act_on w (act_of e)) (acts_among (link_acts w events)) refl ∙ ap (λ acts. act_of e ∷ acts) (acts_here w events)
@@ -93,7 +93,7 @@ Lifted s w p after t =
     At t w p after × ((v : ℕ) → w ≢ v → link_into t v ≡ link_into s v) × (t.parents ≡ s.parents)
     × (t.openings ≡ s.openings) × (t.published ≡ s.published)
 
-lifted : (s : WholeTree) (w parent : ℕ) (p : Parameters) (q : LinkState) (events : List Event) → parent_at s.parents w ≡ Some parent
+pub lifted : (s : WholeTree) (w parent : ℕ) (p : Parameters) (q : LinkState) (events : List Event) → parent_at s.parents w ≡ Some parent
     → At s w p q → Harmless p q events → Lifted s w p (replay p q events) (changes_replay s (link_acts w events))
 lifted s w parent p q [] is_child there harmless = (there, λ v other. refl, refl, refl, refl)
 lifted s w parent p q (e ∷ events) is_child there harmless =
@@ -129,6 +129,17 @@ own_next s l there = record { after = there.after; line = there.line; link = ap 
 of_parent : {A B : Type 0} (f : A → B) (o : Option ℕ) (g : ℕ → A) (d : B) → option_map_or f (option_map g o) d ≡ option_map_or (λ x. f (g x)) o d
 of_parent f None g d = refl
 of_parent f (Some x) g d = refl
+
+idle_work : (work : Work) → is_none (item_of work) ≡ true → length (offered_of work) ≡ acked_of work
+idle_work (done items) none = refl
+idle_work (waiting items item) none = absurd (true≢false (sym none))
+
+-- a sender that holds nothing was acknowledged all
+pub idle_line : (s : LinkState) (l : Line) → Next s l → is_none l.sender.state.item ≡ true → length l.offered ≡ l.acked
+idle_line s l there none =
+    ap (λ (k : Line). length k.offered) there.line
+    ∙ idle_work there.after.work (sym (ap (λ (k : Line). is_none k.sender.state.item) there.line) ∙ none)
+    ∙ sym (ap (λ (k : Line). k.acked) there.line)
 
 -- each node has the same list in both
 pub received_is : (net : Network) (t : SessionTree) (s : WholeTree) (u : ℕ) → Shows net t s → received s u ≡ list_of net (nodes_of t) u
@@ -184,7 +195,7 @@ module _ (net : Network) (t : SessionTree) (s s_after : WholeTree) (child parent
   abbrev with_link : SessionTree
   with_link = record t { links = put t.links child link; counts = counts }
 
-  shows_one : Shows net with_link s_after
+  pub shows_one : Shows net with_link s_after
   shows_one =
       let shows = ready.shows in
       record {

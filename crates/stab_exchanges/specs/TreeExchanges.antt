@@ -4,10 +4,11 @@
 -- parts, one after the other, are two, but not two exchanges on the link into a.
 -- Source: this project's own.
 use Rattle.std.specs.Prelude.{◌≡◌, ℕ, zero, suc, ◌+◌, ◌≤◌, ◌==◌, if◌then◌else◌, List, [], ◌∷◌}
-use Rattle.std.specs.Prelude.{◌++◌, length, Option, Some, false, option_map}
+use Rattle.std.specs.Prelude.{◌++◌, length, Option, Some, is_none, false, true, option_map}
+use Rattle.std.specs.Prelude.{Bool, ◌&&◌, ◌⊎◌}
 use Rattle.stab_core.specs.Link.{LinkValue, link_at}
 use Rattle.stab_exchanges.specs.Exchanges.{Exchange, sending, exchange_after, exchanged_by}
-use Rattle.stab_line.specs.Line.{held, link_of}
+use Rattle.stab_line.specs.Line.{Line, held, link_of}
 use Rattle.stab_line.specs.NodeTree.{list_above, parameters_into}
 use Rattle.stab_line.specs.SessionLink.{SessionLink, happens, line_of}
 use Rattle.stab_line.specs.SessionTree.{SessionTree, TreeAct, at_link, nodes_of, tree_run}
@@ -35,14 +36,22 @@ exchanges_at net t w e [] = 0
 exchanges_at net t w e (act ∷ acts) =
     exchanged_at t w e act + exchanges_at net (tree_step net t act) w (awaited_at t w e act) acts
 
+-- The link into a node has nothing to hand on: its sender holds nothing and was offered all of the
+-- parent's list, and nothing comes to its ends by their connections.
+abbrev pub is_at_rest : Network → SessionTree → ℕ → Bool
+is_at_rest net t w =
+    let l : Line = line_of (t.links w) in
+    (is_none l.sender.state.item && (length (list_above net (nodes_of t) w) == t.counts w))
+    && ((length l.frames == 0) && (length l.acks == 0))
+
 -- The acts have `rounds` parts, one after the other, in each of which each link of the node's path
--- completes an exchange.
+-- completes an exchange, unless it has nothing to hand on as the part begins.
 abbrev pub PathExchanges : Network → SessionTree → ℕ → ℕ → List TreeAct → Type 0
 PathExchanges net t node zero acts = Unit {0}
 PathExchanges net t node (suc rounds) acts =
     (part : List TreeAct) × (rest : List TreeAct) × (acts ≡ part ++ rest)
     × ((w parent : ℕ) → Reaches net.tree.parents node w → parent_at net.tree.parents w ≡ Some parent
-    → 1 ≤ exchanges_at net t w sending part)
+    → (is_at_rest net t w ≡ true) ⊎ (1 ≤ exchanges_at net t w sending part))
     × PathExchanges net (tree_run net t part) node rounds rest
 
 -- no sender's end of the node's path is closed

@@ -5,7 +5,7 @@ ghost use Rattle.stab_core.specs.CounterExamples.{four_labels};
 ghost use Rattle.stab_core.specs.LinkSetup.{setup};
 ghost use Rattle.stab_core.specs.Replay.{clean_start};
 ghost use Rattle.stab_exchanges.specs.Exchanges.{completed_exchanges, sending};
-ghost use Rattle.stab_exchanges.specs.TreeExchanges.{exchanges_at, tree_of_links};
+ghost use Rattle.stab_exchanges.specs.TreeExchanges.{exchanges_at, is_at_rest, tree_of_links};
 ghost use Rattle.stab_line.specs.Ends.{new_receiver, new_sender, offered_to};
 ghost use Rattle.stab_line.specs.Passes.{pass};
 ghost use Rattle.stab_line.specs.Progress.{connects, exchange};
@@ -36,7 +36,8 @@ pub fn worked_out()
         ∷ happens (sender_makes 5) ∷ happens (receiver_accepts 5) ∷ happens ack_sent
         ∷ happens (ack_comes 5) ∷ []) ≡ 0) }
     // In the chain r, a, b, over connection 4 of each link, r publishes 7. A pass over both links
-    // completes an exchange on each, and b has 7. Nothing was acknowledged before.
+    // completes an exchange on each, and b has 7. Then both links are at rest; the one into b was
+    // at rest before.
     ensures a_path { let net : Network = record {
       tree = record { names = []; parents = None ∷ Some 0 ∷ Some 1 ∷ [] };
       links = setup four_labels clean_start ∷ setup four_labels clean_start ∷ [];
@@ -50,7 +51,10 @@ pub fn worked_out()
           links = λ node. link_run four_labels ends (connects false 4);
         } in
         let acts = pass ((1, 4) ∷ (2, 4) ∷ []) in
+        let after = tree_run net t acts in
         (exchanges_at net t 1 sending acts ≡ 1) × (exchanges_at net t 2 sending acts ≡ 1)
         × (received (tree_of_links net t) 2 ≡ [])
-        × (received (tree_of_links net (tree_run net t acts)) 2 ≡ 7 ∷ []) }
+        × (received (tree_of_links net after) 2 ≡ 7 ∷ [])
+        × (is_at_rest net t 1 ≡ false) × (is_at_rest net t 2 ≡ true)
+        × (is_at_rest net after 1 ≡ true) × (is_at_rest net after 2 ≡ true) }
 {}

@@ -54,7 +54,7 @@ pub fn a_tree_over_connections_is_a_tree_of_links()
 
 /// Whatever its nodes, its connections and the network do is changes of that tree of links, and no
 /// fault. Among them are as many reading rounds of a node's path as there are parts in which each
-/// link of the path completes an exchange.
+/// link of the path completes an exchange, unless it has nothing to hand on.
 pub fn exchanges_of_a_path_are_its_rounds()
     ensures { (net : Network) (t : SessionTree) (acts : List TreeAct) (node rounds : ℕ)
         → IsNetwork net → AllInTurn t → AllCounted net t → PathExchanges net t node rounds acts
