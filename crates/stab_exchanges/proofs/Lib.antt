@@ -4,4 +4,5 @@ pub mod WholeRounds
 pub mod RoundsOf
 pub mod TreesShown
 pub mod TreeRests
+pub mod CountsStay
 pub mod TreeRuns

@@ -1,6 +1,6 @@
 -- A tree over connections goes through changes of the tree of links that it is, with as many
 -- reading rounds of a path as parts in which each of its links completes an exchange.
-use Rattle.std.proofs.Common.{◌≡◌, ◌≢◌, ℕ, zero, suc, ◌+◌, ◌≤◌, ◌==◌, ◌&&◌, not, Bool, true, false, if◌then◌else◌, List, [], ◌∷◌, ◌++◌, append-nil, length-append, length-set, ext_get_or, get_or, is_some, map, length, slice_get, option_map, Some, None, Option, is_none, refl, sym, ◌∙◌, ap, subst, arith, eq-eqb, eqb-true, true≢false, inl, inr}
+use Rattle.std.proofs.Common.{◌≡◌, ℕ, zero, suc, ◌+◌, ◌≤◌, ◌==◌, ◌&&◌, not, Bool, true, false, if◌then◌else◌, List, [], ◌∷◌, ◌++◌, append-nil, length-append, length-set, ext_get_or, get_or, is_some, map, length, slice_get, option_map, Some, None, Option, is_none, refl, sym, ◌∙◌, ap, subst, arith, eq-eqb, eqb-true, true≢false, inl, inr}
 use Rattle.std.specs.Option.{option_map_or}
 use Rattle.std.proofs.lemmas.List.{length_push}
 use Rattle.std.proofs.lemmas.Option.{none-some}
@@ -43,6 +43,7 @@ use Rattle.stab_line.proofs.SessionTrees.{HaveRoom, tree_in_turn}
 use Rattle.stab_exchanges.specs.Exchanges.{Exchange, sending, arrival, answer, exchange_after}
 use Rattle.stab_exchanges.specs.TreeExchanges.{AllCounted, IsCounted, IsPathOfOpenSenders, PathExchanges, awaited_at, exchanges_at, link_shown, links_from, tree_of_links}
 use Rattle.stab_exchanges.proofs.Counted.{open_before}
+use Rattle.stab_exchanges.proofs.CountsStay.{next_counted, run_within}
 use Rattle.stab_exchanges.proofs.RoundsOf.{act_goes}
 use Rattle.stab_exchanges.proofs.TreeRests.{no_fault_append, rested, rounds_append}
 use Rattle.stab_exchanges.proofs.TreesShown.{Lifted, Ready, Shows, Went, at_link_went, idle_line, own_next, publish_went, put_there, ready_one, received_is}
@@ -538,6 +539,29 @@ exchanges_are_rounds net t acts node rounds is_network in_turn counted are_excha
       are_rounds,
     )
 
+-- at any moment the links are in turn and counted
+pub stays_counted : (net : Network) (t : SessionTree) (acts : List TreeAct) → IsNetwork net → AllInTurn t → AllCounted net t
+    → AllInTurn (tree_run net t acts) × AllCounted net (tree_run net t acts)
+stays_counted net t acts is_network in_turn counted =
+    let s : WholeTree = tree_of_links net t in
+    let all =
+    ran net t s acts (λ w. sending) (λ w. offer) (λ w up is_child. (lawful net t is_network in_turn counted w up is_child).some_capacity)
+    (all_ready net t s (shows_itself net t) in_turn counted) (λ w up is_child. (tt, tt))
+    in
+    let after : SessionTree = tree_run net t acts in
+    let within = run_within net t acts (λ w up is_child. (counted w up is_child).2) in (
+      all.ready.in_turn,
+      λ w up is_child. (
+        next_counted (link_of (line_of (after.links w))) (after.links w) (all.ready.next w up is_child),
+        all.ready.counts w up is_child,
+        within w up is_child,
+      ),
+    )
+
+pub path_open_at_first : (net : Network) (t : SessionTree) (acts : List TreeAct) (node : ℕ) → IsPathOfOpenSenders net (tree_run net t acts) node
+    → IsPathOfOpenSenders net t node
+path_open_at_first net t acts node are_open = λ w up reaches is_child. run_open net t acts w (are_open w up reaches is_child)
+
 -- what convergence asks for besides
 pub spares_all : (parents : List (Option ℕ)) (node : ℕ) (changes : List Change) → HasNoFault changes → Spare parents node changes
 spares_all parents node [] no_fault = tt
@@ -553,3 +577,9 @@ shown_is_open net t node w link reaches there =
 
 pub one_is_enough : (s : WholeTree) (node : ℕ) → TakesAtMost reading 1 s node
 one_is_enough s node w up reaches is_child = omega arith
+
+pub spares_both : (parents : List (Option ℕ)) (node : ℕ) (before after : List Change) → HasNoFault before → HasNoFault after
+    → Spare parents node (before ++ (after ++ []))
+spares_both parents node before after first second =
+    spares_all parents node (before ++ (after ++ []))
+    (no_fault_append before (after ++ []) first (no_fault_append after [] second tt))

@@ -45,11 +45,14 @@ pub fn completed_exchanges_are_reading_rounds()
         × (completed_exchanges p before acts ≤ reading_rounds p.capacity events) }
 {}
 
-/// A tree over connections is a tree of links, in a state from which its laws hold, at any moment
-/// at which all that was offered is acknowledged, but for what senders hold.
+/// A tree over connections is a tree of links, in a state from which its laws hold, where all that
+/// was offered is acknowledged, but for what senders hold. And so it stays, whatever happens.
 pub fn a_tree_over_connections_is_a_tree_of_links()
-    ensures { (net : Network) (t : SessionTree) → IsNetwork net → AllInTurn t → AllCounted net t
-        → IsState net.tree (tree_of_links net t) }
+    ensures state { (net : Network) (t : SessionTree) → IsNetwork net → AllInTurn t
+        → AllCounted net t → IsState net.tree (tree_of_links net t) }
+    ensures stays { (net : Network) (t : SessionTree) (acts : List TreeAct) → IsNetwork net
+        → AllInTurn t → AllCounted net t → let after = tree_run net t acts in
+        AllInTurn after × AllCounted net after }
 {}
 
 /// Whatever its nodes, its connections and the network do is changes of that tree of links, and no
@@ -66,16 +69,19 @@ pub fn exchanges_of_a_path_are_its_rounds()
         × PathRounds reading s node rounds changes }
 {}
 
-/// So a node over connections comes back, whatever is published meanwhile: after as many such parts
-/// as reading rounds are needed it has all that was published before, but for some of the first.
+/// So a node over connections comes back, from any state, whatever happened since and whatever is
+/// published meanwhile: after as many such parts as reading rounds are needed it has all that was
+/// published before these parts, but for some of the first.
 pub fn nodes_over_connections_converge()
-    ensures { (net : Network) (t : SessionTree) (acts : List TreeAct) (node rounds : ℕ)
+    ensures { (net : Network) (t : SessionTree) (before acts : List TreeAct) (node rounds : ℕ)
         → IsNetwork net → AllInTurn t → AllCounted net t → node < length net.tree.parents
-        → PathExchanges net t node rounds acts
-        → let s = tree_of_links net t in
-        let after = tree_run net t acts in
-        IsPathOfOpenSenders net after node → rounds_since 1 (moment s) node ≤ rounds
-        → HasAllBefore s s (tree_of_links net after) node }
+        → let middle = tree_run net t before in
+        PathExchanges net middle node rounds acts
+        → let after = tree_run net middle acts in
+        IsPathOfOpenSenders net after node
+        → rounds_since 1 (moment (tree_of_links net middle)) node ≤ rounds
+        → HasAllBefore (tree_of_links net t) (tree_of_links net middle)
+        (tree_of_links net after) node }
 {
     stab_convergence::laws::nodes_converge();
 }
