@@ -1,7 +1,7 @@
 -- Exchanges in a tree over connections, and the tree of links that it is.
 -- Example: In the chain r, a, b let r publish 7, and an exchange be completed on the link into a,
--- and then one on that into b. These acts are one part for the path of b, which has 7 then. Two such
--- parts, one after the other, are two, but not two exchanges on the link into a.
+-- and then one on that into b. These acts are one part for the path of b, which has 7 then. As they
+-- begin, only the link into b is at rest; then both are, so a second part may have no acts at all.
 -- Source: this project's own.
 use Rattle.std.specs.Prelude.{◌≡◌, ℕ, zero, suc, ◌+◌, ◌≤◌, ◌==◌, if◌then◌else◌, List, [], ◌∷◌}
 use Rattle.std.specs.Prelude.{◌++◌, length, Option, Some, is_none, false, true, option_map}
