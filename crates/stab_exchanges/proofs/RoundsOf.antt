@@ -36,7 +36,7 @@ Harmless p s [] = Unit {0}
 Harmless p s (Offer item ∷ events) = ((other : ℕ) → step p s (Offer other) ≡ s) × Harmless p s events
 Harmless p s (e ∷ events) = Harmless p (step p s e) events
 
-plain_harmless : (p : Parameters) (s : LinkState) (events : List Event) → IsPlain events → Harmless p s events
+pub plain_harmless : (p : Parameters) (s : LinkState) (events : List Event) → IsPlain events → Harmless p s events
 plain_harmless p s [] plain = tt
 plain_harmless p s (Offer item ∷ events) plain = absurd plain
 plain_harmless p s (e ∷ events) plain = plain_harmless p (step p s e) events plain
@@ -55,6 +55,47 @@ plain_frames (suc n) events plain = plain_frames n events plain
 plain_acks : (n : ℕ) (events : List Event) → IsPlain events → IsPlain (replicate n (RecvAck false) ++ events)
 plain_acks zero events plain = plain
 plain_acks (suc n) events plain = plain_acks n events plain
+
+-- ---- where nothing is queued, nothing is taken
+
+pub no_frames_taken : (p : Parameters) (s : LinkState) (n : ℕ) (events : List Event)
+    → let quiet : LinkState = record s { frames = []; closed = false } in
+    replay p quiet (replicate n (RecvFrame false) ++ events) ≡ replay p quiet events
+no_frames_taken p s zero events = refl
+no_frames_taken p s (suc n) events = no_frames_taken p s n events
+
+pub no_acks_taken : (p : Parameters) (s : LinkState) (n : ℕ) (events : List Event)
+    → let quiet : LinkState = record s { acks = []; closed = false } in
+    replay p quiet (replicate n (RecvAck false) ++ events) ≡ replay p quiet events
+no_acks_taken p s zero events = refl
+no_acks_taken p s (suc n) events = no_acks_taken p s n events
+
+-- so all of a round but its offer changes nothing where the sender has nothing
+abbrev pub unoffered_round : ℕ → List Event
+unoffered_round c =
+    replicate c (RecvFrame false) ++ (SendFrame ∷ RecvFrame false
+    ∷ (replicate c (RecvAck false) ++ (SendAck ∷ RecvAck false ∷ [])))
+
+pub plain_round : (c : ℕ) → IsPlain (unoffered_round c)
+plain_round c =
+    plain_frames c (SendFrame ∷ RecvFrame false ∷ (replicate c (RecvAck false) ++ (SendAck ∷ RecvAck false ∷ [])))
+    (plain_acks c (SendAck ∷ RecvAck false ∷ []) tt)
+
+pub round_of_nothing : (p : Parameters) (s : LinkState) → 1 ≤ p.capacity → length s.offered ≡ s.acked
+    → let quiet : LinkState = record s { frames = []; acks = []; closed = false } in
+    replay p quiet (unoffered_round p.capacity) ≡ quiet
+round_of_nothing p s some none_waits =
+    let c : ℕ = p.capacity in
+    let quiet : LinkState = record s { frames = []; acks = []; closed = false } in
+    let answer_last : List Event = SendAck ∷ RecvAck false ∷ [] in
+    let answers : List Event = replicate c (RecvAck false) ++ answer_last in
+    let holds_none : (length s.offered == s.acked + 1) ≡ false = ne_eqb _ _ (λ same. absurd (omega (arith, same, none_waits))) in
+    let room : has_room {A = ℕ} p [] ≡ true = lt-ltb 0 p.capacity (omega (arith, some)) in
+    no_frames_taken p quiet c (SendFrame ∷ RecvFrame false ∷ answers)
+    ∙ ap (λ holds. replay p (if holds && has_room {A = Frame} p [] then record quiet { frames = current_frame quiet ∷ [] } else quiet) (RecvFrame false ∷ answers)) holds_none
+    ∙ no_acks_taken p quiet c answer_last
+    ∙ ap (λ fits. replay p (if fits then record quiet { acks = s.recv_label ∷ [] } else quiet) (RecvAck false ∷ [])) room
+    ∙ ap (λ holds. if holds && (s.recv_label == s.send_label) then goes_on p quiet else quiet) holds_none
 
 -- ---- a whole round in place of the acknowledgement that comes
 
@@ -105,17 +146,6 @@ module _ (p : Parameters) (some : 1 ≤ p.capacity) (items : List ℕ) (item lab
   offers_none other events =
       ap (λ idle. replay p (if idle then record taken_once { offered = (items ++ item ∷ []) ++ other ∷ [] } else taken_once) events) not_idle
 
-  -- where nothing is queued, nothing is taken
-  no_frames_taken : (n send acked : ℕ) (acks : List ℕ) (events : List Event)
-      → replay p (link [] acks send acked) (replicate n (RecvFrame false) ++ events) ≡ replay p (link [] acks send acked) events
-  no_frames_taken zero send acked acks events = refl
-  no_frames_taken (suc n) send acked acks events = no_frames_taken n send acked acks events
-
-  no_acks_taken : (n send acked : ℕ) (frames : List Frame) (events : List Event)
-      → replay p (link frames [] send acked) (replicate n (RecvAck false) ++ events) ≡ replay p (link frames [] send acked) events
-  no_acks_taken zero send acked frames events = refl
-  no_acks_taken (suc n) send acked frames events = no_acks_taken n send acked frames events
-
   -- the frame of the item is sent once more, and is old
   sent_again : (events : List Event) → replay p taken_once (SendFrame ∷ RecvFrame false ∷ events) ≡ replay p taken_once events
   sent_again events =
@@ -135,7 +165,7 @@ module _ (p : Parameters) (some : 1 ≤ p.capacity) (items : List ℕ) (item lab
       → replay p taken_once (replicate n (RecvAck false) ++ events) ≡ replay p acknowledged events
   all_taken zero events positive = absurd (omega arith)
   all_taken (suc n) events positive =
-      one_taken (replicate n (RecvAck false) ++ events) ∙ no_acks_taken n (next p label) (length items + 1) [] events
+      one_taken (replicate n (RecvAck false) ++ events) ∙ no_acks_taken p acknowledged n events
 
   -- and one that is sent once more is ignored
   answered_again : replay p acknowledged (SendAck ∷ RecvAck false ∷ []) ≡ acknowledged
@@ -148,20 +178,16 @@ module _ (p : Parameters) (some : 1 ≤ p.capacity) (items : List ℕ) (item lab
       let c : ℕ = p.capacity in
       let rest : List Event = replicate c (RecvAck false) ++ (SendAck ∷ RecvAck false ∷ []) in
       offers_none other (replicate c (RecvFrame false) ++ (SendFrame ∷ RecvFrame false ∷ rest))
-      ∙ no_frames_taken c label (length items) (label ∷ []) (SendFrame ∷ RecvFrame false ∷ rest)
+      ∙ no_frames_taken p taken_once c (SendFrame ∷ RecvFrame false ∷ rest)
       ∙ sent_again rest
       ∙ all_taken c (SendAck ∷ RecvAck false ∷ []) some
       ∙ answered_again
 
   round_is_harmless : (other : ℕ) → Harmless p taken_once (reading_round_with p.capacity other)
-  round_is_harmless other =
-      let c : ℕ = p.capacity in
-      let rest : List Event = replicate c (RecvAck false) ++ (SendAck ∷ RecvAck false ∷ []) in
-      let sent : List Event = SendFrame ∷ RecvFrame false ∷ rest in (
-        λ another. offers_none another [],
-        plain_harmless p taken_once (replicate c (RecvFrame false) ++ sent)
-            (plain_frames c sent (plain_acks c (SendAck ∷ RecvAck false ∷ []) tt)),
-      )
+  round_is_harmless other = (
+    λ another. offers_none another [],
+    plain_harmless p taken_once (unoffered_round p.capacity) (plain_round p.capacity),
+  )
 
 -- ---- the exchange that is completed
 

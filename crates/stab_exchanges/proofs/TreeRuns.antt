@@ -1,26 +1,26 @@
 -- A tree over connections goes through changes of the tree of links that it is, with as many
 -- reading rounds of a path as parts in which each of its links completes an exchange.
-use Rattle.std.proofs.Common.{◌≡◌, ◌≢◌, ℕ, zero, suc, ◌+◌, ◌<◌, ◌≤◌, ◌==◌, ◌&&◌, not, Bool, true, false, if◌then◌else◌, List, [], ◌∷◌, ◌++◌, append-nil, length, slice_get, option_map, Some, None, Option, is_none, refl, sym, ◌∙◌, ap, subst, arith, eq-eqb, eqb-true, true≢false}
+use Rattle.std.proofs.Common.{◌≡◌, ℕ, zero, suc, ◌+◌, ◌≤◌, ◌==◌, ◌&&◌, not, Bool, true, false, if◌then◌else◌, List, [], ◌∷◌, ◌++◌, append-nil, length-append, length-set, ext_get_or, get_or, is_some, map, length, slice_get, option_map, Some, None, Option, is_none, refl, sym, ◌∙◌, ap, subst, arith, eq-eqb, eqb-true, true≢false, inl, inr}
 use Rattle.std.specs.Option.{option_map_or}
 use Rattle.std.proofs.lemmas.List.{length_push}
 use Rattle.std.proofs.lemmas.Option.{none-some}
-use Rattle.stab_frames.specs.Parameters.{Parameters}
-use Rattle.stab_core.specs.declared.act.LinkAct.{LinkAct}
+use Rattle.stab_frames.specs.Parameters.{AreLawful, Parameters}
 use Rattle.stab_core.specs.declared.act.LinkAct.TheVariants as act
-use Rattle.stab_core.specs.declared.event.Event.TheVariants as event
 use Rattle.stab_core.specs.Link.{LinkValue, link_at}
 use Rattle.stab_core.specs.LinkActs.{event_of}
+use Rattle.stab_core.specs.LinkSetup.{CanBegin, LinkSetup}
 use Rattle.stab_core.specs.LinkState.{LinkState}
+use Rattle.stab_core.specs.Since.{IsBounded}
 use Rattle.stab_tree.specs.Nodes.{parent_at}
 use Rattle.stab_tree.specs.Steps.{Reaches}
+use Rattle.stab_tree.proofs.ForCallers.{child_is_node, holds_by_child, one_by_child}
 use Rattle.stab_treecore.specs.declared.change.Change.{Change}
 use Rattle.stab_treecore.specs.declared.change.Change.TheVariants.{Act, Publish, Strike, Restart}
-use Rattle.stab_treecore.specs.declared.event.TreeEvent.{TreeEvent}
 use Rattle.stab_treecore.specs.Changes.{changes_replay}
 use Rattle.stab_treecore.specs.Hits.{Spare}
-use Rattle.stab_treecore.specs.Network.{Network}
+use Rattle.stab_treecore.specs.Network.{IsNetwork, Network}
 use Rattle.stab_treecore.specs.Since.{IsState, capacity_at}
-use Rattle.stab_treecore.specs.TreeStep.{tree_step as link_tree_step}
+use Rattle.stab_treecore.specs.TreeStep.{event_on, link_after, tree_step as link_tree_step}
 use Rattle.stab_treecore.specs.WholeTree.{WholeTree, link_into, received}
 use Rattle.stab_treecore.proofs.Contained.{changes-append}
 use Rattle.stab_rounds.specs.Kinds.{reading}
@@ -31,35 +31,26 @@ use Rattle.stab_rounds.proofs.Links.{after_event}
 use Rattle.stab_rounds.proofs.TreeSteps.{step_at, step_other}
 use Rattle.stab_convergence.specs.AtRest.{HasNoFault}
 use Rattle.stab_convergence.specs.PathRounds.{IsPathOpen, PathRounds, TakesAtMost, acts_among}
-use Rattle.stab_convergence.proofs.Acts.{acts-append}
-use Rattle.stab_line.specs.Ends.{SenderEnd, accepts}
-use Rattle.stab_line.specs.Line.{Line, held, line_step, link_of, offer_item, with_taken}
+use Rattle.stab_line.specs.Ends.{accepts}
+use Rattle.stab_line.specs.Line.{Line, held, link_of, offer_item, with_taken}
 use Rattle.stab_line.specs.NodeTree.{put, parameters_into, list_of, list_above}
-use Rattle.stab_line.specs.SessionLink.{SessionLink, ConnectionAct, InTurn, connection_step, link_step, item_offered, happens, line_of}
+use Rattle.stab_line.specs.SessionLink.{SessionLink, ConnectionAct, connection_step, link_step, item_offered, happens, line_of}
 use Rattle.stab_line.specs.SessionTree.{SessionTree, TreeAct, publishes, polls, at_link, tree_step, tree_run, nodes_of, offers, acts_at, AllInTurn}
 use Rattle.stab_line.proofs.Exchanges.{put_here}
-use Rattle.stab_line.proofs.Lines.{Fields, Next, Work, done, waiting, fields, line_at, item_of, offered_of, acked_of}
+use Rattle.stab_line.proofs.Lines.{Fields, Next, Work, done, waiting, fields, line_at}
+use Rattle.stab_line.proofs.SessionLines.{few_acks, few_frames}
 use Rattle.stab_line.proofs.SessionTrees.{HaveRoom, tree_in_turn}
 use Rattle.stab_exchanges.specs.Exchanges.{Exchange, sending, arrival, answer, exchange_after}
-use Rattle.stab_exchanges.specs.TreeExchanges.{AllCounted, IsCounted, IsPathOfOpenSenders, PathExchanges, Shows, awaited_at, exchanges_at, link_shown}
+use Rattle.stab_exchanges.specs.TreeExchanges.{AllCounted, IsCounted, IsPathOfOpenSenders, PathExchanges, awaited_at, exchanges_at, link_shown, links_from, tree_of_links}
 use Rattle.stab_exchanges.proofs.Counted.{open_before}
+use Rattle.stab_exchanges.proofs.CountsStay.{next_counted, run_within}
 use Rattle.stab_exchanges.proofs.RoundsOf.{act_goes}
-use Rattle.stab_exchanges.proofs.TreesShown.{Lifted, Ready, Went, at_link_went, own_next, publish_went, put_there, ready_one, received_is}
+use Rattle.stab_exchanges.proofs.TreeRests.{no_fault_append, rested, rounds_append}
+use Rattle.stab_exchanges.proofs.TreesShown.{Lifted, Ready, Shows, Went, at_link_went, idle_line, own_next, publish_went, put_there, ready_one, received_is}
 use Rattle.stab_exchanges.proofs.Underway.{Underway, underway_step}
-use Rattle.stab_exchanges.proofs.WholeRounds.{IsLeft, left_over, reading_append, reads_over}
+use Rattle.stab_exchanges.proofs.WholeRounds.{IsLeft, left_over, reads_over}
 
 -- ---- a child that is polled
-
-idle_work : (work : Work) → is_none (item_of work) ≡ true → length (offered_of work) ≡ acked_of work
-idle_work (done items) none = refl
-idle_work (waiting items item) none = absurd (true≢false (sym none))
-
--- a sender that holds nothing was acknowledged all
-idle_line : (s : LinkState) (l : Line) → Next s l → is_none l.sender.state.item ≡ true → length l.offered ≡ l.acked
-idle_line s l there none =
-    ap (λ (k : Line). length k.offered) there.line
-    ∙ idle_work there.after.work (sym (ap (λ (k : Line). is_none k.sender.state.item) there.line) ∙ none)
-    ∙ sym (ap (λ (k : Line). k.acked) there.line)
 
 holds_none : (closed : Bool) (item : Option ℕ) → (not closed && is_none item) ≡ true → is_none item ≡ true
 holds_none true item takes = absurd (true≢false (sym takes))
@@ -271,32 +262,6 @@ run_open net t (a ∷ acts) w is_open = tree_open net t a w (run_open net (tree_
 
 -- ---- acts, one after the other
 
-acts_on_append : (w : ℕ) (first second : List TreeEvent) → acts_on w (first ++ second) ≡ acts_on w first ++ acts_on w second
-acts_on_append w [] second = refl
-acts_on_append w (e ∷ first) second = by_same (e.child == w) (acts_on_append w first second)
-  where
-    by_same : (same : Bool) → acts_on w (first ++ second) ≡ acts_on w first ++ acts_on w second
-        → (if same then e.act ∷ acts_on w (first ++ second) else acts_on w (first ++ second))
-        ≡ (if same then e.act ∷ acts_on w first else acts_on w first) ++ acts_on w second
-    by_same true rest = ap (λ acts. e.act ∷ acts) rest
-    by_same false rest = rest
-
-no_fault_append : (first second : List Change) → HasNoFault first → HasNoFault second → HasNoFault (first ++ second)
-no_fault_append [] second before after = after
-no_fault_append (Act e ∷ first) second before after = no_fault_append first second before after
-no_fault_append (Publish items ∷ first) second before after = no_fault_append first second before after
-no_fault_append (Strike child start ∷ first) second before after = absurd before
-no_fault_append (Restart node list ∷ first) second before after = absurd before
-
--- the reading rounds among changes, one after the other
-rounds_append : (c w : ℕ) (r : Reads) (first second : List Change)
-    → reading_from c r (acts_on w (acts_among (first ++ second)))
-    ≡ reading_from c r (acts_on w (acts_among first)) + reading_from c (reads_over c r (acts_on w (acts_among first))) (acts_on w (acts_among second))
-rounds_append c w r first second =
-    ap (λ events. reading_from c r (acts_on w events)) (acts-append first second)
-    ∙ ap (reading_from c r) (acts_on_append w (acts_among first) (acts_among second))
-    ∙ reading_append c r (acts_on w (acts_among first)) (acts_on w (acts_among second))
-
 record Ran (net : Network) (t : SessionTree) (s : WholeTree) (acts : List TreeAct) (e : ℕ → Exchange) (r : ℕ → Reads) : Type 0 where
   changes : List Change
   no_fault : HasNoFault changes
@@ -353,27 +318,41 @@ module _ (net : Network) (s0 : WholeTree) (node : ℕ) (same_parents : s0.parent
       let end : tree_run net t acts ≡ tree_run net (tree_run net t part) rest =
       ap (tree_run net t) parts ∙ tree_run_append net t part rest
       in
-      let one = ran net t s part (λ w. sending) (λ w. offer) room ready (λ w up is_child. (tt, tt)) in
+      let at_rest = rested net t s room (length net.tree.parents) ready in
+      let quiet : List Change = at_rest.changes in
+      let awaited : ℕ → Reads = λ w. reads_over (parameters_into net w).capacity offer (acts_on w (acts_among quiet)) in
+      let one =
+      ran net t (changes_replay s quiet) part (λ w. sending) awaited room at_rest.ready
+      (λ w up is_child. (tt, left_over (parameters_into net w).capacity offer (acts_on w (acts_among quiet)) tt))
+      in
       let still_open : IsPathOfOpenSenders net (tree_run net (tree_run net t part) rest) node =
       subst (λ (u : SessionTree). IsPathOfOpenSenders net u node) end are_open
       in
+      let first : List Change = quiet ++ one.changes in
       let (changes, no_fault, after, are_rounds) =
-      path_rounds (tree_run net t part) (changes_replay s one.changes) rounds rest one.ready more still_open
+      path_rounds (tree_run net t part) (changes_replay (changes_replay s quiet) one.changes) rounds rest one.ready more still_open
       in (
-        one.changes ++ changes,
-        no_fault_append one.changes changes one.no_fault no_fault,
-        subst (λ (u : WholeTree). Ready net (tree_run net t acts) u) (sym (changes-append s one.changes changes))
-            (subst (λ (u : SessionTree). Ready net u (changes_replay (changes_replay s one.changes) changes)) (sym end) after),
+        first ++ changes,
+        no_fault_append first changes (no_fault_append quiet one.changes at_rest.no_fault one.no_fault) no_fault,
+        subst (λ (u : WholeTree). Ready net (tree_run net t acts) u)
+            (sym (changes-append s first changes ∙ ap (λ u. changes_replay u changes) (changes-append s quiet one.changes)))
+            (subst (λ (u : SessionTree). Ready net u (changes_replay (changes_replay (changes_replay s quiet) one.changes) changes)) (sym end) after),
         (
-          one.changes,
+          first,
           changes,
           refl,
           λ w up reaches is_child.
               let there : parent_at net.tree.parents w ≡ Some up = ap (λ ps. parent_at ps w) (sym same_parents) ∙ is_child in
               let reached : Reaches net.tree.parents node w = subst (λ ps. Reaches ps node w) same_parents reaches in
-              let few = each w up reached there in
-              let some = one.some w up there (run_open net (tree_run net t part) rest w (still_open w up reached there)) in
-              subst (λ c. 1 ≤ reading_from c offer (acts_on w (acts_among one.changes))) (sym (same_capacity w up there)) (omega (arith, few, some)),
+              let few = one.some w up there (run_open net (tree_run net t part) rest w (still_open w up reached there)) in
+              let c : ℕ = (parameters_into net w).capacity in
+              let both = rounds_append c w offer quiet one.changes in
+              subst (λ k. 1 ≤ reading_from k offer (acts_on w (acts_among first))) (sym (same_capacity w up there))
+              (elim (each w up reached there) [
+                | inl rests ↦
+                    (let some = at_rest.some w up there (child_is_node net.tree.parents w up there) rests in omega (arith, some, both))
+                | inr exchanged ↦ omega (arith, exchanged, few, both)
+              ]),
           are_rounds,
         ),
       )
@@ -415,26 +394,173 @@ all_ready net t s shows in_turn counted =
       counts = λ w up is_child. (counted w up is_child).1;
     }
 
-link_there : (net : Network) (t : SessionTree) (s : WholeTree) (w up : ℕ) → Shows net t s → parent_at net.tree.parents w ≡ Some up
-    → link_into s w ≡ Some (link_shown net t w up)
-link_there net t s w up shows is_child = shows.links w ∙ ap (option_map (link_shown net t w)) is_child
+-- ---- the tree of links of a tree over connections
 
-pub exchanges_are_rounds : (net : Network) (t : SessionTree) (s : WholeTree) (acts : List TreeAct) (node rounds : ℕ)
-    → IsState net.tree s → Shows net t s → AllInTurn t → AllCounted net t → PathExchanges net t node rounds acts
-    → IsPathOfOpenSenders net (tree_run net t acts) node
-    → (changes : List Change) × HasNoFault changes × Shows net (tree_run net t acts) (changes_replay s changes)
+module _ (net : Network) (t : SessionTree) where
+  links_at : (parents : List (Option ℕ)) (k w : ℕ)
+      → get_or (links_from net t k parents) w None ≡ option_map (link_shown net t (k + w)) (get_or parents w None)
+  links_at [] k w = refl
+  links_at (parent ∷ parents) k zero =
+      ap (λ n. option_map (link_shown net t n) parent) (let e : k ≡ k + 0 = omega arith in e)
+  links_at (parent ∷ parents) k (suc w) =
+      links_at parents (k + 1) w
+      ∙ ap (λ n. option_map (link_shown net t n) (get_or parents w None)) (let e : k + 1 + w ≡ k + suc w = omega arith in e)
+
+  pub shows_itself : Shows net t (tree_of_links net t)
+  shows_itself = record {
+    parents = refl;
+    openings = refl;
+    published = refl;
+    links =
+        λ w. links_at net.tree.parents 0 w
+        ∙ ap (λ n. option_map (link_shown net t n) (parent_at net.tree.parents w)) (let e : 0 + w ≡ w = omega arith in e);
+  }
+
+  as_many : (parents : List (Option ℕ)) (k : ℕ) → length (links_from net t k parents) ≡ length parents
+  as_many [] k = refl
+  as_many (parent ∷ parents) k = ap suc (as_many parents (k + 1))
+
+  -- no other tree of links is
+  shown_alone : (s : WholeTree) → Shows net t s → length s.links ≡ length net.tree.parents → s ≡ tree_of_links net t
+  shown_alone s shows many =
+      let links : s.links ≡ links_from net t 0 net.tree.parents =
+      ext_get_or None s.links (links_from net t 0 net.tree.parents) (many ∙ sym (as_many net.tree.parents 0))
+      (λ i within. shows.links i ∙ sym (shows_itself.links i))
+      in
+      ap (λ published. record s { published = published }) shows.published
+      ∙ ap (λ openings. record s { published = t.published; openings = openings }) shows.openings
+      ∙ ap (λ parents. record s { published = t.published; openings = net.openings.lists; parents = parents }) shows.parents
+      ∙ ap (λ ls. record (tree_of_links net t) { links = ls }) links
+
+  link_there : (w up : ℕ) → parent_at net.tree.parents w ≡ Some up → link_into (tree_of_links net t) w ≡ Some (link_shown net t w up)
+  link_there w up is_child = shows_itself.links w ∙ ap (option_map (link_shown net t w)) is_child
+
+  -- a link that is there has a parent above it
+  of_link : (up : Option ℕ) (w : ℕ) (link : LinkValue) → option_map (link_shown net t w) up ≡ Some link
+      → (parent : ℕ) × (up ≡ Some parent) × (link_shown net t w parent ≡ link)
+  of_link None w link is = absurd (none-some link is)
+  of_link (Some parent) w link is = (parent, refl, ap (λ o. option_map_or (λ l. l) o (link_shown net t w parent)) is)
+
+  kinds : (parents : List (Option ℕ)) (k : ℕ) → map is_some (links_from net t k parents) ≡ map is_some parents
+  kinds [] k = refl
+  kinds (None ∷ parents) k = ap (λ rest. false ∷ rest) (kinds parents (k + 1))
+  kinds (Some parent ∷ parents) k = ap (λ rest. true ∷ rest) (kinds parents (k + 1))
+
+  module _ (is_network : IsNetwork net) (in_turn : AllInTurn t) (counted : AllCounted net t) where
+    lawful : (w up : ℕ) → parent_at net.tree.parents w ≡ Some up → AreLawful (parameters_into net w)
+    lawful w up is_child =
+        let (setup, leads) = one_by_child net.tree.parents net.links 0 w up is_network.one_per_link is_child in
+        subst AreLawful (ap (λ o. option_map_or (λ (l : LinkSetup). l.params) o (record { capacity = 0; labels = 0 })) (sym leads))
+        (holds_by_child CanBegin net.tree.parents net.links w setup is_network.can_begin leads).0
+
+    -- what is offered is what was acknowledged, and maybe one item more
+    waits : (item : Option ℕ) (front items : List ℕ) (acked : ℕ) → items ≡ front ++ held item → acked ≡ length front
+        → (acked ≤ length items) × (length items ≤ acked + 1)
+    waits None front items acked offered is =
+        let size : length items ≡ length front + 0 = ap length offered ∙ length-append front [] in
+        (omega (arith, size, is), omega (arith, size, is))
+    waits (Some item) front items acked offered is =
+        let size : length items ≡ length front + 1 = ap length offered ∙ length-append front (item ∷ []) in
+        (omega (arith, size, is), omega (arith, size, is))
+
+    pub shown_is_state : IsState net.tree (tree_of_links net t)
+    shown_is_state = record {
+      is_tree = is_network.tree;
+      parents = refl;
+      linked = kinds net.tree.parents 0;
+      bounded =
+          λ w link there.
+          let (up, is_child, is) = of_link (parent_at net.tree.parents w) w link (sym (shows_itself.links w) ∙ there) in
+          subst (λ (l : LinkValue). AreLawful l.params × IsBounded l.params l.state) is (bounded_at w up is_child);
+      within =
+          λ w parent link is_child there.
+          let (up, _, is) = of_link (parent_at net.tree.parents w) w link (sym (shows_itself.links w) ∙ there) in
+          subst (λ (l : LinkValue). length l.state.offered ≤ length (received (tree_of_links net t) parent)) is (within_at w parent is_child);
+    }
+      where
+        bounded_at : (w up : ℕ) → parent_at net.tree.parents w ≡ Some up
+            → AreLawful (parameters_into net w) × IsBounded (parameters_into net w) (link_of (line_of (t.links w)))
+        bounded_at w up is_child =
+            let ((front, offered, acked), _, _) = counted w up is_child in
+            let (fewer, no_more) = waits (t.links w).sender.state.item front (t.links w).offered (t.links w).acked offered acked in
+            let some = (lawful w up is_child).some_capacity in (
+              lawful w up is_child,
+              record {
+                lawful = record {
+                  frames = omega (arith, some, few_frames (t.links w) (in_turn w) (t.links w).at_receiver.connection);
+                  acks = omega (arith, some, few_acks (t.links w) (in_turn w) (t.links w).at_sender.connection);
+                };
+                acked_were_offered = fewer;
+                one_waits_at_most = no_more;
+              },
+            )
+
+        within_at : (w parent : ℕ) → parent_at net.tree.parents w ≡ Some parent
+            → length (t.links w).offered ≤ length (received (tree_of_links net t) parent)
+        within_at w parent is_child =
+            let (_, as_far, within) = counted w parent is_child in
+            omega (
+              arith,
+              as_far,
+              within,
+              ap (λ o. length (option_map_or (list_of net (nodes_of t)) o [])) is_child,
+              ap length (received_is net t (tree_of_links net t) parent shows_itself),
+            )
+
+-- changes without faults keep the number of links
+links_kept : (s : WholeTree) (changes : List Change) → HasNoFault changes → length (changes_replay s changes).links ≡ length s.links
+links_kept s [] no_fault = refl
+links_kept s (Act e ∷ changes) no_fault =
+    links_kept (link_tree_step s e) changes no_fault
+    ∙ length-set s.links e.child (option_map (link_after (event_on s e)) (link_into s e.child))
+links_kept s (Publish items ∷ changes) no_fault = links_kept (record s { published = s.published ++ items }) changes no_fault
+links_kept s (Strike child start ∷ changes) no_fault = absurd no_fault
+links_kept s (Restart node list ∷ changes) no_fault = absurd no_fault
+
+pub exchanges_are_rounds : (net : Network) (t : SessionTree) (acts : List TreeAct) (node rounds : ℕ)
+    → IsNetwork net → AllInTurn t → AllCounted net t → PathExchanges net t node rounds acts
+    → let s = tree_of_links net t in
+    let after = tree_run net t acts in
+    IsPathOfOpenSenders net after node
+    → (changes : List Change) × HasNoFault changes × (changes_replay s changes ≡ tree_of_links net after)
     × PathRounds reading s node rounds changes
-exchanges_are_rounds net t s acts node rounds is_state shows in_turn counted are_exchanges are_open =
-    let there : (w up : ℕ) → parent_at net.tree.parents w ≡ Some up → link_into s w ≡ Some (link_shown net t w up) =
-    λ w up is_child. link_there net t s w up shows is_child
-    in
+exchanges_are_rounds net t acts node rounds is_network in_turn counted are_exchanges are_open =
+    let s : WholeTree = tree_of_links net t in
     let (changes, no_fault, after, are_rounds) =
-    path_rounds net s node shows.parents
-    (λ w up is_child. ap {B = ℕ} (λ o. option_map_or (λ (link : LinkValue). link.params.capacity) o 0) (there w up is_child))
-    (λ w up is_child. (is_state.bounded w (link_shown net t w up) (there w up is_child)).0.some_capacity)
-    t s rounds acts (all_ready net t s shows in_turn counted) are_exchanges are_open
+    path_rounds net s node refl
+    (λ w up is_child. ap {B = ℕ} (λ o. option_map_or (λ (link : LinkValue). link.params.capacity) o 0) (link_there net t w up is_child))
+    (λ w up is_child. (lawful net t is_network in_turn counted w up is_child).some_capacity)
+    t s rounds acts (all_ready net t s (shows_itself net t) in_turn counted) are_exchanges are_open
+    in (
+      changes,
+      no_fault,
+      shown_alone net (tree_run net t acts) (changes_replay s changes) after.shows
+          (links_kept s changes no_fault ∙ as_many net t net.tree.parents 0),
+      are_rounds,
+    )
+
+-- at any moment the links are in turn and counted
+pub stays_counted : (net : Network) (t : SessionTree) (acts : List TreeAct) → IsNetwork net → AllInTurn t → AllCounted net t
+    → AllInTurn (tree_run net t acts) × AllCounted net (tree_run net t acts)
+stays_counted net t acts is_network in_turn counted =
+    let s : WholeTree = tree_of_links net t in
+    let all =
+    ran net t s acts (λ w. sending) (λ w. offer) (λ w up is_child. (lawful net t is_network in_turn counted w up is_child).some_capacity)
+    (all_ready net t s (shows_itself net t) in_turn counted) (λ w up is_child. (tt, tt))
     in
-    (changes, no_fault, after.shows, are_rounds)
+    let after : SessionTree = tree_run net t acts in
+    let within = run_within net t acts (λ w up is_child. (counted w up is_child).2) in (
+      all.ready.in_turn,
+      λ w up is_child. (
+        next_counted (link_of (line_of (after.links w))) (after.links w) (all.ready.next w up is_child),
+        all.ready.counts w up is_child,
+        within w up is_child,
+      ),
+    )
+
+pub path_open_at_first : (net : Network) (t : SessionTree) (acts : List TreeAct) (node : ℕ) → IsPathOfOpenSenders net (tree_run net t acts) node
+    → IsPathOfOpenSenders net t node
+path_open_at_first net t acts node are_open = λ w up reaches is_child. run_open net t acts w (are_open w up reaches is_child)
 
 -- what convergence asks for besides
 pub spares_all : (parents : List (Option ℕ)) (node : ℕ) (changes : List Change) → HasNoFault changes → Spare parents node changes
@@ -444,13 +570,16 @@ spares_all parents node (Publish items ∷ changes) no_fault = ((λ hit. hit), s
 spares_all parents node (Strike child start ∷ changes) no_fault = absurd no_fault
 spares_all parents node (Restart other list ∷ changes) no_fault = absurd no_fault
 
-pub shown_is_open : (net : Network) (t : SessionTree) (s : WholeTree) (node : ℕ) → Shows net t s → IsPathOpen s node
-shown_is_open net t s node shows w link reaches there =
-    ap (λ o. option_map_or (λ (l : LinkValue). l.state.closed) o false) (sym there ∙ shows.links w) ∙ by_parent (parent_at net.tree.parents w)
-  where
-    by_parent : (up : Option ℕ) → option_map_or (λ (l : LinkValue). l.state.closed) (option_map (link_shown net t w) up) false ≡ false
-    by_parent None = refl
-    by_parent (Some parent) = refl
+pub shown_is_open : (net : Network) (t : SessionTree) (node : ℕ) → IsPathOpen (tree_of_links net t) node
+shown_is_open net t node w link reaches there =
+    let (up, _, is) = of_link net t (parent_at net.tree.parents w) w link (sym ((shows_itself net t).links w) ∙ there) in
+    ap (λ (l : LinkValue). l.state.closed) (sym is)
 
 pub one_is_enough : (s : WholeTree) (node : ℕ) → TakesAtMost reading 1 s node
 one_is_enough s node w up reaches is_child = omega arith
+
+pub spares_both : (parents : List (Option ℕ)) (node : ℕ) (before after : List Change) → HasNoFault before → HasNoFault after
+    → Spare parents node (before ++ (after ++ []))
+spares_both parents node before after first second =
+    spares_all parents node (before ++ (after ++ []))
+    (no_fault_append before (after ++ []) first (no_fault_append after [] second tt))

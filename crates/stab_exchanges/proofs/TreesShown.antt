@@ -1,13 +1,9 @@
 -- What an act of a tree over connections makes of the tree of links that it is.
-use Rattle.std.proofs.Common.{◌≡◌, ◌≢◌, ℕ, zero, suc, ◌+◌, ◌≤◌, ◌==◌, ◌&&◌, not, Bool, true, false, if◌then◌else◌, List, [], ◌∷◌, ◌++◌, length, map, slice_get, option_map, Some, None, Option, is_none, refl, sym, ◌∙◌, ap, subst, arith, eq-eqb, eqb-true, true≢false}
+use Rattle.std.proofs.Common.{◌≡◌, ◌≢◌, ℕ, ◌≤◌, ◌==◌, Bool, true, false, if◌then◌else◌, List, [], ◌∷◌, ◌++◌, length, map, slice_get, option_map, Some, None, Option, is_none, refl, sym, ◌∙◌, ap, subst, arith, eq-eqb, eqb-true, true≢false}
 use Rattle.std.specs.Option.{option_map_or}
-use Rattle.std.proofs.lemmas.Bool.{ne_eqb}
-use Rattle.std.proofs.lemmas.List.{length_push}
 use Rattle.std.proofs.lemmas.Option.{none-some}
-use mathlib.Core.Path.{fun_ext}
 use Rattle.stab_frames.specs.declared.frame.Frame.{Frame}
 use Rattle.stab_frames.specs.Parameters.{Parameters}
-use Rattle.stab_core.specs.declared.act.LinkAct.{LinkAct}
 use Rattle.stab_core.specs.declared.act.LinkAct.TheVariants as act
 use Rattle.stab_core.specs.declared.event.Event.{Event}
 use Rattle.stab_core.specs.declared.event.Event.TheVariants as event
@@ -29,22 +25,21 @@ use Rattle.stab_rounds.specs.ReadingRounds.{Reads, reading_from}
 use Rattle.stab_rounds.specs.TreePlayed.{act_on}
 use Rattle.stab_rounds.specs.TreeRounds.{acts_on}
 use Rattle.stab_rounds.proofs.Links.{after_event}
-use Rattle.stab_rounds.proofs.TreeSteps.{At, acts_own, acts_other, step_at, step_other}
+use Rattle.stab_rounds.proofs.TreeSteps.{At, acts_own, step_at, step_other}
 use Rattle.stab_convergence.specs.AtRest.{HasNoFault}
 use Rattle.stab_convergence.specs.PathRounds.{acts_among}
-use Rattle.stab_line.specs.Ends.{SenderEnd, accepts, offered_to}
-use Rattle.stab_line.specs.Line.{Line, link_of, held, with_taken, offer_item}
-use Rattle.stab_line.specs.NodeTree.{put, parameters_into, list_of, list_above}
-use Rattle.stab_line.specs.SessionLink.{SessionLink, ConnectionAct, connection_step, link_step, item_offered, happens, line_of, is_unused, is_made, receives_frame, receives_ack}
+use Rattle.stab_line.specs.Line.{Line, link_of}
+use Rattle.stab_line.specs.NodeTree.{put, parameters_into, list_of}
+use Rattle.stab_line.specs.SessionLink.{SessionLink, ConnectionAct, connection_step, happens, line_of, is_unused, is_made, receives_frame, receives_ack}
 use Rattle.stab_line.specs.SessionLink.{sender_makes, receiver_makes, stranger_makes, sender_accepts, receiver_accepts, sender_leaves, receiver_leaves, frame_sent, ack_sent, frame_comes, ack_comes, frame_lost, ack_lost, sender_closes, receiver_closes}
-use Rattle.stab_line.specs.SessionTree.{SessionTree, TreeAct, publishes, polls, at_link, tree_step, nodes_of, offers, acts_at, AllInTurn}
+use Rattle.stab_line.specs.SessionTree.{SessionTree, TreeAct, publishes, at_link, tree_step, nodes_of, acts_at, AllInTurn}
 use Rattle.stab_line.proofs.Exchanges.{put_here}
-use Rattle.stab_line.proofs.Lines.{Fields, Next, Work, done, waiting, fields, line_at}
-use Rattle.stab_line.proofs.SessionTrees.{HaveRoom, tree_in_turn}
+use Rattle.stab_line.proofs.Lines.{Next, Work, done, waiting, item_of, offered_of, acked_of}
+use Rattle.stab_line.proofs.SessionTrees.{HaveRoom}
 use Rattle.stab_exchanges.specs.Exchanges.{Exchange, exchanged_by}
-use Rattle.stab_exchanges.specs.TreeExchanges.{exchanged_at, link_shown, Shows}
+use Rattle.stab_exchanges.specs.TreeExchanges.{exchanged_at, link_shown}
 use Rattle.stab_exchanges.proofs.Counted.{open_before}
-use Rattle.stab_exchanges.proofs.RoundsOf.{Harmless, Led, connection_led, exchange_led, act_goes}
+use Rattle.stab_exchanges.proofs.RoundsOf.{Harmless, Led, connection_led, exchange_led}
 use Rattle.stab_exchanges.proofs.Underway.{Underway}
 use Rattle.stab_exchanges.proofs.WholeRounds.{IsLeft}
 
@@ -58,7 +53,7 @@ pub no_fault_among : (w : ℕ) (events : List Event) → HasNoFault (link_acts w
 no_fault_among w [] = tt
 no_fault_among w (e ∷ events) = no_fault_among w events
 
-acts_here : (w : ℕ) (events : List Event) → acts_on w (acts_among (link_acts w events)) ≡ map act_of events
+pub acts_here : (w : ℕ) (events : List Event) → acts_on w (acts_among (link_acts w events)) ≡ map act_of events
 acts_here w [] = refl
 acts_here w (e ∷ events) =
     acts_own w (act_on w (act_of e)) (acts_among (link_acts w events)) refl ∙ ap (λ acts. act_of e ∷ acts) (acts_here w events)
@@ -98,7 +93,7 @@ Lifted s w p after t =
     At t w p after × ((v : ℕ) → w ≢ v → link_into t v ≡ link_into s v) × (t.parents ≡ s.parents)
     × (t.openings ≡ s.openings) × (t.published ≡ s.published)
 
-lifted : (s : WholeTree) (w parent : ℕ) (p : Parameters) (q : LinkState) (events : List Event) → parent_at s.parents w ≡ Some parent
+pub lifted : (s : WholeTree) (w parent : ℕ) (p : Parameters) (q : LinkState) (events : List Event) → parent_at s.parents w ≡ Some parent
     → At s w p q → Harmless p q events → Lifted s w p (replay p q events) (changes_replay s (link_acts w events))
 lifted s w parent p q [] is_child there harmless = (there, λ v other. refl, refl, refl, refl)
 lifted s w parent p q (e ∷ events) is_child there harmless =
@@ -115,6 +110,13 @@ lifted s w parent p q (e ∷ events) is_child there harmless =
 
 -- ---- what the two trees have in common
 
+-- the tree of links is that of the tree over connections
+pub record Shows (net : Network) (t : SessionTree) (s : WholeTree) : Type 0 where
+  pub parents : s.parents ≡ net.tree.parents
+  pub openings : s.openings ≡ net.openings.lists
+  pub published : s.published ≡ t.published
+  pub links : (w : ℕ) → link_into s w ≡ option_map (link_shown net t w) (parent_at net.tree.parents w)
+
 pub record Ready (net : Network) (t : SessionTree) (s : WholeTree) : Type 0 where
   pub shows : Shows net t s
   pub in_turn : AllInTurn t
@@ -127,6 +129,17 @@ own_next s l there = record { after = there.after; line = there.line; link = ap 
 of_parent : {A B : Type 0} (f : A → B) (o : Option ℕ) (g : ℕ → A) (d : B) → option_map_or f (option_map g o) d ≡ option_map_or (λ x. f (g x)) o d
 of_parent f None g d = refl
 of_parent f (Some x) g d = refl
+
+idle_work : (work : Work) → is_none (item_of work) ≡ true → length (offered_of work) ≡ acked_of work
+idle_work (done items) none = refl
+idle_work (waiting items item) none = absurd (true≢false (sym none))
+
+-- a sender that holds nothing was acknowledged all
+pub idle_line : (s : LinkState) (l : Line) → Next s l → is_none l.sender.state.item ≡ true → length l.offered ≡ l.acked
+idle_line s l there none =
+    ap (λ (k : Line). length k.offered) there.line
+    ∙ idle_work there.after.work (sym (ap (λ (k : Line). is_none k.sender.state.item) there.line) ∙ none)
+    ∙ sym (ap (λ (k : Line). k.acked) there.line)
 
 -- each node has the same list in both
 pub received_is : (net : Network) (t : SessionTree) (s : WholeTree) (u : ℕ) → Shows net t s → received s u ≡ list_of net (nodes_of t) u
@@ -182,7 +195,7 @@ module _ (net : Network) (t : SessionTree) (s s_after : WholeTree) (child parent
   abbrev with_link : SessionTree
   with_link = record t { links = put t.links child link; counts = counts }
 
-  shows_one : Shows net with_link s_after
+  pub shows_one : Shows net with_link s_after
   shows_one =
       let shows = ready.shows in
       record {

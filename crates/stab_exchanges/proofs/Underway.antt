@@ -19,7 +19,7 @@ use Rattle.stab_exchanges.specs.Exchanges.{Exchange, sending, arrival, answer, s
 
 -- ---- the messages of one connection
 
-none_left : {A : Type 0} (xs : List A) → length xs ≤ 0 → xs ≡ []
+pub none_left : {A : Type 0} (xs : List A) → length xs ≤ 0 → xs ≡ []
 none_left [] none = refl
 none_left (x ∷ xs) none = absurd (omega arith)
 

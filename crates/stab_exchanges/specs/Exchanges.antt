@@ -2,7 +2,7 @@
 -- sends a frame on a connection, the receiver's end then hears a frame there, and the sender's end
 -- then hears an acknowledgement there. Anything else may happen between. A frame on a newer
 -- connection begins an exchange anew, since an end never comes back to one that it left.
--- Example: The receiver's end makes connection 4, and the sender's end, which holds an item, accepts
+-- Example: The receiver's end makes connection 4, and the sender's end, which has an item, accepts
 -- it. Then `frame_sent`, `frame_comes 4`, `ack_sent` and `ack_comes 4` are one exchange, also where
 -- an item is offered and a stranger makes connection 5 between. Where the receiver's end leaves
 -- connection 4 before `frame_comes 4` they are none: the frame is dropped.

@@ -21,7 +21,7 @@ use Rattle.stab_line.proofs.SessionLines.{NoOffers, step_is_led}
 
 -- ---- entries at places
 
-put_own : {A : Type 0} (entries : ℕ → A) (n : ℕ) → put entries n (entries n) ≡ entries
+pub put_own : {A : Type 0} (entries : ℕ → A) (n : ℕ) → put entries n (entries n) ≡ entries
 put_own entries n = fun_ext (λ m. by_same m (m == n) refl)
   where
     by_same : (m : ℕ) (same : Bool) → (m == n) ≡ same → (if same then entries n else entries m) ≡ entries m
