@@ -75,14 +75,15 @@ impl<A: Clone + PartialEq + fmt::Display> Peers<A> {
         }
         // (of one that speaks version 1 there is no such word)
         let old = is_parent.then(|| self.parents.old(at));
-        let taken = way.clone().or(old).ok_or_else(|| "its word is not there".into());
-        match taken.and_then(|said| self.looked(at, &said)) {
+        let said = way.clone().or(old).ok_or_else(|| "its word is not there".to_string());
+        match said.and_then(|said| self.looked(at, &said).map(|()| said)) {
             Err(why) => self.look_ended(whom, false, &why),
-            Ok(()) if is_parent => (words.looks, words.way) = (false, way),
-            Ok(()) => {
+            Ok(_) if is_parent => (words.looks, words.way) = (false, way),
+            Ok(said) => {
                 self.look_ended(whom, false, "");
                 self.leave(at);
-                self.parents.tries(at);
+                // (else another one that is looked at now would be better than none)
+                self.parents.took(at, said);
                 self.dial_with(&Whom::Parent, |dial| (dial.next, dial.failed) = (None, 0));
             }
         }
