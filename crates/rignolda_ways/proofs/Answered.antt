@@ -66,3 +66,8 @@ pub apart : (names : List ℕ) (v : ℕ) → ((name : ℕ) → Contains names na
 apart [] v none = refl
 apart (x ∷ xs) v none =
     rw (ne_eqb x v (none x (0, omega arith, refl)), apart xs v (λ name (k, within, is). none name (suc k, omega (arith, within), is))) refl
+
+pub takes_free : (none : ℕ) (a : Asked) → a.is_parent ≡ false → fault_of none a ≡ None → is_free a ≡ true → answer_of none a ≡ Takes
+takes_free none a other right free =
+    ap (λ b. answered b (fault_of none a) (compared none a)) other ∙ (ap (λ fault. answered false fault (compared none a)) right
+    ∙ ap (λ b. if b then Takes else (if leb none (over none a.said a.price) then Keeps NoRoot else (if ltb (over none a.said a.price) a.own then Takes else Keeps NoBetter))) free)

@@ -3,5 +3,6 @@ mod Answered
 mod Quality
 mod Steps
 mod Reached
-mod OneRound
+mod TwoRounds
 mod Named
+mod Stairs

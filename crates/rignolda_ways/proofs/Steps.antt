@@ -36,7 +36,7 @@ same_candidate net v place other c d same is its = let there : Some c ≡ Some d
 pub is_parent : (net : Net) (s : State) (turn : Turn) (heard : Heard) → s turn.agent ≡ Some heard → heard.place ≡ turn.place → (asked net s turn).is_parent ≡ true
 is_parent net s turn heard is same = ap (is_place turn.place) is ∙ eq-eqb heard.place turn.place same
 
-is_other : (net : Net) (s : State) (turn : Turn) (heard : Heard) → s turn.agent ≡ Some heard → (heard.place ≡ turn.place → ⊥) → (asked net s turn).is_parent ≡ false
+pub is_other : (net : Net) (s : State) (turn : Turn) (heard : Heard) → s turn.agent ≡ Some heard → (heard.place ≡ turn.place → ⊥) → (asked net s turn).is_parent ≡ false
 is_other net s turn heard is other = ap (is_place turn.place) is ∙ ne_eqb heard.place turn.place other
 
 -- a way of the next one on a shortest path has no fault

@@ -2,4 +2,4 @@ pub mod Nets
 pub mod Answers
 pub mod Turns
 pub mod Runs
-pub mod OneRoundFewer
+pub mod TwoRounds

@@ -1,10 +1,11 @@
-//! Examples of the definitions, worked out: a law with an empty body.
+//! Examples of the definitions, worked out: laws with an empty body.
 
 ghost use Rattle.std.specs.Prelude.{◌≡◌, ◌==◌, ℕ, Bool, true, false, None, [], ◌∷◌};
 ghost use Rattle.rignolda_ways.specs.declared.asked.Asked.{Asked as Question};
 ghost use Rattle.rignolda_ways.specs.Answers.{answer_of};
-ghost use Rattle.rignolda_ways.specs.Nets.{Net};
-ghost use Rattle.rignolda_ways.specs.OneRoundFewer.{learns};
+ghost use Rattle.rignolda_ways.specs.Nets.{IsDistance, IsNet, Net};
+ghost use Rattle.rignolda_ways.specs.Runs.{IsRun, after_rounds};
+ghost use Rattle.rignolda_ways.specs.TwoRounds.{forged, learns, second, three, unlucky};
 ghost use Rattle.rignolda_ways.specs.Turns.{State, after_turn, says};
 
 use crate::{Answer, Reason};
@@ -47,4 +48,12 @@ pub fn worked_out()
         (says net start 1 ≡ record { cost = 128; names = 1 ∷ [] })
         × (says net once 1 ≡ record { cost = 5; names = 0 ∷ 2 ∷ 1 ∷ [] })
         × (says net twice 1 ≡ record { cost = 1; names = 0 ∷ 1 ∷ [] }) }
+{}
+
+/// A run of two rounds, and what agent 1 says, whose distance is 1, after the first and the second.
+pub fn a_run_of_two_rounds()
+    ensures net { IsNet three × IsDistance three 1 1 }
+    ensures run { IsRun three [] forged (unlucky ∷ second ∷ []) [] }
+    ensures wrong { (says three (after_rounds three forged (unlucky ∷ [])) 1).cost ≡ 129 }
+    ensures right { (says three (after_rounds three forged (unlucky ∷ second ∷ [])) 1).cost ≡ 1 }
 {}

@@ -1,10 +1,10 @@
 //! Laws of agents that choose parents by what they learn late. Each is a function with an empty
 //! body; its contract is the law.
 
-ghost use Rattle.std.specs.Prelude.{◌≡◌, ℕ, suc, ◌≤◌, ◌<◌, ◌++◌, false, List, [], ◌∷◌, length};
+ghost use Rattle.std.specs.Prelude.{◌≡◌, ℕ, suc, ◌+◌, ◌≤◌, ◌<◌, ◌++◌, false, List, [], ◌∷◌, length};
 ghost use Rattle.rignolda_ways.specs.Answers.{answer_of};
-ghost use Rattle.rignolda_ways.specs.Nets.{AreNames, Candidate, IsAt, IsDistance, IsFar, IsNet, Net};
-ghost use Rattle.rignolda_ways.specs.OneRoundFewer.{forged, second, three, unlucky};
+ghost use Rattle.rignolda_ways.specs.Nets.{AreNames, Candidate, IsAt, IsDistance, IsFar, IsNet};
+ghost use Rattle.rignolda_ways.specs.Nets.{Net};
 ghost use Rattle.rignolda_ways.specs.Turns.{Heard, Said, State, Turn, after_answer, after_turn};
 ghost use Rattle.rignolda_ways.specs.Turns.{HavePlaces, asked, price_at, says};
 ghost use Rattle.rignolda_ways.specs.Runs.{IsOnShortest, IsRun, Round, after_rounds, after_run};
@@ -64,12 +64,14 @@ pub fn said_ways_are_real()
         → (hops : ℕ) × AreNames net hops v (says net (after_run net start rounds further) v).names }
 {}
 
-/// One round fewer is not enough: in a run of two an agent of distance 1 says 129 after the first.
-pub fn one_round_fewer_is_not_enough()
-    ensures net { IsNet three × IsDistance three 1 1 }
-    ensures run { IsRun three [] forged (unlucky ∷ second ∷ []) [] }
-    ensures wrong { (says three (after_rounds three forged (unlucky ∷ [])) 1).cost ≡ 129 }
-    ensures right { (says three (after_rounds three forged (unlucky ∷ second ∷ [])) 1).cost ≡ 1 }
+/// As many rounds as its distance may leave an agent wrong, at any distance below the bound of the
+/// code.
+pub fn as_many_rounds_are_not_enough()
+    ensures { (distance : ℕ) → 1 ≤ distance → distance < NONE
+        → (net : Net) × (start : State) × (rounds : List Round)
+        × (net.none ≡ NONE) × IsNet net × IsRun net [] start rounds []
+        × (length rounds ≡ distance) × (distance < net.agents) × IsDistance net distance distance
+        × ((says net (after_rounds net start rounds) distance).cost ≡ NONE + distance) }
 {}
 
 /// In its turn an agent does what [`Asked::answer`](crate::Asked::answer) says, if the bound is

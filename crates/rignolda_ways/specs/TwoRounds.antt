@@ -1,8 +1,7 @@
--- A run by which an agent says another cost than its distance after as many rounds as that is.
--- Agent 0 is the root; 1 and 2 have each other and the root as candidates, at cost 1. At first
--- agent 1 has the parent 2 and has heard cost 0 of it, which nobody said, so it says 1. In the one
--- round it learns first that the root says 0, which is no better, and then that 2 says 128. In a
--- second round it takes the root.
+-- A run of two rounds, for an example. Agent 0 is the root; 1 and 2 have each other and the root as
+-- candidates, at cost 1. At first agent 1 has the parent 2 and has heard cost 0 of it, which nobody
+-- said, so it says 1. In the first round it learns that the root says 0, which is no better, and
+-- then that 2 says 128. In the second one it takes the root.
 use Rattle.std.specs.Prelude.{ℕ, ◌==◌, if◌then◌else◌, false, List, [], ◌∷◌, Some, None}
 use Rattle.rignolda_ways.specs.Nets.{Net}
 use Rattle.rignolda_ways.specs.Turns.{State, Turn}

@@ -1,5 +1,5 @@
-use Rattle.rignolda_ways.proofs.OneRound.{lawful, one, run}
-use Rattle.rignolda_ways.proofs.laws.one_round_fewer_is_not_enough.Goals as goal
+use Rattle.rignolda_ways.proofs.TwoRounds.{lawful, one, run}
+use Rattle.rignolda_ways.proofs.examples.a_run_of_two_rounds.Goals as goal
 
 pub returns-clause-net : goal.returns-clause-net
 returns-clause-net c = (lawful, one)

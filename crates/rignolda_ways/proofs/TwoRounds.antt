@@ -1,8 +1,8 @@
--- The run of one round after which an agent is wrong.
+-- The run of two rounds by which an agent is wrong and then right.
 use Rattle.std.proofs.Common.{◌≡◌, ℕ, zero, suc, ◌<◌, ◌≤◌, inl, inr, Bool, true, false, List, [], ◌∷◌, Some, refl, subst, if◌then◌else◌, ◌==◌, arith}
 use Rattle.rignolda_ways.specs.Nets.{Candidate, IsNet, IsFar, IsDistance}
 use Rattle.rignolda_ways.specs.Runs.{AllLearn, IsRound, IsRun, after_round, round_moments}
-use Rattle.rignolda_ways.specs.OneRoundFewer.{three, forged, asks, unlucky, second}
+use Rattle.rignolda_ways.specs.TwoRounds.{three, forged, asks, unlucky, second}
 
 some_same : {A : Type 0} (x y : A) → Some x ≡ Some y → x ≡ y
 some_same x y same = cc
