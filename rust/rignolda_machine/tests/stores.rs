@@ -583,3 +583,32 @@ fn a_parent_without_a_root_is_passed_over_in_a_store_too() {
     net.steps(50);
     assert_eq!(net.said("leaf", "closed the parent: its way leads over this agent"), 1);
 }
+
+/// Whoever takes a parent in a store takes no other one that it looked at meanwhile: else it goes
+/// from one to the other for ever, where each look is at several.
+#[test]
+fn of_several_in_a_store_the_best_one_is_taken_and_kept() {
+    let priced = |name, price| Parent { price: Some(price), ..parent(name) };
+    let mut net = Net::new(5);
+    net.agents.clear();
+    net.start(setup("root", vec![], &["best", "far", "dear"]));
+    net.start(setup("far", vec![priced("root", 60)], &["leaf"]));
+    net.start(setup("dear", vec![priced("root", 0)], &["leaf"]));
+    let candidates = vec![priced("best", 0), priced("far", 1), priced("dear", 20)];
+    net.start(setup("leaf", candidates, &[]));
+    net.publish("T0");
+    net.steps(2_000);
+    let names = |net: &mut Net| net.agent("leaf").shell.peers.way().names.join(" ");
+    assert_eq!(names(&mut net), "root dear leaf");
+    // (once the store is back, all are looked at by one turn)
+    net.is_up = false;
+    net.start(setup("best", vec![priced("root", 0)], &["leaf"]));
+    net.steps(300);
+    net.is_up = true;
+    net.steps(2_000);
+    assert_eq!(names(&mut net), "root best leaf");
+    let moves = net.agent("leaf").shell.peers.reconnects();
+    net.steps(2_000);
+    assert_eq!(names(&mut net), "root best leaf");
+    assert_eq!(net.agent("leaf").shell.peers.reconnects(), moves);
+}
