@@ -509,6 +509,11 @@ RIGNOLDA_CALL bool rignolda_session_node_on_frame(rignolda_node *node, rignolda_
  *     no end is closed, an exchange on each link, from the upper end down, leaves at least one item
  *     less in its backlogs, all taken together. So as many of these as there are items leave none,
  *     if nobody publishes meanwhile.
+ * And of the crate stab_exchanges, whatever lies between, is lost or is published:
+ *   - completed_exchanges_acknowledge_items: each exchange that is completed on one connection
+ *     acknowledges an item, while the sender's end is open.
+ *   - completed_exchanges_are_reading_rounds, nodes_over_connections_converge: each is a round of
+ *     the link, so after enough of them on each link of its path a node has all.
  */
 
 /* ---- Words: a link in two places of a store ---- */
