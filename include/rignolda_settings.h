@@ -39,6 +39,7 @@
  *   - parents_come_from_any_state, parents_are_kept: after more rounds than its distance from a root
  *     an agent has a parent on a shortest path, and keeps it. In a round what was said before comes
  *     or is lost, and then each agent learns what each of its candidates says.
+ *   - no_ring_of_parents_stays: through as many rounds as it has agents.
  * Those of what a root publishes, of the module root_laws:
  *   - numbers_rise_by_one: from every bit pattern of a publisher, while no agent says a newer
  *     number; a_round_ends: unless tables are held, or a shorter round is asked for;

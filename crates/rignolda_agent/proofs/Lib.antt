@@ -29,7 +29,3 @@ pub mod RootRounds
 pub mod Queue
 pub mod Told
 pub mod Merged
-pub mod Parents
-pub mod Ways
-mod Rings
-mod Paths

@@ -17,5 +17,3 @@ pub mod Merging
 pub mod Waiting
 pub mod Rooms
 pub mod Markers
-pub mod Parents
-pub mod Ways

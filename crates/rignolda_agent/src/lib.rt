@@ -21,14 +21,6 @@
 //! [`root_laws`] says what comes of that: numbers rise, rounds end, and a table that was told all
 //! bodies is the root's. At an agent [`Waits`] says the same of each key whose change waits to be
 //! applied. [`report_laws`] says how the root comes to be above the numbers that agents report.
-//!
-//! Agents choose their parents, which makes a tree of them out of any state; of that there are
-//! definitions and laws alone. Each agent says what it costs to come from it to a root, and the
-//! names on that way; it keeps a parent, and now and then looks whether another candidate is nearer.
-//! Contracts know agents by numbers, the candidates of each with their costs, and turns in any
-//! order; they know no message or clock. Once there were more rounds of looks than an agent is far
-//! from a root, its parent is the next one on a shortest way, and stays
-//! ([`parent_laws::parents_come_from_any_state`], [`parent_laws::parents_are_kept`]).
 #![tactic(auto)]
 
 mod body;
@@ -43,8 +35,6 @@ mod marker;
 pub mod marker_laws;
 mod more_tables;
 mod numbers;
-pub mod parent_examples;
-pub mod parent_laws;
 mod publisher;
 mod reading;
 pub mod report_examples;

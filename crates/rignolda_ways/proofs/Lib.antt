@@ -5,4 +5,6 @@ mod Steps
 mod Reached
 mod TwoRounds
 mod Named
+mod Rings
 mod Stairs
+mod RingOfTwo

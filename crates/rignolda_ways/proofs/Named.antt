@@ -74,13 +74,13 @@ says_ends net t v s traced agent =
 -- ---- a turn
 
 -- who takes a way is not named on it
-unnamed : (names : List ℕ) (v : ℕ) → list_any (λ name. name == v) names ≡ false → Contains names v → ⊥
+pub unnamed : (names : List ℕ) (v : ℕ) → list_any (λ name. name == v) names ≡ false → Contains names v → ⊥
 unnamed [] v none (k, within, is) = omega (arith, within)
 unnamed (x ∷ xs) v none (zero, within, is) =
     let never : true ≡ false = sym (eq-eqb x v is) ∙ (or_parts (x == v) (list_any (λ name. name == v) xs) none).0 in cc
 unnamed (x ∷ xs) v none (suc k, within, is) = unnamed xs v (or_parts (x == v) (list_any (λ name. name == v) xs) none).1 (k, omega (arith, within), is)
 
-takes_apart : (none : ℕ) (a : Asked) → answer_of none a ≡ Takes → a.has_own_name ≡ false
+pub takes_apart : (none : ℕ) (a : Asked) → answer_of none a ≡ Takes → a.has_own_name ≡ false
 takes_apart none a takes =
     elim (cases_Bool a.has_own_name) [
       | inr apart ↦ apart
@@ -94,7 +94,7 @@ takes_apart none a takes =
     faulty false is = cc
 
 -- what is heard after a turn is what is learned, or was heard before
-heard_now : (net : Net) (s : State) (turn : Turn) (heard : Heard) → done net s turn ≡ Some heard
+pub heard_now : (net : Net) (s : State) (turn : Turn) (heard : Heard) → done net s turn ≡ Some heard
     → ((learned turn ≡ heard) × (Contains turn.way.names turn.agent → ⊥)) ⊎ (s turn.agent ≡ Some heard)
 heard_now net s turn heard is = by_cases (answer_of net.none (asked net s turn)) refl
   where
@@ -286,11 +286,11 @@ agents_of net names (x ∷ xs) all q is =
       | inr there ↦ agents_of net names xs all.1 q there
     ]
 
-with_last : (seen : List ℕ) (v : ℕ) → AllByRecursion (λ u. eqb v u ≡ false) seen → IsDistinct eqb seen → IsDistinct eqb (v ∷ seen)
+pub with_last : (seen : List ℕ) (v : ℕ) → AllByRecursion (λ u. eqb v u ≡ false) seen → IsDistinct eqb seen → IsDistinct eqb (v ∷ seen)
 unfolding IsDistinct
 with_last seen v apart distinct = (apart, distinct)
 
-none_seen : IsDistinct eqb []
+pub none_seen : IsDistinct eqb []
 unfolding IsDistinct
 none_seen = tt
 

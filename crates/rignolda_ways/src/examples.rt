@@ -5,6 +5,8 @@ ghost use Rattle.rignolda_ways.specs.declared.asked.Asked.{Asked as Question};
 ghost use Rattle.rignolda_ways.specs.Answers.{answer_of};
 ghost use Rattle.rignolda_ways.specs.Nets.{IsDistance, IsNet, Net};
 ghost use Rattle.rignolda_ways.specs.Runs.{IsRun, after_rounds};
+ghost use Rattle.rignolda_ways.specs.Rings.{IsRing, Stays};
+ghost use Rattle.rignolda_ways.specs.RingOfTwo.{crossed, each_other, two, unheard};
 ghost use Rattle.rignolda_ways.specs.TwoRounds.{forged, learns, second, three, unlucky};
 ghost use Rattle.rignolda_ways.specs.Turns.{State, after_turn, says};
 
@@ -56,4 +58,11 @@ pub fn a_run_of_two_rounds()
     ensures run { IsRun three [] forged (unlucky ∷ second ∷ []) [] }
     ensures wrong { (says three (after_rounds three forged (unlucky ∷ [])) 1).cost ≡ 129 }
     ensures right { (says three (after_rounds three forged (unlucky ∷ second ∷ [])) 1).cost ≡ 1 }
+{}
+
+/// A ring of two agents that stays through one round. None of two stays through two rounds.
+pub fn a_ring_in_one_round()
+    ensures net { IsNet two }
+    ensures run { IsRun two [] unheard (crossed ∷ []) [] }
+    ensures ring { Stays two (IsRing two each_other 2) unheard (crossed ∷ []) }
 {}

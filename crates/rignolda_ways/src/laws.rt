@@ -8,6 +8,7 @@ ghost use Rattle.rignolda_ways.specs.Nets.{Net};
 ghost use Rattle.rignolda_ways.specs.Turns.{Heard, Said, State, Turn, after_answer, after_turn};
 ghost use Rattle.rignolda_ways.specs.Turns.{HavePlaces, asked, price_at, says};
 ghost use Rattle.rignolda_ways.specs.Runs.{IsOnShortest, IsRun, Round, after_rounds, after_run};
+ghost use Rattle.rignolda_ways.specs.Rings.{IsRing, Stays};
 ghost use Rattle.rignolda_ways.specs.Runs.{parent_place};
 
 use crate::NONE;
@@ -62,6 +63,20 @@ pub fn said_ways_are_real()
         → IsNet net → HavePlaces net start → IsRun net before start rounds further
         → v < net.agents → net.agents < length rounds
         → (hops : ℕ) × AreNames net hops v (says net (after_run net start rounds further) v).names }
+{}
+
+/// No ring of parents lasts: from any state, whatever was said before, none stays through as many
+/// rounds as it has agents.
+pub fn no_ring_of_parents_stays()
+    ensures short { (net : Net) (before : List Said) (start : State) (rounds : List Round)
+        (further : List Turn) (ring : ℕ → ℕ) (steps : ℕ)
+        → IsRun net before start rounds further → Stays net (IsRing net ring steps) start rounds
+        → steps ≤ length rounds → ⊥ }
+    // Nor in as many rounds as there are agents.
+    ensures any { (net : Net) (before : List Said) (start : State) (rounds : List Round)
+        (further : List Turn) (ring : ℕ → ℕ) (steps : ℕ)
+        → IsRun net before start rounds further → Stays net (IsRing net ring steps) start rounds
+        → net.agents ≤ length rounds → ⊥ }
 {}
 
 /// As many rounds as its distance may leave an agent wrong, at any distance below the bound of the

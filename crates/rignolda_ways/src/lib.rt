@@ -7,9 +7,10 @@
 //! late, out of order, twice or never. They know rounds, in which what was said before has come or
 //! is lost, and then each agent learns of each of its candidates.
 //!
-//! The layer above uses the decision, which is that of the definition for any bits, and three
+//! The layer above uses the decision, which is that of the definition for any bits, and four
 //! [`laws`] from any state: nearness that is false goes, by one in each round; after more rounds
-//! than its distance an agent has a parent on a shortest path; and it keeps that parent.
+//! than its distance an agent has a parent on a shortest path; it keeps that parent; and no ring of
+//! parents stays through as many rounds as it has agents.
 #![tactic(auto)]
 
 mod asked;
