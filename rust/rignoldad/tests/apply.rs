@@ -770,8 +770,8 @@ fn there_is_no_moment_with_files_and_no_marker() {
     let mut applier = start(&place.config());
     let keys: Vec<String> = (0..400).map(|at| format!("k{at}")).collect();
     let mut tried = 0;
-    for number in 1..100 {
-        if tried == 3 {
+    for number in 1..200 {
+        if tried == 9 {
             return;
         }
         let value = number.to_string();
