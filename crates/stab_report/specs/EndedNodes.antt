@@ -3,9 +3,9 @@
 -- Example: The root r published 10, 11, 12, 13, 14 and ended with its upstream. One link of
 -- capacity 1 leads into a. `HandsOn` asks that 5 items are acknowledged on it. If r had 7 for a at
 -- some moment, and received these five since, it asks for 6. Each node above a ended with its
--- upstream. So a has 12, 13, 14 where it received no stray: only the first 1 + 1 = 2 may be missing.
--- Where it received the stray 99, 12 may be missing too. Had r not ended so, nothing would be asked,
--- and 13 and 14 might be missing. Source: this project's own.
+-- upstream. So a has 12, 13, 14 where it received no stray: only the first 1 + 1 = 2 may be
+-- missing. Where it received the stray 99, 12 may be missing too. Had r not ended so, nothing would
+-- be asked, and 13 and 14 might be missing. Source: this project's own.
 use Rattle.std.specs.Prelude.{◌≡◌, ℕ, suc, ◌<◌, true, List, length, Option, Some}
 use Rattle.stab_core.specs.LinkLaw.{SharperLinkLaw}
 use Rattle.stab_tree.specs.Nodes.{parent_at}
