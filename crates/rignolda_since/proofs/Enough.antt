@@ -2,6 +2,7 @@
 use Rattle.std.proofs.Common.{◌≡◌, ℕ, ◌<◌, ◌++◌, List, length, Some, MatchOption, refl, subst}
 use Rattle.stab_core.specs.LinkLaw.{SharperLinkLaw}
 use Rattle.stab_treecore.specs.Moment.{Moment, SharperLawSince}
+use Rattle.stab_judge.specs.EndedNodes.{HandsOn}
 use Rattle.stab_judge.specs.Obeys.{RootObeys}
 use Rattle.stab_judge.specs.Reports.{ReportValue, OnePerNode, received_at}
 use Rattle.stab_tree.specs.IsTree.{IsRooted}
@@ -10,7 +11,7 @@ use Rattle.stab_tree.proofs.ForCallers.{child_is_node}
 use Rattle.stab_treecore.specs.Network.{Network}
 use Rattle.stab_treecore.specs.NodeLaws.{LawBetween, capacity_into, garbage_into}
 use Rattle.rignolda_since.specs.Backlogs.{backlog_at}
-use Rattle.rignolda_since.specs.ObeysSince.{HandsOnSince, LinkObeysSince, NodeObeysSince, ObeysSince, moment_of}
+use Rattle.rignolda_since.specs.ObeysSince.{LinkObeysSince, NodeObeysSince, ObeysSince, above_since, moment_of}
 
 -- what the law of links says of any moment
 abbrev pub LinksMakeTheLaw : Type 0
@@ -26,9 +27,9 @@ module _ (net : Network) (lists : List (List ℕ)) (r : ReportValue) (tree : IsR
   link_obeys : (child parent : ℕ) → parent_at net.tree.parents child ≡ Some parent
       → LawBetween SharperLinkLaw (capacity_into net child) (garbage_into net child) (backlog_at lists child ++ received_at r parent) (received_at r child)
   link_obeys child parent is_child =
-      let both : LinkObeysSince net lists r child parent × HandsOnSince lists r child parent =
+      let both : LinkObeysSince net lists r child parent × HandsOn r child parent (above_since lists r child parent) =
       subst
-      (λ up. MatchOption up (RootObeys net r child) (λ p. LinkObeysSince net lists r child p × HandsOnSince lists r child p))
+      (λ up. MatchOption up (RootObeys net r child) (λ p. LinkObeysSince net lists r child p × HandsOn r child p (above_since lists r child p)))
       is_child
       (nodes child (child_is_node net.tree.parents child parent is_child)) in
       let (link, handed) = both in

@@ -8,6 +8,7 @@ use Rattle.std.specs.Prelude.{◌≡◌, ◌<◌, ℕ, true, List, ◌++◌, len
 use Rattle.std.specs.Prelude.{MatchOption}
 use Rattle.stab_treecore.specs.Moment.{Moment, SharperLawSince}
 use Rattle.stab_judge.specs.Judged.{SharperLawBelow}
+use Rattle.stab_judge.specs.EndedNodes.{HandsOn}
 use Rattle.stab_judge.specs.Obeys.{RootObeys}
 use Rattle.stab_judge.specs.Reports.{ReportValue, OnePerNode, received_at, acked_at, has_ended}
 use Rattle.stab_tree.specs.Nodes.{parent_at, root_of}
@@ -39,17 +40,12 @@ LinkObeysSince net lists r child parent =
     × SharperLawBelow (capacity_into net child) (garbage_into net child)
     (above_since lists r child parent) acked (received_at r child)
 
--- where the parent ended with its upstream, all of that is acknowledged
-abbrev pub HandsOnSince : List (List ℕ) → ReportValue → ℕ → ℕ → Type 0
-HandsOnSince lists r child parent =
-    has_ended r parent ≡ true
-    → acked_at r child ≡ Some (length (above_since lists r child parent))
-
 -- what is asked of one node: of the root, or of a child of this parent
 abbrev pub NodeObeysSince : Network → List (List ℕ) → ReportValue → ℕ → Type 0
 NodeObeysSince net lists r node =
     MatchOption (parent_at net.tree.parents node) (RootObeys net r node)
-    (λ parent. LinkObeysSince net lists r node parent × HandsOnSince lists r node parent)
+    (λ parent. LinkObeysSince net lists r node parent
+    × HandsOn r node parent (above_since lists r node parent))
 
 -- the report obeys the laws since the moment
 pub record ObeysSince (net : Network) (lists : List (List ℕ)) (r : ReportValue) : Type 0 where

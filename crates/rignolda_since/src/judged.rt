@@ -3,9 +3,10 @@
 ghost use Rattle.std.specs.Prelude.{◌≡◌, ◌<◌, ◌↔◌, ℕ, List, IfOk, IfSome, IsNone, IsTrue, Some};
 ghost use Rattle.std.specs.Prelude.{length};
 ghost use Rattle.stab_judge.specs.Judged.{SharperLawBelow};
+ghost use Rattle.stab_judge.specs.EndedNodes.{HandsOn};
 ghost use Rattle.stab_judge.specs.Obeys.{RootObeys};
 ghost use Rattle.stab_judge.specs.Reports.{OnePerNode, received_at};
-ghost use Rattle.rignolda_since.specs.ObeysSince.{HandsOnSince, IsBrokenSince, IsFirstSince};
+ghost use Rattle.rignolda_since.specs.ObeysSince.{IsBrokenSince, IsFirstSince};
 ghost use Rattle.rignolda_since.specs.ObeysSince.{LinkObeysSince, NodeObeysSince, ObeysSince};
 ghost use Rattle.rignolda_since.specs.ObeysSince.{above_since, place_since};
 ghost use Rattle.stab_tree.specs.Nodes.{parent_at, root_of};
@@ -126,7 +127,7 @@ fn broken_at_child(
     requires parent { parent_at tree.now.parents child ≡ Some parent }
     ensures none { IfOk result (λ part. IsNone part
         ↔ (LinkObeysSince judge.now lists.now report.now child parent
-        × HandsOnSince lists.now report.now child parent)) }
+        × HandsOn report.now child parent (above_since lists.now report.now child parent))) }
     ensures broken { IfOk result (λ part.
         IfSome part (IsBrokenSince judge.now lists.now report.now)) }
     ensures there { IfOk result (λ part.

@@ -1,23 +1,16 @@
--- Where each node obeys, the report does: the tree law at each node, and the complete law below
--- nodes that all ended with their upstream, from the root down.
-use Rattle.std.proofs.Common.{◌≡◌, ℕ, suc, ◌+◌, ◌*◌, ◌<◌, ◌≤◌, max, List, [], ◌++◌, length, Option, Some, MatchOption, ap, sym, ◌∙◌, subst, arith, append_assoc}
-use Rattle.std.proofs.lemmas.Option.{same_Some}
-use Rattle.std.specs.Option.{option_map_or}
-use Rattle.std.specs.Prelude.{option_and_then}
+-- Where each node obeys, so do the root and each link, and the tree law holds at each node.
+use Rattle.std.proofs.Common.{◌≡◌, ℕ, ◌<◌, List, length, Some, MatchOption, subst}
 use Rattle.stab_core.specs.LinkLaw.{SharperLinkLaw}
 use Rattle.stab_tree.specs.IsTree.{IsRooted}
+use Rattle.stab_tree.specs.NodeOpenings.{FitTree}
 use Rattle.stab_tree.specs.Nodes.{parent_at, root_of}
-use Rattle.stab_tree.specs.Steps.{ancestor, depth_of}
-use Rattle.stab_tree.proofs.ForCallers.{child_is_node, holds_at_every_depth}
+use Rattle.stab_tree.specs.Steps.{ancestor}
+use Rattle.stab_tree.proofs.ForCallers.{child_is_node}
 use Rattle.stab_treecore.specs.Network.{Network}
-use Rattle.stab_treecore.specs.NodeLaws.{capacity_into, garbage_into, LawInto}
-use Rattle.stab_tree.specs.NodeOpenings.{FitTree, hold_at, opening_at}
-use Rattle.stab_treecore.proofs.AtNodes.{sum_above-add}
-use Rattle.stab_treecore.proofs.Upwards.{sharper_complete_below, sharper_complete_past_opening, sharper_larger_complete, sharper_root_has_all}
-use Rattle.stab_tree.proofs.ForCallers.{openings_fit}
-use Rattle.stab_treecore.specs.Paths.{lists_above, sum_above}
-use Rattle.stab_treecore.specs.SharperLaw.{SharperCompleteLaw, SharperTreeLawAtNode, SharperTreeLawAtNodes, peak_above}
-use Rattle.stab_judge.specs.Obeys.{AllAboveEnded, CompleteBelowEnded, HandsOn, LinkObeys, NodeObeys, RootObeys}
+use Rattle.stab_treecore.specs.NodeLaws.{LawInto}
+use Rattle.stab_treecore.specs.SharperLaw.{SharperTreeLawAtNode, SharperTreeLawAtNodes}
+use Rattle.stab_judge.specs.Obeys.{LinkObeys, NodeObeys, RootObeys}
+use Rattle.stab_report.specs.EndedNodes.{HandsOn, ObeysAsCounted}
 use Rattle.stab_report.specs.Reports.{ReportValue, received_at}
 
 -- the law of the layer below that this needs
@@ -35,103 +28,28 @@ module _ (net : Network) (r : ReportValue) (tree : IsRooted net.tree.parents)
   pub root_obeys : RootObeys net r (root_of net.tree.parents)
   root_obeys =
       let root = root_of net.tree.parents in
-      subst (λ up. MatchOption up (RootObeys net r root) (λ parent. LinkObeys net r root parent × HandsOn r root parent)) tree.root_has_none
-      (nodes root tree.root_is_node)
+      subst
+      (λ up. MatchOption up (RootObeys net r root) (λ parent. LinkObeys net r root parent × HandsOn r root parent (received_at r parent)))
+      tree.root_has_none (nodes root tree.root_is_node)
 
   -- and each child
-  pub child_obeys : (child parent : ℕ) → parent_at net.tree.parents child ≡ Some parent → LinkObeys net r child parent × HandsOn r child parent
+  pub child_obeys : (child parent : ℕ) → parent_at net.tree.parents child ≡ Some parent
+      → LinkObeys net r child parent × HandsOn r child parent (received_at r parent)
   child_obeys child parent is_child =
-      subst (λ up. MatchOption up (RootObeys net r child) (λ p. LinkObeys net r child p × HandsOn r child p)) is_child
+      subst (λ up. MatchOption up (RootObeys net r child) (λ p. LinkObeys net r child p × HandsOn r child p (received_at r p))) is_child
       (nodes child (child_is_node net.tree.parents child parent is_child))
+
+-- a link that obeys does so with the count of the report
+pub as_counted : (net : Network) (r : ReportValue) (child parent : ℕ) → LinkObeys net r child parent → ObeysAsCounted net r child parent
+as_counted net r child parent link = (link.delivered, link.has, (link.law.0, link.acked, link.law.1, (link.counted, link.law.2)))
 
 module _ (net : Network) (r : ReportValue) (tree : IsRooted net.tree.parents) (fit : FitTree net.tree.parents net.openings)
     (root : RootObeys net r (root_of net.tree.parents))
-    (links : (child parent : ℕ) → parent_at net.tree.parents child ≡ Some parent → LinkObeys net r child parent)
-    (handed : (child parent : ℕ) → parent_at net.tree.parents child ≡ Some parent → HandsOn r child parent) where
-  abbrev parents : List (Option ℕ)
-  parents = net.tree.parents
-
-  abbrev received : ℕ → List ℕ
-  received = received_at r
-
+    (links : (child parent : ℕ) → parent_at net.tree.parents child ≡ Some parent → LinkObeys net r child parent) where
   -- the tree law at each node
-  pub tree_law : LinksMakeTheTreeLaw → SharperTreeLawAtNodes net received
+  pub tree_law : LinksMakeTheTreeLaw → SharperTreeLawAtNodes net (received_at r)
   tree_law make node is_node =
-      make net received node tree fit root.published is_node
+      make net (received_at r) node tree fit root.published is_node
       (λ steps child parent leads is_child.
       let link = links child parent is_child in
       (link.delivered, link.has, (link.law.0, link.acked, link.law.1, link.law.2)))
-
-  -- how many items a node's opening has at most
-  abbrev hold : ℕ → ℕ
-  hold = hold_at parents net.openings.hold
-
-  -- how many strays a node and the link into it can add, and how many items can be missing for the
-  -- link
-  abbrev strays : ℕ → ℕ
-  strays child = capacity_into net child + hold child
-
-  abbrev missing : ℕ → ℕ
-  missing child = capacity_into net child + 1
-
-  abbrev garbage : ℕ → List ℕ
-  garbage child = opening_at net.openings.lists child ++ garbage_into net child
-
-  -- the complete law of a node below ended nodes, with what there is beside this many nodes, from
-  -- it upwards
-  abbrev CompleteAt : ℕ → ℕ → Type 0
-  CompleteAt depth node =
-      AllAboveEnded net r node
-      → SharperCompleteLaw (sum_above parents strays depth node) (sum_above parents missing depth node)
-      (peak_above parents (capacity_into net) depth node) (lists_above parents garbage depth node) net.published (received node)
-
-  root_complete : CompleteAt 0 (root_of parents)
-  root_complete above_ended = rw root.published (sharper_root_has_all net.published)
-
-  -- the law of a child from what is known of its link
-  joined : (child parent most_strays without peak : ℕ) (above : List ℕ) (link : LinkObeys net r child parent)
-      → link.acked ≡ length (received parent) → SharperCompleteLaw most_strays without peak above net.published (received parent)
-      → SharperCompleteLaw (strays child + most_strays) (missing child + without) (max peak (without + (2 * capacity_into net child + 1)))
-      (garbage child ++ above) net.published (received child)
-  joined child parent most_strays without peak above link all_acked at_parent =
-      let c : ℕ = capacity_into net child in
-      let after : ℕ = max peak (without + (2 * c + 1)) in
-      let first : List ℕ = opening_at net.openings.lists child in
-      let queued : List ℕ = garbage_into net child ++ above in
-      let turned : without + (c + 1) ≡ missing child + without = omega arith in
-      let opened : SharperCompleteLaw (most_strays + c + length first) (without + (c + 1)) after (first ++ queued) net.published
-      (first ++ link.delivered) =
-      sharper_complete_past_opening (most_strays + c) (without + (c + 1)) after first queued net.published link.delivered
-      (sharper_complete_below c most_strays link.acked (garbage_into net child) above net.published (received parent) link.law.0
-      link.delivered link.law.1 without peak all_acked at_parent link.law.2) in
-      rw (link.has, append_assoc)
-      (sharper_larger_complete (most_strays + c + length first) (strays child + most_strays) (missing child + without) after
-      (first ++ queued) net.published (first ++ link.delivered)
-      (omega (arith, (openings_fit parents net.openings fit).short child))
-      (subst (λ (n : ℕ). SharperCompleteLaw (most_strays + c + length first) n after (first ++ queued) net.published (first ++ link.delivered))
-      turned opened))
-
-  child_complete : (depth child parent : ℕ) → parent_at parents child ≡ Some parent → CompleteAt depth parent → CompleteAt (suc depth) child
-  child_complete depth child parent is_child above child_ended =
-      let link = links child parent is_child in
-      let parent_ended : AllAboveEnded net r parent =
-      λ steps node reached.
-      child_ended (suc steps) node (ap (λ o. option_and_then (ancestor parents (suc steps)) o) is_child ∙ reached) in
-      let all_acked : link.acked ≡ length (received parent) =
-      same_Some link.acked (length (received parent))
-      (sym link.counted
-      ∙ handed child parent is_child (child_ended 0 parent (ap (λ o. option_and_then (ancestor parents 0) o) is_child))) in
-      subst
-      (λ up. SharperCompleteLaw (strays child + option_map_or (sum_above parents strays depth) up 0)
-      (missing child + option_map_or (sum_above parents missing depth) up 0)
-      (max (option_map_or (peak_above parents (capacity_into net) depth) up 0)
-      (option_map_or (sum_above parents missing depth) up 0 + (2 * capacity_into net child + 1)))
-      (garbage child ++ option_map_or (lists_above parents garbage depth) up []) net.published (received child))
-      (sym is_child)
-      (joined child parent (sum_above parents strays depth parent) (sum_above parents missing depth parent)
-      (peak_above parents (capacity_into net) depth parent) (lists_above parents garbage depth parent) link all_acked (above parent_ended))
-
-  pub complete : CompleteBelowEnded net r
-  complete node is_node above_ended =
-      rw (← sum_above-add parents (capacity_into net) hold (depth_of parents node) node)
-      (holds_at_every_depth net.tree.parents tree CompleteAt root_complete child_complete node is_node above_ended)

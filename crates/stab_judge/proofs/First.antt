@@ -11,7 +11,8 @@ use Rattle.stab_treecore.specs.Network.{Network}
 use Rattle.stab_treecore.specs.NodeLaws.{capacity_into, garbage_into}
 use Rattle.stab_judge.specs.Judged.{SharperLawBelow}
 use Rattle.stab_judge.specs.JudgeInside.{AreWholeBefore}
-use Rattle.stab_judge.specs.Obeys.{HandsOn, IsBroken, IsFirst, IsFirstBroken, LinkObeys, NodeObeys, RootObeys, place_of, turn_of}
+use Rattle.stab_judge.specs.Obeys.{IsBroken, IsFirst, IsFirstBroken, LinkObeys, NodeObeys, RootObeys, place_of, turn_of}
+use Rattle.stab_report.specs.EndedNodes.{HandsOn}
 use Rattle.stab_report.specs.Reports.{OnePerNode, ReportValue, acked_at, received_at}
 use Rattle.stab_judge.specs.declared.broken.Broken.{Broken}
 use Rattle.stab_judge.specs.declared.broken.Broken.TheVariants as broken
@@ -59,13 +60,14 @@ module _ (net : Network) (r : ReportValue) (tree : IsRooted net.tree.parents) (e
   at_root : NodeObeys net r (root_of parents) → RootObeys net r (root_of parents)
   at_root obeys =
       let root = root_of parents in
-      subst (λ up. MatchOption up (RootObeys net r root) (λ parent. LinkObeys net r root parent × HandsOn r root parent)) tree.root_has_none
-      obeys
+      subst
+      (λ up. MatchOption up (RootObeys net r root) (λ parent. LinkObeys net r root parent × HandsOn r root parent (received_at r parent)))
+      tree.root_has_none obeys
 
   at_child : (child parent : ℕ) → parent_at parents child ≡ Some parent → NodeObeys net r child
-      → LinkObeys net r child parent × HandsOn r child parent
+      → LinkObeys net r child parent × HandsOn r child parent (received_at r parent)
   at_child child parent is_child obeys =
-      subst (λ up. MatchOption up (RootObeys net r child) (λ p. LinkObeys net r child p × HandsOn r child p)) is_child obeys
+      subst (λ up. MatchOption up (RootObeys net r child) (λ p. LinkObeys net r child p × HandsOn r child p (received_at r p))) is_child obeys
 
   -- at a node that obeys no part is broken
   none_broken : (part : Broken) → NodeObeys net r (place_of net part) → ¬ IsBroken net r part

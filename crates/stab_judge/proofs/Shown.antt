@@ -18,7 +18,8 @@ use Rattle.stab_treecore.specs.WholeTree.{WholeTree, acked_of, link_into, receiv
 use Rattle.stab_treecore.specs.declared.event.TreeEvent.{TreeEvent}
 use Rattle.stab_treecore.proofs.Linked.{same_kind}
 use Rattle.stab_treecore.proofs.Replayed.{IsRun, ReplaysObey, StepsReach, opening_is_run, replay_keeps, run_root}
-use Rattle.stab_judge.specs.Obeys.{HandsOn, LinkObeys, RootObeys}
+use Rattle.stab_judge.specs.Obeys.{LinkObeys, RootObeys}
+use Rattle.stab_report.specs.EndedNodes.{AllHandOn}
 use Rattle.stab_report.specs.Reports.{OnePerNode, acked_at, has_ended, received_at, report_of}
 
 -- nothing, or something
@@ -109,7 +110,7 @@ module _ (obey : ReplaysObey SharperLinkLaw) (net : Network) (t : WholeTree) (ru
       }
 
   -- and no node has ended
-  pub none_ended : (child parent : ℕ) → parent_at net.tree.parents child ≡ Some parent → HandsOn (report_of t) child parent
+  pub none_ended : AllHandOn net.tree.parents (report_of t)
   none_ended child parent is_child ended =
       absurd
       (false≢true

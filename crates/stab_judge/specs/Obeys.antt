@@ -8,17 +8,15 @@
 -- be missing, and 12 is the third.
 -- Had r ended with its upstream, `HandedOn` would be broken at a, since 3 is not 5. Source: this
 -- project's own.
-use Rattle.std.specs.Prelude.{◌≡◌, ◌⊎◌, ℕ, suc, ◌<◌, true, List, ◌++◌, length, Some, None}
+use Rattle.std.specs.Prelude.{◌≡◌, ◌⊎◌, ℕ, ◌<◌, true, List, ◌++◌, length, Some, None}
 use Rattle.std.specs.Prelude.{IsSome, MatchOption}
 use Rattle.stab_tree.specs.Nodes.{parent_at, root_of}
-use Rattle.stab_tree.specs.Steps.{ancestor}
 use Rattle.stab_treecore.specs.Network.{Network}
-use Rattle.stab_treecore.specs.NodeLaws.{capacity_into, garbage_into, path_garbage}
-use Rattle.stab_treecore.specs.NodeLaws.{most_strays}
+use Rattle.stab_treecore.specs.NodeLaws.{capacity_into, garbage_into}
 use Rattle.stab_tree.specs.NodeOpenings.{opening_at}
-use Rattle.stab_treecore.specs.SharperLaw.{SharperCompleteLaw, SharperTreeLawAtNodes, fewest_missing}
-use Rattle.stab_treecore.specs.SharperLaw.{missing_without_strays}
+use Rattle.stab_treecore.specs.SharperLaw.{SharperTreeLawAtNodes}
 use Rattle.stab_judge.specs.Judged.{SharperLawBelow}
+use Rattle.stab_report.specs.EndedNodes.{AllHandOn, CompleteBelowEnded, HandsOn}
 use Rattle.stab_report.specs.Reports.{ReportValue, OnePerNode, received_at, acked_at, has_ended}
 use Rattle.stab_judge.specs.declared.broken.Broken.{Broken}
 use Rattle.stab_judge.specs.declared.broken.Broken.TheVariants as broken
@@ -38,29 +36,12 @@ pub record LinkObeys (net : Network) (r : ReportValue) (child parent : ℕ) : Ty
   pub law : SharperLawBelow (capacity_into net child) (garbage_into net child)
       (received_at r parent) acked delivered
 
--- where the parent ended with its upstream, each item of its list is acknowledged
-abbrev pub HandsOn : ReportValue → ℕ → ℕ → Type 0
-HandsOn r child parent =
-    has_ended r parent ≡ true → acked_at r child ≡ Some (length (received_at r parent))
-
 -- what is asked of one node: of the root, or of a child of this parent
 abbrev pub NodeObeys : Network → ReportValue → ℕ → Type 0
 NodeObeys net r node =
     MatchOption (parent_at net.tree.parents node) (RootObeys net r node)
-    (λ parent. LinkObeys net r node parent × HandsOn r node parent)
-
--- each node above this one ended with its upstream
-abbrev pub AllAboveEnded : Network → ReportValue → ℕ → Type 0
-AllAboveEnded net r node =
-    (steps above : ℕ) → ancestor net.tree.parents (suc steps) node ≡ Some above
-    → has_ended r above ≡ true
-
--- no published item is missing at such a node, except among the first ones that the sharper law has
-abbrev pub CompleteBelowEnded : Network → ReportValue → Type 0
-CompleteBelowEnded net r =
-    (node : ℕ) → node < length net.tree.parents → AllAboveEnded net r node
-    → SharperCompleteLaw (most_strays net node) (missing_without_strays net node)
-    (fewest_missing net node) (path_garbage net node) net.published (received_at r node)
+    (λ parent. LinkObeys net r node parent
+    × HandsOn r node parent (received_at r parent))
 
 -- the report obeys the laws of the network
 pub record Obeys (net : Network) (r : ReportValue) : Type 0 where
@@ -68,8 +49,7 @@ pub record Obeys (net : Network) (r : ReportValue) : Type 0 where
   pub root : RootObeys net r (root_of net.tree.parents)
   pub links : (child parent : ℕ) → parent_at net.tree.parents child ≡ Some parent
       → LinkObeys net r child parent
-  pub handed_on : (child parent : ℕ) → parent_at net.tree.parents child ≡ Some parent
-      → HandsOn r child parent
+  pub handed_on : AllHandOn net.tree.parents r
   pub tree_law : SharperTreeLawAtNodes net (received_at r)
   pub complete : CompleteBelowEnded net r
 

@@ -1,9 +1,10 @@
 ghost use Rattle.std.specs.Prelude.{◌≡◌, ◌<◌, ◌↔◌, IfSome, IsNone, IsTrue, Some, length};
 ghost use Rattle.stab_judge.specs.JudgeInside.{AreWholeBefore};
-ghost use Rattle.stab_judge.specs.Obeys.{HandsOn, IsBroken, IsFirst, IsFirstBroken};
+ghost use Rattle.stab_judge.specs.Obeys.{IsBroken, IsFirst, IsFirstBroken};
 ghost use Rattle.stab_judge.specs.Obeys.{LinkObeys, NodeObeys};
 ghost use Rattle.stab_judge.specs.Obeys.{Obeys, RootObeys, place_of};
-ghost use Rattle.stab_report.specs.Reports.{OnePerNode};
+ghost use Rattle.stab_report.specs.EndedNodes.{HandsOn};
+ghost use Rattle.stab_report.specs.Reports.{OnePerNode, received_at};
 ghost use Rattle.stab_judge.specs.Judged.{SharperLawBelow};
 ghost use Rattle.stab_tree.specs.Nodes.{parent_at, root_of};
 ghost use Rattle.stab_treecore.specs.NodeLaws.{capacity_into, garbage_into};
@@ -100,7 +101,8 @@ impl<'a> Judge<'a> {
         requires known_parent { parent < length self.now.tree.parents }
         requires parent { parent_at self.now.tree.parents child ≡ Some parent }
         ensures none { IsNone result
-            ↔ (LinkObeys self.now report.now child parent × HandsOn report.now child parent) }
+            ↔ (LinkObeys self.now report.now child parent
+            × HandsOn report.now child parent (received_at report.now parent)) }
         ensures broken { IfSome result (IsBroken self.now report.now) }
         ensures whole { IfSome result (AreWholeBefore self.now report.now) }
         ensures there { IfSome result (λ broken. place_of self.now broken ≡ child) }

@@ -2,8 +2,9 @@
 //! law.
 
 ghost use Rattle.std.specs.Prelude.{◌≡◌, ◌<◌, ℕ, List, Some, length};
-ghost use Rattle.stab_judge.specs.Obeys.{HandsOn, IsFirstBroken, LinkObeys, NodeObeys};
+ghost use Rattle.stab_judge.specs.Obeys.{IsFirstBroken, LinkObeys, NodeObeys};
 ghost use Rattle.stab_judge.specs.Obeys.{Obeys, RootObeys};
+ghost use Rattle.stab_report.specs.EndedNodes.{AllHandOn};
 ghost use Rattle.stab_report.specs.Reports.{OnePerNode, ReportValue, acked_at, received_at};
 ghost use Rattle.stab_report.specs.Reports.{report_of};
 ghost use Rattle.stab_judge.specs.declared.broken.Broken.{Broken};
@@ -25,6 +26,7 @@ pub fn nodes_that_obey_are_enough()
         → Obeys net report }
 {
     stab_treecore::laws::tree_law_along_a_path();
+    stab_report::laws::nothing_is_missing_below_ended_nodes();
 }
 
 /// What a run says of a link, that some events explain what it did, is more than a judge asks: so a
@@ -41,11 +43,10 @@ pub fn explained_reports_obey()
         → RootObeys net report (root_of net.tree.parents)
         → ((child parent : ℕ) → parent_at net.tree.parents child ≡ Some parent
         → LinkObeys net report child parent)
-        → ((child parent : ℕ) → parent_at net.tree.parents child ≡ Some parent
-        → HandsOn report child parent)
+        → AllHandOn net.tree.parents report
         → Obeys net report }
 {
-    stab_core::laws::every_replay_obeys_the_sharper_link_law();
+    stab_report::laws::edges_obey_as_counted();
     nodes_that_obey_are_enough();
 }
 

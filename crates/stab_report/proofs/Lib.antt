@@ -3,3 +3,5 @@ pub mod Endings
 pub mod Nodes
 pub mod Schedules
 pub mod Reading
+pub mod BelowEnded
+pub mod Edges

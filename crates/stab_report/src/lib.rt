@@ -10,6 +10,9 @@
 //! reader refuses, and not for memory, is the text of no report. Readers of other texts use the
 //! pieces [`cut_line`], [`items_of`], [`count_of`] and [`see_same`], and know what the first three
 //! read of lines that are printed.
+//!
+//! A node that ended with its upstream handed on all that it had. So few published items are
+//! missing below such nodes: that is one of the [`laws`], for runs and judges alike.
 #![tactic(auto)]
 
 mod entries;

@@ -1,6 +1,7 @@
 -- What the workers left and what settling showed, joined: each link of the report is explained, by
 -- its own script.
-use Rattle.std.proofs.Common.{◌≡◌, inl, inr, ℕ, zero, suc, List, [], ◌∷◌, length, map, Option, Some, None, refl, ap, sym, ◌∙◌, subst, arith, All}
+use Rattle.std.proofs.Common.{◌≡◌, inl, inr, ℕ, zero, suc, true, false, List, [], ◌∷◌, get_or, length, map, Option, Some, None, refl, ap, sym, ◌∙◌, subst, arith, All}
+use Rattle.std.proofs.lemmas.Bool.{false≢true}
 use Rattle.std.proofs.lemmas.Option.{none-some, same_Some}
 use mathlib.Core.List.{IsPrefix}
 use Rattle.stab_core.specs.LinkSetup.{CanBegin, LinkSetup}
@@ -9,6 +10,8 @@ use Rattle.stab_acts.specs.Scripts.{Acts, receiver_half, sender_half}
 use Rattle.std.specs.List.{AllZip}
 use Rattle.stab_job.specs.JobValues.{JobValue, network}
 use Rattle.stab_node.specs.declared.account.Ended.{Ended}
+use Rattle.stab_node.specs.declared.account.Ended.TheVariants.{Turns, Upstream}
+use Rattle.stab_report.specs.EndedNodes.{AllHandOn}
 use Rattle.stab_tree.specs.Links.{links_from, links_of}
 use Rattle.stab_tree.specs.Nodes.{parent_at, root_of}
 use Rattle.stab_tree.specs.ByChild.{by_child}
@@ -24,8 +27,8 @@ use Rattle.stab_run.specs.ByScript.{AreByLockedScript, AreByScript}
 use Rattle.stab_run.specs.LinkKinds.{LinkKind, behind_lock, kind_for, two_words}
 use Rattle.stab_run.specs.Settled.{IsSettled, IsSettledByScript}
 use Rattle.stab_run.specs.LinkRuns.{AllOfEach, AreSettled, IsJobRun, acked_of}
-use Rattle.stab_run.specs.Reports.{OnePerNode, Reported, acked_at}
-use Rattle.stab_run.specs.Runs.{AreExplained, HandsOn, RootHas}
+use Rattle.stab_run.specs.Reports.{OnePerNode, Reported, acked_at, as_report, is_upstream}
+use Rattle.stab_run.specs.Runs.{AreExplained, RootHas}
 use Rattle.stab_run.specs.Scripted.{FollowPlans, IsLetThrough, LinkPlan, ScriptedRecvFinished, ScriptedSendFinished, ack_stores, frame_stores, plan}
 use Rattle.stab_run.specs.declared.any_link.AnyLink.{AnyLink}
 use Rattle.stab_run.specs.declared.any_link.AnyLink.TheVariants.{Lock, Word}
@@ -88,6 +91,13 @@ of_ends P sent delivered [] (send ∷ sends) recvs all = absurd all
 of_ends P sent delivered (link ∷ links) [] recvs all = absurd all
 of_ends P sent delivered (link ∷ links) (send ∷ sends) [] all = absurd all
 of_ends P sent delivered (link ∷ links) (send ∷ sends) (recv ∷ recvs) all = (all.0, of_ends P sent delivered links sends recvs all.1)
+
+-- a worker of which the report says that it ended with its upstream did so
+ended_there : (ended : List Ended) (node : ℕ) → get_or (map is_upstream ended) node false ≡ true → get_or ended node Turns ≡ Upstream
+ended_there [] node is = absurd (false≢true is)
+ended_there (Upstream ∷ ended) zero is = refl
+ended_there (Turns ∷ ended) zero is = absurd (false≢true is)
+ended_there (one ∷ ended) (suc node) is = ended_there ended node is
 
 -- the report of what the workers left
 abbrev pub report_of : List (Option ℕ) → List (List ℕ) → List Ended → List SenderAccount → List LinkKind → Reported
@@ -159,10 +169,11 @@ module _ (job : JobValue) (made : List AnyLink) (received : List (List ℕ)) (en
         }
 
     -- what a node received whose worker ended with its upstream is acknowledged
-    pub hands_on : HandsOn parents report
+    pub hands_on : AllHandOn parents (as_report report)
     hands_on child parent is_child over =
         let link = settled child parent is_child in
-        acked_into child link.send link.sent ∙ ap Some (left.run.handed_on child parent link.send is_child link.sent over).acked
+        acked_into child link.send link.sent
+        ∙ ap Some (left.run.handed_on child parent link.send is_child link.sent (ended_there ended parent over)).acked
 
 -- two words are no lock, so their ends followed what they have to follow
 words_followed : (link : AnyLink) (send : ScriptedSendFinished) (recv : ScriptedRecvFinished) → kind_of link ≡ two_words → IsFollowed link send recv

@@ -5,6 +5,5 @@ pub mod Reasons
 pub mod Unlawful
 pub mod Settlements
 pub mod Explained
-pub mod Complete
 pub mod Different
 pub mod InOrder

@@ -6,26 +6,25 @@
 -- explain it. If r ended as Upstream, `HandsOn` asks that 2 are acknowledged on the link into a,
 -- since r has two items; so here r ended as Turns.
 -- Source: this project's profile.
-use Rattle.std.specs.Prelude.{◌≡◌, ℕ, suc, ◌+◌, ◌*◌, ◌<◌, List, length, map, Option, Some, None}
+use Rattle.std.specs.Prelude.{◌≡◌, ℕ, ◌+◌, ◌*◌, ◌<◌, List, length, map, Option, Some, None}
 use Rattle.stab_core.specs.declared.start.StartFault.{StartFault}
 use Rattle.stab_core.specs.Link.{IsReason}
 use Rattle.stab_core.specs.LinkSetup.{CanBegin, LinkSetup}
 use Rattle.stab_core.specs.Replay.{IsLawful}
 use Rattle.stab_job.specs.JobValues.{JobValue, network}
-use Rattle.stab_node.specs.declared.account.Ended.{Ended}
-use Rattle.stab_node.specs.declared.account.Ended.TheVariants.{Upstream}
+use Rattle.stab_report.specs.EndedNodes.{AllHandOn, CompleteBelowEnded}
 use Rattle.stab_tree.specs.Nodes.{parent_at, root_of}
-use Rattle.stab_tree.specs.Steps.{ancestor, depth_of}
+use Rattle.stab_tree.specs.Steps.{depth_of}
 use Rattle.stab_treecore.specs.SharperLaw.{SharperTreeLawAtNodes}
 use Rattle.stab_treecore.specs.EdgeLaw.{EdgeInto}
 use Rattle.stab_treecore.specs.Network.{IsNetwork, Network}
 use Rattle.stab_treecore.specs.NodeLaws.{HalfTreeLawAtNodes, TreeLawAtNodes, held_bound}
-use Rattle.stab_treecore.specs.NodeLaws.{most_missing, most_strays, path_garbage}
-use Rattle.stab_treecore.specs.TreeLaw.{CompleteLaw, TreeLaw}
-use Rattle.stab_node.specs.ByNode.{ended_at, entry_into, received_at}
+use Rattle.stab_treecore.specs.NodeLaws.{path_garbage}
+use Rattle.stab_treecore.specs.TreeLaw.{TreeLaw}
+use Rattle.stab_node.specs.ByNode.{entry_into, received_at}
 use Rattle.stab_run.specs.ByScript.{AreByLockedScript, AreByScript}
 use Rattle.stab_run.specs.LinkKinds.{HaveOnePlace, kind_for}
-use Rattle.stab_run.specs.Reports.{OnePerNode, Reported, acked_at}
+use Rattle.stab_run.specs.Reports.{OnePerNode, Reported, acked_at, as_report}
 use Rattle.stab_run.specs.declared.links.Links.{Links}
 
 -- the root has the published items, and no link leads into it
@@ -47,27 +46,6 @@ AreExplained net r =
     (child parent : ℕ) → parent_at net.tree.parents child ≡ Some parent
     → IsExplained net r child parent
 
--- what a node received whose worker ended with its upstream is acknowledged on the link into each
--- child
-abbrev pub HandsOn : List (Option ℕ) → Reported → Type 0
-HandsOn parents r =
-    (child parent : ℕ) → parent_at parents child ≡ Some parent → ended_at r.ended parent ≡ Upstream
-    → acked_at r.acked child ≡ Some (length (received_at r.received parent))
-
--- the worker of each node above this one ended with its upstream
-abbrev pub AllAboveEnded : List (Option ℕ) → List Ended → ℕ → Type 0
-AllAboveEnded parents ended node =
-    (steps above : ℕ) → ancestor parents (suc steps) node ≡ Some above
-    → ended_at ended above ≡ Upstream
-
--- No published item is missing at such a node, except among as many of the first as 2c + 1 of each
--- link on its path adds up to.
-abbrev pub CompleteBelowEnded : Network → Reported → Type 0
-CompleteBelowEnded net r =
-    (node : ℕ) → node < length net.tree.parents → AllAboveEnded net.tree.parents r.ended node
-    → CompleteLaw (most_strays net node) (most_missing net node) (path_garbage net node)
-    net.published (received_at r.received node)
-
 -- the tree law at each node, where a node at depth d has at most d strays from its links, beside
 -- those of openings, and none is missing but among the first 3d
 abbrev pub TreeLawByDepth : Network → (ℕ → List ℕ) → Type 0
@@ -78,8 +56,8 @@ TreeLawByDepth net received =
 
 -- A report of a run of a job over these links. The root has the published items, some events
 -- explain each link, which was of the kind that the run has for its parameters, and they keep to
--- the script of the link; a node that ended with its upstream hands on what it
--- received; the half tree law, the tree law, the sharper one and, below such nodes, the complete
+-- the script of the link; a node that ended with its upstream hands on what it received; the half
+-- tree law, the tree law, the sharper one and, below nodes that all ended so, the sharper complete
 -- law hold. The job is a network, so every link could begin.
 pub record IsReport (links : Links) (job : JobValue) (report : Reported) : Type 0 where
   pub one_place : HaveOnePlace links job.params
@@ -89,11 +67,11 @@ pub record IsReport (links : Links) (job : JobValue) (report : Reported) : Type 
   pub kinds : report.kinds ≡ map (kind_for links) job.params
   pub scripts : AreByScript links job report
   pub locked_scripts : AreByLockedScript links job report
-  pub handed_on : HandsOn job.tree.parents report
+  pub handed_on : AllHandOn job.tree.parents (as_report report)
   pub half_tree_law : HalfTreeLawAtNodes (network job) (received_at report.received)
   pub tree_law : TreeLawAtNodes (network job) (received_at report.received)
   pub sharper_tree_law : SharperTreeLawAtNodes (network job) (received_at report.received)
-  pub complete : CompleteBelowEnded (network job) report
+  pub complete : CompleteBelowEnded (network job) (as_report report)
   pub network : IsNetwork (network job)
 
 -- This node is the first in file order into which a link leads that cannot begin from its start

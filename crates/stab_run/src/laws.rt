@@ -2,9 +2,9 @@
 //! of whatever ran the workers. Each is a function with an empty body; its contract is the law.
 
 ghost use Rattle.std.specs.Prelude.{◌≡◌, ℕ, All, List, Some};
-ghost use Rattle.stab_run.specs.Reports.{Reported};
-ghost use Rattle.stab_run.specs.Runs.{AreExplained, CompleteBelowEnded, HandsOn, RootHas};
-ghost use Rattle.stab_run.specs.Runs.{TreeLawByDepth};
+ghost use Rattle.stab_report.specs.EndedNodes.{AllHandOn, CompleteBelowEnded};
+ghost use Rattle.stab_run.specs.Reports.{Reported, as_report};
+ghost use Rattle.stab_run.specs.Runs.{AreExplained, RootHas, TreeLawByDepth};
 ghost use Rattle.stab_tree.specs.IsTree.{IsRooted};
 ghost use Rattle.stab_tree.specs.Nodes.{parent_at};
 ghost use Rattle.stab_treecore.specs.Network.{Network};
@@ -49,18 +49,16 @@ pub fn explained_links_obey_the_link_law()
 
 /// Where also what a node received whose worker ended with its upstream is acknowledged on the link
 /// into each child, no published item is missing below nodes that all ended so, except among the
-/// first M, where M is the sum of 2c + 1 over the links on a node's path to the root.
+/// first ones: as many as the sharper law has, which counts the strays that a node received.
 pub fn nothing_is_missing_below_ended_nodes()
     ensures { (net : Network) (report : Reported)
         → IsRooted net.tree.parents → FitTree net.tree.parents net.openings
-        → RootHas net report → AreExplained net report → HandsOn net.tree.parents report
-        → CompleteBelowEnded net report }
+        → RootHas net report → AreExplained net report
+        → AllHandOn net.tree.parents (as_report report)
+        → CompleteBelowEnded net (as_report report) }
 {
-    stab_core::laws::every_replay_obeys_the_link_law();
-    stab_treecore::laws::root_obeys_the_complete_law();
-    stab_treecore::laws::complete_law_of_the_child();
-    stab_treecore::laws::tree_law_past_an_opening();
-    stab_treecore::laws::laws_of_larger_bounds();
+    stab_report::laws::edges_obey_as_counted();
+    stab_report::laws::nothing_is_missing_below_ended_nodes();
 }
 
 /// Where each link has room for one entry, a node at depth d received at most d strays beside those

@@ -1,21 +1,11 @@
-use Rattle.std.proofs.Common.{◌≡◌, ◌∙◌, ℕ, zero, suc, true, false, List, [], ◌∷◌, get_or, map, refl}
-use Rattle.std.proofs.lemmas.Bool.{false≢true}
+use Rattle.std.proofs.Common.{◌∙◌}
 use Rattle.std.proofs.lemmas.List.{length-map}
 use Rattle.stab_judge.specs.Reports.{OnePerNode}
-use Rattle.stab_node.specs.declared.account.Ended.{Ended}
-use Rattle.stab_node.specs.declared.account.Ended.TheVariants.{Upstream, Turns}
 use Rattle.stab_run.specs.Reports.{Reported, as_report, is_upstream}
 use Rattle.stab_job.specs.JobValues.{JobValue, network}
 use Rattle.stab_run.specs.Runs.{IsReport}
 use Rattle.stab_run.specs.declared.links.Links.{Links}
 use Rattle.rignolda_commands.proofs.laws.runs_are_accepted.Goals as goal
-
--- a node of which the report says that it ended with its upstream is one
-ended_there : (ended : List Ended) (node : ℕ) → get_or (map is_upstream ended) node false ≡ true → get_or ended node Turns ≡ Upstream
-ended_there [] node is = absurd (false≢true is)
-ended_there (Upstream ∷ ended) zero is = refl
-ended_there (Turns ∷ ended) zero is = absurd (false≢true is)
-ended_there (one ∷ ended) (suc node) is = ended_there ended node is
 
 -- there is an entry for each node
 all_entries : (links : Links) (job : JobValue) (report : Reported) → IsReport links job report
@@ -34,7 +24,7 @@ returns-clause-obeys c links job report is =
     (record { published = is.root.received; uncounted = is.root.acked })
     (λ child parent is_child.
     laws.link net (as_report report) child parent (is.edges child parent is_child).edge (is.edges child parent is_child).counted)
-    (λ child parent is_child ended. is.handed_on child parent is_child (ended_there report.ended parent ended))
+    is.handed_on
 
 pub returns-clause-entries : goal.returns-clause-entries
 returns-clause-entries c links job report is = all_entries links job report is

@@ -2,4 +2,4 @@ use Rattle.stab_judge.proofs.Edges.{edge_obeys}
 use Rattle.stab_judge.proofs.laws.explained_reports_obey.Goals as goal
 
 pub returns-clause-link : goal.returns-clause-link
-returns-clause-link c = edge_obeys c.every_replay_obeys_the_sharper_link_law.ensures
+returns-clause-link c = edge_obeys c.edges_obey_as_counted.ensures

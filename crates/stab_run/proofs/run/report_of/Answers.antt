@@ -11,8 +11,9 @@ use Rattle.stab_run.specs.AnyLinks.{given_to, kind_of, received_by, sent_by}
 use Rattle.stab_run.specs.ByScript.{AreByLockedScript, AreByScript}
 use Rattle.stab_run.specs.LinkRuns.{AreSettled, acked_of}
 use Rattle.stab_run.specs.RunFaults.{IsSettlingReason}
-use Rattle.stab_run.specs.Reports.{OnePerNode, Reported}
-use Rattle.stab_run.specs.Runs.{AreExplained, HandsOn, RootHas}
+use Rattle.stab_report.specs.EndedNodes.{AllHandOn}
+use Rattle.stab_run.specs.Reports.{OnePerNode, Reported, as_report}
+use Rattle.stab_run.specs.Runs.{AreExplained, RootHas}
 use Rattle.stab_run.proofs.Begun.{as_many_links}
 use Rattle.stab_run.proofs.Explained.{one_per_node, root_has, are_explained, hands_on, are_by_script, are_by_locked_script}
 use Rattle.stab_run.proofs.run.report_of.Goals as goal
@@ -64,8 +65,8 @@ returns-clause-report c =
     let edges : AreExplained net report =
     subst (λ acked. AreExplained net (report_with acked)) counted
     (are_explained job made ran.received.items ran.ended.items ran.sends.items ran.recvs.items kinds c.requires.run one_each settled c.requires.lawful) in
-    let handed_on : HandsOn net.tree.parents report =
-    subst (λ acked. HandsOn net.tree.parents (report_with acked)) counted
+    let handed_on : AllHandOn net.tree.parents (as_report report) =
+    subst (λ acked. AllHandOn net.tree.parents (as_report (report_with acked))) counted
     (hands_on job made ran.received.items ran.ended.items ran.sends.items ran.recvs.items kinds c.requires.run one_each settled) in
     let as_many : length made ≡ length (links_of net.tree.parents) = as_many_links given_to made net.links c.requires.given ∙ one_each in
     let scripts : AreByScript c.args.which job report =
