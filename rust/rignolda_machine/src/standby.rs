@@ -329,7 +329,10 @@ impl<W> Standby<W> {
 
     fn stands_by(&mut self, found: String) -> Change {
         self.found = found;
-        self.begin(Job::StandBy);
+        // (who is being demoted would stand by again after a restart)
+        if self.asked.is_none() {
+            self.begin(Job::StandBy);
+        }
         self.is_below(Role::StandsBy)
     }
 
@@ -359,7 +362,12 @@ impl<W> Standby<W> {
                 return Some(self.is_root(rank, rank));
             }
             Done::Promoted(_, Err(why)) => Err(why),
-            Done::Demoted(said) => said.map_err(Refused::from),
+            Done::Demoted(said) => {
+                if said.is_err() && self.role == Role::StandsBy {
+                    self.begin(Job::StandBy);
+                }
+                said.map_err(Refused::from)
+            }
         };
         let is_demoted = said.is_ok();
         self.answer(said);

@@ -304,6 +304,32 @@ fn a_root_that_sees_one_of_a_higher_rank_twice_stands_by() {
     assert_eq!(lines(standby.facts()), ["root this is an agent as any other now"]);
 }
 
+/// Else it would stand by after a restart, though somebody said that it does not.
+#[test]
+fn a_root_that_is_demoted_while_it_sees_another_one_notes_nothing_beside_that() {
+    let now = rignoldad::system::time();
+    for is_demoted in [true, false] {
+        let mut standby = standby(Role::Root, Some(70), now);
+        let other = Way { cost: 0, names: vec!["first".into()] };
+        (0..2).for_each(|_| standby.looked(0, Some((&other, 51))));
+        standby.demote("who").unwrap();
+        assert_eq!(standby.tick(1, (&[], 0), 0, now), Some(Change::Below));
+        assert_eq!((standby.jobs(), standby.role()), (vec![standby::Job::Demote], Role::StandsBy));
+        let said = if is_demoted { Ok(()) } else { Err("no space".to_string()) };
+        assert_eq!(standby.done(standby::Done::Demoted(said.clone())), None);
+        // (where that failed, the disk has to know what it is)
+        let (role, jobs) = match is_demoted {
+            true => (Role::Below, vec![]),
+            false => (Role::StandsBy, vec![standby::Job::StandBy]),
+        };
+        assert_eq!((standby.role(), standby.jobs()), (role, jobs));
+        assert_eq!(
+            standby.answers(),
+            [("who", said.map(|()| String::new()).map_err(Refused::from))]
+        );
+    }
+}
+
 #[test]
 fn what_its_folder_says_at_a_start_is_said_once() {
     let fact = Some(Fact::Mark("/settings/.root".into(), "has no number"));
