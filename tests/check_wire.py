@@ -270,7 +270,8 @@ def compiled(room):
     at = "".join(f'#[path = "{MACHINE}/src/net/{it}.rs"]\npub mod {it};\n' for it in OF_NET)
     items = "".join(ITEMS.findall((MACHINE / "src/net.rs").read_text()))
     Path(room, "net.rs").write_text(
-        f"use crate::prelude::*;\n{at}pub use parents::Way;\npub use refusal::Refusal;\n{items}"
+        f"use crate::prelude::*;\n{at}pub use parents::{{ParentError, Way}};\n"
+        f"pub use refusal::Refusal;\n{items}"
         f'#[path = "{TOP}/tests/wire/compared.rs"]\npub mod compared;\n')
     Path(room, "main.rs").write_text(f"""#![allow(dead_code, unused_imports)]
 extern crate alloc;
